@@ -1,5 +1,5 @@
 -- What seats have before, while and after an event, and what a part under its lock has.
-use Rattle.std.specs.Prelude.{◌≡◌, ◌⊎◌, ℕ, Option, None, Some, Ok, List, [], ◌∷◌, ◌++◌, length}
+use Rattle.std.specs.Prelude.{◌≡◌, ◌⊎◌, ℕ, Bool, true, Option, None, Some, Ok, List, [], ◌∷◌, ◌++◌, length}
 use Rattle.hp_model.specs.declared.entry.Asked.{Asked}
 use Rattle.hp_model.specs.declared.entry.PoolEntry.{PoolEntry}
 use Rattle.hp_model.specs.declared.entry.PoolEntry.TheVariants.{OfPool, OfSlot}
@@ -92,10 +92,11 @@ over e r asked v = trail_next e r asked v ∷ receipts_next e r asked v ∷ []
 abbrev pub IsHeld : List Held → Type 0
 IsHeld v = IsFree v ⊎ IsBusy v
 
--- what a seat has that was free, once the event entered this section; or none
-abbrev pub IsEntered : List Held → Option Asked → List Held → Type 0
-IsEntered v None w = w ≡ v
-IsEntered v (Some a) w = (place : ℕ) × (w ≡ busy (placed place a) v ∷ [])
+-- what a seat has that was free, once the event entered this section; or none. Where trails are kept the section is told with its
+-- place in the pool's trail
+abbrev pub IsEntered : (kept : Bool) → List Held → Option Asked → List Held → Type 0
+IsEntered kept v None w = w ≡ v
+IsEntered kept v (Some a) w = (place : ℕ) × (kept ≡ true → a.place ≡ place) × (w ≡ busy (placed place a) v ∷ [])
 
 -- ---- events of the pool alone
 

@@ -23,7 +23,7 @@ use Rattle.hp_model.specs.pool.Pool.{granted_at, no_pages}
 use Rattle.hp_subpool.specs.Subpool.{Subpool}
 use Rattle.std.specs.Bool.{MatchBool}
 use Rattle.hp_trail.specs.Keeping.{has_room, one_less, with_entry}
-use Rattle.hp_locked.specs.Views.{IsFresh, Asks, HasEntered, HasPlaces, IsAnswered, CoreView, IsCore, IsGiven, IsPlace, IsPoolTrail, IsSeated, IsTrailOf}
+use Rattle.hp_locked.specs.Views.{DoorView, IsFresh, Asks, HasPlaces, IsAnswered, CoreView, IsCore, IsGiven, IsPlace, IsPoolTrail, IsSeated, IsTrailOf}
 use Rattle.atomic_table.specs.Seated.{TableId}
 use Rattle.hp_history.specs.declared.held.Held.{Held}
 use Rattle.hp_history.specs.declared.held.Held.TheVariants.{Pool as PoolPart}
@@ -201,17 +201,17 @@ module _ {X : Type 0} (E : X → Option (List PoolEntry)) (L : X → Option ℕ)
   keeps start (Some a) core moved stays ready law less n none =
       given_back start (E old) (E new) (L old) (L new) (R old) (R new) p (OfSlot a.section a.answer) q core n.3 n.5 n.6 (gave a moved n) ready law (less n.4)
   keeps start None core moved stays ready law less n none =
-      subst (λ (x : Pool). IsCore start (E new) (L new) (R new) x) (sym (stays none.1.0)) (subst (λ (x : X). IsCore start (E x) (L x) (R x) p) (sym none.0) core)
+      subst (λ (x : Pool). IsCore start (E new) (L new) (R new) x) (sym (stays none.1)) (subst (λ (x : X). IsCore start (E x) (L x) (R x) p) (sym none.0) core)
 
   is_given : (t : Option Asked) → q ≡ settled (released k (puts_from 0 puts p)) → (sum puts + k ≡ 0 → q ≡ p) → IfSome t (λ a. Noted puts k a) →
       IfNone t (Unnoted (sum puts + k)) → IsGiven puts k (view p old before) (view q new after) t
   is_given (Some a) moved stays n none = (record { changes = gave a moved n; run = ap pool_in n.7; entries = n.3; place = n.2 }, n.0, n.1, n.4)
-  is_given None moved stays n none = (ap (λ x. view x new after) (stays none.1.0) ∙ ap (λ x. view p x after) none.0 ∙ ap (view p old) none.1.1, none.1.0)
+  is_given None moved stays n none = (ap (λ x. view x new after) (stays none.1) ∙ ap (λ x. view p x after) none.0 ∙ ap (view p old) none.2, none.1)
 
   seats : (history : TableId) (start : Pool) (id id2 : TableId) (t : Option Asked) → IsSeated history start id before (E old) p → id2 ≡ history → q ≡ settled (released k (puts_from 0 puts p))
       → (sum puts + k ≡ 0 → q ≡ p) → IfSome t (λ a. Noted puts k a) → IfNone t (Unnoted (sum puts + k)) → IsSeated history start id2 after (E new) q
   seats history start id id2 (Some a) was named moved stays n none = seated_more history start id id2 before after (E old) (E new) p (OfSlot a.section a.answer) q was n.3 named n.7 (gave a moved n)
-  seats history start id id2 None was named moved stays n none = seated_stays history start id id2 before after (E old) (E new) p q was (ap E none.0) named none.1.1 (stays none.1.0)
+  seats history start id id2 None was named moved stays n none = seated_stays history start id id2 before after (E old) (E new) p q was (ap E none.0) named none.2 (stays none.1)
 
   module _ (counts : List ℕ) (m : ℕ) (same : counts ≡ puts) (falls : m ≡ k) (moved : q ≡ settled (released k (puts_from 0 puts p)))
       (stays : sum puts + k ≡ 0 → q ≡ p) (t : Option Asked) (n : IfSome t (λ a. Noted counts m a))
@@ -235,18 +235,18 @@ may_note start o l extra p q puts counts k m core same falls less some =
     has_place l extra (to_return p) core.places (omega (arith, few))
 
 -- what a door asked, as it is said of doors
-module _ {X : Type 0} (asked : X → Option Asked) (mine : X → List Held) (d e : X) (pages : List Page) (k : ℕ) (old new : CoreView) where
-  door_is : (t : Option Asked) → IsGiven (by_node pages) k old new t → asked e ≡ t → (t ≡ None → e ≡ d) → IsEntered (mine d) t (mine e)
-      → GivesBack (λ x s a y. Asks (asked y) s a × IsEntered (mine x) (asked y) (mine y)) pages k d e
+module _ {X : Type 0} (kept : Bool) (asked : X → Option Asked) (mine : X → List Held) (d e : X) (pages : List Page) (k : ℕ) (old new : CoreView) where
+  door_is : (t : Option Asked) → IsGiven (by_node pages) k old new t → asked e ≡ t → (t ≡ None → e ≡ d) → IsEntered kept (mine d) t (mine e)
+      → GivesBack (λ x s a y. Asks (asked y) s a × IsEntered kept (mine x) (asked y) (mine y)) pages k d e
   door_is None given is stays went = record { some = λ l. absurd (omega (arith, l, given.1)); none = λ z. stays refl }
   door_is (Some a) given is stays went = record {
-    some = λ l. subst (λ (o : Option Asked). Asks o (GiveBack (by_node pages) k) (granted_at 0) × IsEntered (mine d) o (mine e)) (sym is)
+    some = λ l. subst (λ (o : Option Asked). Asks o (GiveBack (by_node pages) k) (granted_at 0) × IsEntered kept (mine d) o (mine e)) (sym is)
         (asks_it a (GiveBack (by_node pages) k) (granted_at 0) given.1 given.2, went);
     none = λ z. absurd (let l = given.3 in omega (arith, l, z));
   }
 
   pub door_gives : (puts : List ℕ) (m : ℕ) (t : Option Asked) → puts ≡ by_node pages → m ≡ k → IsGiven puts m old new t → asked e ≡ t →
-      (t ≡ None → e ≡ d) → IsEntered (mine d) t (mine e) → GivesBack (λ x s a y. Asks (asked y) s a × IsEntered (mine x) (asked y) (mine y)) pages k d e
+      (t ≡ None → e ≡ d) → IsEntered kept (mine d) t (mine e) → GivesBack (λ x s a y. Asks (asked y) s a × IsEntered kept (mine x) (asked y) (mine y)) pages k d e
   door_gives puts m t same falls given = door_is t (subst (λ (x : List ℕ). IsGiven x k old new t) same (subst (λ (x : ℕ). IsGiven puts x old new t) falls given))
 
 -- an event leaves the pool ready
@@ -260,7 +260,11 @@ event_ready p q e r step ready is =
 pub set_ready : (p q : Pool) (n : ℕ) → q ≡ set_nr n p → IsReady p → IsSettled q → IsReady q
 set_ready p q n is ready = event_ready p q (Nr n) (Ok (Number (set_nr n p).nr)) (ap (λ (x : Pool). (Ok (Number (set_nr n p).nr), x)) (sym is)) ready
 
--- a seat that entered a section stands so
-pub entered_as : (place : ℕ) (t : Option Asked) (v w : List Held) → HasEntered place t v w → IsEntered v t w
-entered_as place None v w went = went
-entered_as place (Some a) v w went = (place, went)
+-- where the trail is kept, the place that is told of an entry is that in the history
+pub place_kept : (k : Bool) (o : Option (List PoolEntry)) (run : List PoolEntry) (place : ℕ) → is_some o ≡ k → IsTrailOf run o → ((es : List PoolEntry) → o ≡ Some es → place ≡ length es) → k ≡ true → place ≡ length run
+place_kept k None run place kept is at on = absurd (let no = kept in cc)
+place_kept k (Some es) run place kept is at on = at es refl ∙ ap length is
+
+-- what a door's seat had and has, by the door's view
+pub went_by : (kept : Bool) (v d : DoorView) (t : Option Asked) (w : List Held) → v ≡ d → IsEntered kept v.mine t w → IsEntered kept d.mine t w
+went_by kept v d t w is went = subst (λ (x : DoorView). IsEntered kept x.mine t w) is went

@@ -18,7 +18,7 @@ use Rattle.hp_mount_door.specs.Door.{IsReady}
 use Rattle.hp_subpool.specs.Subpool.{Subpool, rise, with_reserves}
 use Rattle.atomic_table.specs.Seated.{TableId}
 use Rattle.hp_history.specs.declared.held.Held.{Held}
-use Rattle.hp_history.specs.Sections.{busy, placed, pool_in, pool_view}
+use Rattle.hp_history.specs.Sections.{pool_in, pool_view}
 use Rattle.hp_trail.specs.Keeping.{with_entry}
 
 -- the frames of each node that a machine has: of its four names of nodes those with some
@@ -64,11 +64,6 @@ pub record IsSeated (history : TableId) (start : Pool) (id : TableId) (views : L
   pub run : IsPoolRun start (pool_in views) p
   pub kept : IsTrailOf (pool_in views) entries
 
--- a seat with a slot and a session is free; and once the section was entered, if it was, behind so many others, it is busy with it
-abbrev pub HasEntered : (place : ℕ) → Option Asked → List Held → List Held → Type 0
-HasEntered place None v w = w ≡ v
-HasEntered place (Some a) v w = w ≡ busy (placed place a) v ∷ []
-
 -- what is told of the place of an entry
 abbrev pub IsPlace : {E : Type 0} → Option (List E) → ℕ → Type 0
 IsPlace None n = n ≡ 0
@@ -96,6 +91,11 @@ abbrev pub IsGiven : (puts : List ℕ) → (commitments : ℕ) → (old new : Co
 IsGiven puts commitments old new None = (new ≡ old) × (sum puts + commitments ≡ 0)
 IsGiven puts commitments old new (Some a) =
     IsSection old new a × (a.section ≡ GiveBack puts commitments) × (a.answer ≡ granted_at 0) × (0 < sum puts + commitments)
+
+-- the section that an event entered, and what its seat has of the history
+pub record DoorView : Type 0 where
+  pub asked : Option Asked
+  pub mine : List Held
 
 -- this section, so answered, at some place
 abbrev pub Asks : Option Asked → Section → PoolAnswer → Type 0

@@ -1,5 +1,5 @@
 //! A session's door to the pool under its lock.
-ghost use Rattle.std.specs.Prelude.{◌≡◌, ◌<◌, ℕ, List, None, Option, Some, true, []};
+ghost use Rattle.std.specs.Prelude.{◌≡◌, ◌<◌, ℕ, Bool, List, None, Option, Some, true, []};
 ghost use Rattle.hp_history.specs.declared.held.Held.{Held};
 ghost use Rattle.hp_history.specs.Sections.{IsEntered, IsFree};
 ghost use Rattle.hp_model.specs.declared.entry.Asked.{Asked as AskedValue};
@@ -22,6 +22,7 @@ use hp_nodes::Page;
 use hp_store::{PageBatch, PageStore};
 use hp_subpool::Subpool;
 use hp_trail::trail::Trail;
+use std::marker::Model;
 use std::sync::{Mutex, Wait};
 
 /// The pool and the frames behind their locks, and the section that this event entered; and the seat that has its slot and its
@@ -38,9 +39,19 @@ pub struct Door<'a, N: Naming + Places, R: Wait, G: Gate, T: Trail<PoolEntry>> {
     history: &'a History<N>,
     mine: Token,
     asked: Option<Asked>,
-    ghost named: { mine.table_id ≡ N.history },
-    ghost alone: { mine.me.1 ≡ [] },
-    ghost free: { asked ≡ None → IsFree mine.me.0 },
+}
+
+impl<'a, N: Naming + Places, R: Wait, G: Gate, T: Trail<PoolEntry>> Model for Door<'a, N, R, G, T> {
+    ghost use Rattle.std.specs.Prelude.{◌≡◌, None, []};
+    ghost use Rattle.hp_history.specs.Sections.{IsFree};
+    ghost use Rattle.hp_locked.specs.Views.{DoorView};
+
+    ghost Value = { DoorView };
+
+    ghost view = { λ d. record { asked = d.asked; mine = d.mine.me.0 } };
+
+    ghost invariant = { λ d. (d.mine.table_id ≡ N.history) × (d.mine.me.1 ≡ [])
+        × (d.asked ≡ None → IsFree d.mine.me.0) };
 }
 
 impl<'a, N: Naming + Places, R: Wait, G: Gate, T: Trail<PoolEntry>> Door<'a, N, R, G, T> {
@@ -57,8 +68,7 @@ impl<'a, N: Naming + Places, R: Wait, G: Gate, T: Trail<PoolEntry>> Door<'a, N, 
         requires named { mine.table_id ≡ N.history }
         requires free { IsFree mine.me.0 }
         requires alone { mine.me.1 ≡ [] }
-        ensures asked { result.asked ≡ None }
-        ensures mine { result.mine.me ≡ mine.me }
+        ensures { result ≡ record { asked = None; mine = mine.me.0 } }
     {
         Door {
             rt,
@@ -75,7 +85,7 @@ impl<'a, N: Naming + Places, R: Wait, G: Gate, T: Trail<PoolEntry>> Door<'a, N, 
     #[inline(always)]
     pub fn into_mine(self) -> Token
         ensures named { result.table_id ≡ N.history }
-        ensures mine { result.me ≡ (self.mine.me.0, []) }
+        ensures mine { result.me ≡ (self.entry.mine, []) }
     {
         let Door { mine, .. } = self;
         mine
@@ -90,12 +100,15 @@ impl<'a, N: Naming + Places, R: Wait, G: Gate, T: Trail<PoolEntry>> Door<'a, N, 
         requires ready { self.old.asked ≡ None }
         requires bytes { 0 < page_bytes }
         ensures { IsOpenedAt (λ d s a e. Asks e.asked s a
-            × IsEntered d.mine.me.0 e.asked e.mine.me.0)
+            × IsEntered T.keeps d.mine e.asked e.mine)
             (λ d. (d.asked ≡ None) × (T.keeps ≡ true)) page_bytes options.now
             self.old self.new (shown (λ s. s) result) }
     {
         let mine = &mut self.mine;
-        let opened = self.core.lock(self.rt).open(self.history, mine, options, page_bytes);
+        let opened = self
+            .core
+            .lock(self.rt)
+            .open(self.history, mine, options, page_bytes);
         match opened {
             Err(_full) => Err(Refusal::TraceFull),
             Ok((share, asked)) => {
@@ -113,7 +126,8 @@ impl<'a, N: Naming + Places, R: Wait, G: Gate, T: Trail<PoolEntry>> Door<'a, N, 
     }
 }
 
-impl<'a, N: Naming + Places, R: Wait, G: Gate, T: Trail<PoolEntry>> PoolDoor for Door<'a, N, R, G, T> {
+impl<'a, N: Naming + Places, R: Wait, G: Gate, T: Trail<PoolEntry>> PoolDoor
+    for Door<'a, N, R, G, T> {
     type Share = Subpool<N>;
 
     type Page = Page<N>;
@@ -136,7 +150,7 @@ impl<'a, N: Naming + Places, R: Wait, G: Gate, T: Trail<PoolEntry>> PoolDoor for
 
     ghost is_ready = { λ d. d.asked ≡ None };
 
-    ghost took = { λ d s a e. Asks e.asked s a × IsEntered d.mine.me.0 e.asked e.mine.me.0 };
+    ghost took = { λ d s a e. Asks e.asked s a × IsEntered T.keeps d.mine e.asked e.mine };
 
     ghost is_full = { λ d. (d.asked ≡ None) × (T.keeps ≡ true) };
 
@@ -146,7 +160,11 @@ impl<'a, N: Naming + Places, R: Wait, G: Gate, T: Trail<PoolEntry>> PoolDoor for
 
     fn get(&mut self, share: &mut Subpool<N>, home: usize, k: u64) -> Result<(), Refusal> {
         let mine = &mut self.mine;
-        match self.core.lock(self.rt).get(self.history, mine, share, home, k) {
+        match self
+            .core
+            .lock(self.rt)
+            .get(self.history, mine, share, home, k)
+        {
             Err(_full) => Err(Refusal::TraceFull),
             Ok(None) => Ok(()),
             Ok(Some(asked)) => {
@@ -162,22 +180,31 @@ impl<'a, N: Naming + Places, R: Wait, G: Gate, T: Trail<PoolEntry>> PoolDoor for
 
     fn get_page(&mut self, share: &mut Subpool<N>, home: usize) -> Result<Page<N>, Refusal> {
         let mine = &mut self.mine;
-        let got = self.core.lock(self.rt).get_page(self.history, mine, share, home);
+        let got = self
+            .core
+            .lock(self.rt)
+            .get_page(self.history, mine, share, home);
         match got {
             Err(_full) => Err(Refusal::TraceFull),
-            Ok((claim, asked)) => {
-                self.asked = Some(asked);
-                match claim {
-                    Some(claim) => Ok(self.nodes.redeem(self.rt, self.gate, claim)),
-                    None => Err(Refusal::NoPages),
+            Ok((claim, asked)) => match claim {
+                None => {
+                    self.asked = Some(asked);
+                    Err(Refusal::NoPages)
                 }
-            }
+                Some(claim) => {
+                    self.asked = Some(asked);
+                    Ok(self.nodes.redeem(self.rt, self.gate, claim))
+                }
+            },
         }
     }
 
     fn take_page(&mut self, share: &mut Subpool<N>, home: usize) -> Result<Page<N>, Refusal> {
         let mine = &mut self.mine;
-        let got = self.core.lock(self.rt).take_page(self.history, mine, share, home);
+        let got = self
+            .core
+            .lock(self.rt)
+            .take_page(self.history, mine, share, home);
         match got {
             Err(_full) => Err(Refusal::TraceFull),
             Ok((claim, asked)) => {
@@ -195,19 +222,23 @@ impl<'a, N: Naming + Places, R: Wait, G: Gate, T: Trail<PoolEntry>> PoolDoor for
         batch: &mut PageBatch<N>,
     ) -> Result<(), Refusal> {
         let mine = &mut self.mine;
-        let got = self.core.lock(self.rt).fill(self.history, mine, share, k, count);
+        let got = self
+            .core
+            .lock(self.rt)
+            .fill(self.history, mine, share, k, count);
         match got {
             Err(_full) => Err(Refusal::TraceFull),
-            Ok((parcel, asked)) => {
-                self.asked = Some(asked);
-                match parcel {
-                    Some(parcel) => {
-                        self.nodes.add_pages(self.rt, self.gate, parcel, batch);
-                        Ok(())
-                    }
-                    None => Err(Refusal::NoPages),
+            Ok((parcel, asked)) => match parcel {
+                None => {
+                    self.asked = Some(asked);
+                    Err(Refusal::NoPages)
                 }
-            }
+                Some(parcel) => {
+                    self.asked = Some(asked);
+                    self.nodes.add_pages(self.rt, self.gate, parcel, batch);
+                    Ok(())
+                }
+            },
         }
     }
 
@@ -225,7 +256,10 @@ impl<'a, N: Naming + Places, R: Wait, G: Gate, T: Trail<PoolEntry>> PoolDoor for
         options: &[u8],
     ) -> Result<Option<u64>, Refusal> {
         let mine = &mut self.mine;
-        let set = self.core.lock(self.rt).limits(self.history, mine, share, page_bytes, options);
+        let set = self
+            .core
+            .lock(self.rt)
+            .limits(self.history, mine, share, page_bytes, options);
         match set {
             Err(_full) => Err(Refusal::TraceFull),
             Ok((files, asked)) => {
@@ -252,6 +286,9 @@ pub trait SessionDoor: PoolDoor {
     // what the seat has of the history
     ghost mine: { Self → List Held };
 
+    // whether trails are kept
+    ghost keeps: { Bool };
+
     /// The section that was entered.
     fn asked(&self) -> Option<Asked>
         ensures { result ≡ asked self.now };
@@ -269,13 +306,16 @@ pub trait SessionDoor: PoolDoor {
 
     // its seat is then busy with the section
     ghost tells: { (d : Self) (s : Section) (a : PoolAnswer) (e : Self) →
-        Self.PoolDoor.took d s a e → Asks (asked e) s a × IsEntered (mine d) (asked e) (mine e) };
+        Self.PoolDoor.took d s a e → Asks (asked e) s a × IsEntered keeps (mine d) (asked e) (mine e) };
 }
 
-impl<'a, N: Naming + Places, R: Wait, G: Gate, T: Trail<PoolEntry>> SessionDoor for Door<'a, N, R, G, T> {
+impl<'a, N: Naming + Places, R: Wait, G: Gate, T: Trail<PoolEntry>> SessionDoor
+    for Door<'a, N, R, G, T> {
     ghost asked = { λ d. d.asked };
 
-    ghost mine = { λ d. d.mine.me.0 };
+    ghost mine = { λ d. d.mine };
+
+    ghost keeps = { T.keeps };
 
     ghost begins = { λ d ready. ready };
 

@@ -1,13 +1,13 @@
 //! Entries of the pool's trail.
-ghost use Rattle.std.specs.Prelude.{◌≡◌, ◌∷◌, [], length, true, is_some, IfSome};
+ghost use Rattle.std.specs.Prelude.{◌≡◌, ◌∷◌, [], length, true, is_some, Some};
 ghost use Rattle.hp_history.specs.History.{IsSession};
-ghost use Rattle.hp_history.specs.Sections.{IsFree, busy, placed, pool_in, pool_next, pool_receipt, pool_view, pool_with, told_more};
+ghost use Rattle.hp_history.specs.Sections.{IsEntered, IsFree, pool_in, pool_next, pool_receipt, pool_view, pool_with, told_more};
 ghost use Rattle.hp_model.specs.declared.entry.Part.TheVariants.{Pool as AtPool};
 ghost use Rattle.hp_model.specs.declared.entry.PoolEntry.TheVariants.{OfPool, OfSlot};
 ghost use Rattle.hp_model.specs.declared.event.Event.TheVariants.{Pool as OnPool};
 ghost use Rattle.hp_trail.specs.Keeping.{has_room, one_less, with_entry};
 ghost use Rattle.hp_locked.specs.Told.{IsReceipt, pool_reply};
-ghost use Rattle.hp_locked.specs.Views.{IsPlace};
+ghost use Rattle.hp_locked.specs.Views.{IsPlace, IsTrailOf};
 
 use crate::pool_told::PoolTold;
 use atomic_table::Badge;
@@ -31,6 +31,7 @@ pub(crate) fn note<N: Places, T: Trail<PoolEntry>>(
     requires room { has_room true (T.left trail.old) (T.extra trail.old) ≡ true }
     requires pool { seat.old.table_id ≡ N.history }
     requires one { seat.old.views ≡ pool_view seat.old.views ∷ [] }
+    requires kept { IsTrailOf (pool_in seat.old.views) (T.entries trail.old) }
     requires named { mine.old.table_id ≡ N.history }
     requires free { IsFree mine.old.me.0 }
     requires alone { mine.old.me.1 ≡ [] }
@@ -44,8 +45,8 @@ pub(crate) fn note<N: Places, T: Trail<PoolEntry>>(
     ensures pool { seat.new.table_id ≡ N.history }
     ensures run { seat.new.views ≡ (pool_next result (pool_in seat.old.views) ∷ []) ∷ [] }
     ensures named { mine.new.table_id ≡ N.history }
-    ensures entered { mine.new.me
-        ≡ (busy (placed (length (pool_in seat.old.views)) result) mine.old.me.0 ∷ [], []) }
+    ensures entered { IsEntered T.keeps mine.old.me.0 (Some result) mine.new.me.0 }
+    ensures alone { mine.new.me.1 ≡ [] }
 {
     let place = trail.place();
     trail.push(PoolEntry::OfSlot { section, answer });
@@ -85,8 +86,11 @@ pub(crate) fn note_event<N: Places, T: Trail<PoolEntry>>(
     ensures run { seat.new.views
         ≡ (pool_with event (pool_reply told) (pool_in seat.old.views) ∷ []) ∷ [] }
     ensures named { mine.new.table_id ≡ N.history }
-    ensures told { mine.new.me ≡ (told_more mine.old.me.0
-        (pool_receipt event (pool_reply told) (length (pool_in seat.old.views))) ∷ [], []) }
+    ensures told { mine.new.me ≡ (
+      told_more mine.old.me.0
+          (pool_receipt event (pool_reply told) (length (pool_in seat.old.views))) ∷ [],
+      [],
+    ) }
 {
     let receipt = receipt_of(trail, event, told);
     trail.push(PoolEntry::OfPool {

@@ -131,8 +131,11 @@ impl<N: Naming + Places, T: Trail<PoolEntry>> Core<N, T> {
         ensures receipt { IfOk result (λ r. IsReceipt self.old.entries AtPool (OfPool event)
             (pool_reply r.0) r.1) }
         ensures given { IfOk result (λ r. is_some r.1 ≡ T.keeps) }
-        ensures told { IfOk result (λ r. mine.new.me ≡ (told_more mine.old.me.0
-            (pool_receipt event (pool_reply r.0) (length self.old.run)) ∷ [], [])) }
+        ensures told { IfOk result (λ r. mine.new.me ≡ (
+          told_more mine.old.me.0
+              (pool_receipt event (pool_reply r.0) (length self.old.run)) ∷ [],
+          [],
+        )) }
         ensures kept { IfOk result (λ r. IfSome r.1 (λ receipt.
             receipt ≡ pool_receipt event (pool_reply r.0) (length self.old.run))) }
         ensures limits { IfOk result (λ r. IsWithinLimits (pool_reply r.0)) }

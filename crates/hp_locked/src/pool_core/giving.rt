@@ -1,5 +1,5 @@
 //! What goes back to the pool, under its lock.
-ghost use Rattle.std.specs.Prelude.{◌∷◌, [], length, ◌≡◌, ◌+◌, ◌<◌, ◌≤◌, true, IfSome, IfNone};
+ghost use Rattle.std.specs.Prelude.{◌∷◌, [], ◌≡◌, ◌+◌, ◌<◌, ◌≤◌, true, IfSome, IfNone};
 ghost use Rattle.std.specs.List.{sum};
 ghost use Rattle.hp_model.specs.declared.entry.PoolEntry.TheVariants.{OfSlot};
 ghost use Rattle.hp_model.specs.declared.section.Section.TheVariants.{GiveBack};
@@ -8,8 +8,8 @@ ghost use Rattle.hp_model.specs.threads.Closing.{to_return};
 ghost use Rattle.hp_mount_door.specs.Door.{IsReady, with_less};
 ghost use Rattle.hp_subpool.specs.Subpool.{committed_of, fall};
 ghost use Rattle.hp_trail.specs.Keeping.{has_room, one_less, with_entry};
-ghost use Rattle.hp_history.specs.Sections.{IsFree, pool_in, pool_next, pool_view};
-ghost use Rattle.hp_locked.specs.Views.{HasEntered, IsGiven, IsPlace};
+ghost use Rattle.hp_history.specs.Sections.{IsEntered, IsFree, pool_in, pool_next, pool_view};
+ghost use Rattle.hp_locked.specs.Views.{IsGiven, IsPlace, IsTrailOf};
 
 use super::{Core, committed, granted};
 use crate::noting::note;
@@ -42,7 +42,7 @@ impl<N: Naming + Places, T: Trail<PoolEntry>> Core<N, T> {
         ensures given { IsGiven parcel (fall share.old (sum parcel + reserves)) self.old
             self.new result }
         ensures share { share.new ≡ with_less (sum parcel) reserves share.old }
-        ensures entered { HasEntered (length self.old.run) result mine.old.me.0 mine.new.me.0 }
+        ensures entered { IsEntered T.keeps mine.old.me.0 result mine.new.me.0 }
         ensures named { mine.new.table_id ≡ N.history }
         ensures alone { mine.new.me.1 ≡ [] }
     {
@@ -65,7 +65,7 @@ impl<N: Naming + Places, T: Trail<PoolEntry>> Core<N, T> {
         requires free { IsFree mine.old.me.0 }
         requires alone { mine.old.me.1 ≡ [] }
         ensures given { IsGiven parcel (committed_of share) self.old self.new result }
-        ensures entered { HasEntered (length self.old.run) result mine.old.me.0 mine.new.me.0 }
+        ensures entered { IsEntered T.keeps mine.old.me.0 result mine.new.me.0 }
         ensures named { mine.new.table_id ≡ N.history }
         ensures alone { mine.new.me.1 ≡ [] }
     {
@@ -89,6 +89,7 @@ fn given<N: Places, T: Trail<PoolEntry>>(
         → has_room true (T.left trail.old) (T.extra trail.old) ≡ true }
     requires pool { seat.old.table_id ≡ N.history }
     requires one { seat.old.views ≡ pool_view seat.old.views ∷ [] }
+    requires kept { IsTrailOf (pool_in seat.old.views) (T.entries trail.old) }
     requires named { mine.old.table_id ≡ N.history }
     requires free { IsFree mine.old.me.0 }
     requires alone { mine.old.me.1 ≡ [] }
@@ -102,8 +103,7 @@ fn given<N: Places, T: Trail<PoolEntry>>(
     ensures none { IfNone result ((trail.new ≡ trail.old) × (sum puts + pages ≡ 0)
         × (seat.new.views ≡ seat.old.views)) }
     ensures pool { seat.new.table_id ≡ N.history }
-    ensures entered { HasEntered (length (pool_in seat.old.views)) result mine.old.me.0
-        mine.new.me.0 }
+    ensures entered { IsEntered T.keeps mine.old.me.0 result mine.new.me.0 }
     ensures named { mine.new.table_id ≡ N.history }
     ensures alone { mine.new.me.1 ≡ [] }
 {

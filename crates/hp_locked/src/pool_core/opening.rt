@@ -1,13 +1,13 @@
 //! A mount's share and its limits, under the pool's lock.
-ghost use Rattle.std.specs.Prelude.{[], length, Some, ◌≡◌, ◌<◌, true, false, IfOk, OnErr};
+ghost use Rattle.std.specs.Prelude.{[], Some, ◌≡◌, ◌<◌, true, false, IfOk, OnErr};
 ghost use Rattle.hp_model.specs.pool.Pool.{section};
 ghost use Rattle.hp_model.specs.files.Options.{limits, wanted_of};
 ghost use Rattle.hp_mount_door.specs.Door.{IsReady};
 ghost use Rattle.hp_mount_door.specs.Limits.{IsLimitedBy};
 ghost use Rattle.hp_trail.specs.Keeping.{has_room};
 ghost use Rattle.hp_locked.specs.Opened.{IsShareOf};
-ghost use Rattle.hp_history.specs.Sections.{IsFree};
-ghost use Rattle.hp_locked.specs.Views.{HasEntered, IsSection};
+ghost use Rattle.hp_history.specs.Sections.{IsEntered, IsFree};
+ghost use Rattle.hp_locked.specs.Views.{IsSection};
 
 use super::{Core, Full};
 use crate::noting::note;
@@ -46,7 +46,7 @@ impl<N: Naming + Places, T: Trail<PoolEntry>> Core<N, T> {
         ensures keeps { OnErr result (T.keeps ≡ true) }
         ensures same { OnErr result (self.new ≡ self.old) }
         ensures entered { IfOk result (λ r.
-            HasEntered (length self.old.run) (Some r.1) mine.old.me.0 mine.new.me.0) }
+            IsEntered T.keeps mine.old.me.0 (Some r.1) mine.new.me.0) }
         ensures unheard { OnErr result (mine.new.me ≡ mine.old.me) }
         ensures named { mine.new.table_id ≡ N.history }
         ensures alone { mine.new.me.1 ≡ [] }
@@ -84,7 +84,7 @@ impl<N: Naming + Places, T: Trail<PoolEntry>> Core<N, T> {
         ensures same { OnErr result (self.new ≡ self.old) }
         ensures unchanged { OnErr result (share.new ≡ share.old) }
         ensures entered { IfOk result (λ r.
-            HasEntered (length self.old.run) (Some r.1) mine.old.me.0 mine.new.me.0) }
+            IsEntered T.keeps mine.old.me.0 (Some r.1) mine.new.me.0) }
         ensures unheard { OnErr result (mine.new.me ≡ mine.old.me) }
         ensures named { mine.new.table_id ≡ N.history }
         ensures alone { mine.new.me.1 ≡ [] }

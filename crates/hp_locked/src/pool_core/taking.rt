@@ -1,5 +1,5 @@
 //! Claims of pages and grants of reservations, under the pool's lock.
-ghost use Rattle.std.specs.Prelude.{[], length, Some, ◌≡◌, ◌+◌, ◌<◌, ◌≤◌, ◌^◌, true, false, IfOk, IfSome, IfNone, OnOk, OnErr};
+ghost use Rattle.std.specs.Prelude.{[], Some, ◌≡◌, ◌+◌, ◌<◌, ◌≤◌, ◌^◌, true, false, IfOk, IfSome, IfNone, OnOk, OnErr};
 ghost use Rattle.std.specs.List.{sum};
 ghost use Rattle.hp_model.specs.declared.section.Section.TheVariants.{TakePage};
 ghost use Rattle.hp_model.specs.pool.Pool.{filled_by, granted_at, no_pages, section};
@@ -7,8 +7,8 @@ ghost use Rattle.hp_mount_door.specs.Door.{IsReady, grant_for, page_for, with_gr
 ghost use Rattle.hp_mount_door.specs.Filling.{fill_for, with_filled};
 ghost use Rattle.hp_subpool.specs.Subpool.{is_full as ShareIsFull, rise, used};
 ghost use Rattle.hp_trail.specs.Keeping.{has_room};
-ghost use Rattle.hp_history.specs.Sections.{IsFree};
-ghost use Rattle.hp_locked.specs.Views.{HasEntered, IsAnswered, IsSection, IsUnasked};
+ghost use Rattle.hp_history.specs.Sections.{IsEntered, IsFree};
+ghost use Rattle.hp_locked.specs.Views.{IsAnswered, IsSection, IsUnasked};
 
 use super::{Core, Full, committed, granted, refused};
 use crate::noting::note;
@@ -46,7 +46,7 @@ impl<N: Naming + Places, T: Trail<PoolEntry>> Core<N, T> {
         ensures same { OnErr result (self.new ≡ self.old) }
         ensures unchanged { OnErr result (share.new ≡ share.old) }
         ensures entered { IfOk result (λ r.
-            HasEntered (length self.old.run) (Some r.1) mine.old.me.0 mine.new.me.0) }
+            IsEntered T.keeps mine.old.me.0 (Some r.1) mine.new.me.0) }
         ensures unheard { OnErr result (mine.new.me ≡ mine.old.me) }
         ensures named { mine.new.table_id ≡ N.history }
         ensures alone { mine.new.me.1 ≡ [] }
@@ -90,7 +90,7 @@ impl<N: Naming + Places, T: Trail<PoolEntry>> Core<N, T> {
         ensures same { OnErr result (self.new ≡ self.old) }
         ensures unchanged { OnErr result (share.new ≡ share.old) }
         ensures entered { IfOk result (λ r.
-            HasEntered (length self.old.run) r mine.old.me.0 mine.new.me.0) }
+            IsEntered T.keeps mine.old.me.0 r mine.new.me.0) }
         ensures unheard { OnErr result (mine.new.me ≡ mine.old.me) }
         ensures named { mine.new.table_id ≡ N.history }
         ensures alone { mine.new.me.1 ≡ [] }
@@ -139,7 +139,7 @@ impl<N: Naming + Places, T: Trail<PoolEntry>> Core<N, T> {
         ensures same { OnErr result (self.new ≡ self.old) }
         ensures unchanged { OnErr result (share.new ≡ share.old) }
         ensures entered { IfOk result (λ r.
-            HasEntered (length self.old.run) (Some r.1) mine.old.me.0 mine.new.me.0) }
+            IsEntered T.keeps mine.old.me.0 (Some r.1) mine.new.me.0) }
         ensures unheard { OnErr result (mine.new.me ≡ mine.old.me) }
         ensures named { mine.new.table_id ≡ N.history }
         ensures alone { mine.new.me.1 ≡ [] }
@@ -186,7 +186,7 @@ impl<N: Naming + Places, T: Trail<PoolEntry>> Core<N, T> {
         ensures same { OnErr result (self.new ≡ self.old) }
         ensures unchanged { OnErr result (share.new ≡ share.old) }
         ensures entered { IfOk result (λ r.
-            HasEntered (length self.old.run) (Some r.1) mine.old.me.0 mine.new.me.0) }
+            IsEntered T.keeps mine.old.me.0 (Some r.1) mine.new.me.0) }
         ensures unheard { OnErr result (mine.new.me ≡ mine.old.me) }
         ensures named { mine.new.table_id ≡ N.history }
         ensures alone { mine.new.me.1 ≡ [] }
