@@ -10,7 +10,7 @@ use Rattle.std.proofs.lemmas.List.FromFn.{length-range_with_len}
 use Rattle.std.proofs.lemmas.List.Sums.{count_by-le-length}
 use Rattle.std.proofs.lemmas.Nat.{and_le_r}
 use Rattle.std.proofs.lemmas.Nat.Bits.{bit_at-zero, bit_at_ones}
-use Rattle.hp_model.proofs.Counting.{count_split, count_outside, count_within, alike_in}
+use Rattle.hp_model.proofs.Counting.{count_split, count_outside, count_within, count_not, alike_in}
 use Rattle.hp_model.proofs.Ranges.{within-in, within-true, within-below, within-past}
 use Rattle.hp_model.specs.beside.Ranges.{within}
 use Rattle.hp_inode.specs.EntryBlock.{count_in, IsBlank, IsEntries, FindsWord}
@@ -184,6 +184,19 @@ module _ (words : List ℕ) (a b : ℕ) where
       let past : 64 * next + 64 ≡ 64 * (next + 1) = omega arith in
       let skipped = counted_blank (64 * at) (64 * next) (omega (arith, le)) (λ k low high below. blank k low high) in
       omega (arith, count_split ours 0 (64 * next) 64, ap (λ j. count_by ours (range_with_len 0 j)) past, ap (λ j. count_by ours (range_with_len j 64)) from, here, skipped)
+
+  -- those of full words are all
+  pub counted_full : (n m : ℕ) → n ≤ m → a ≤ n → (n < m → m ≤ b) → ((k : ℕ) → n ≤ k → k < m → marked words k ≡ true)
+      → count_by ours (range_with_len 0 m) ≡ count_by ours (range_with_len 0 n) + (m - n)
+  counted_full n m le low to full =
+      let range = range_with_len n (m - n) in
+      let none = count_outside (λ k. not (ours k)) n (m - n) (λ k from below.
+      ap not (same_inside k (omega (arith, low, from)) (omega (arith, below, le, to (omega (arith, from, below, le)))) ∙ full k from (omega (arith, below, le)))) in
+      let whole : n + (m - n) ≡ m = omega (arith, le) in
+      let from : n ≡ 0 + n = omega arith in
+      let low_part = ap (λ j. count_by ours (range_with_len 0 j)) whole in
+      let high_part = ap (λ j. count_by ours (range_with_len j (m - n))) from in
+      omega (arith, count_split ours 0 n (m - n), low_part, high_part, none, count_not ours range, length-range_with_len n (m - n))
 
   -- with none left
   pub counted_end : (at end : ℕ) → end ≡ b / 64 + min 1 (b % 64) → IsBlank words (64 * at) (64 * end) → count_by ours (range_with_len 0 (64 * at)) ≡ count_in words a b

@@ -59,10 +59,10 @@ impl EntryBlock {
         let mut count = 0;
         let mut at = a / WORD;
         while let Some(next) = self.next_word(at, end) {
-            count += u64::from(
-                (self.words.as_slice()[next] & bits_within(next, a, b)).count_ones(),
-            );
-            at = next + 1;
+            let words = self.words.as_slice();
+            let here = u64::from((words[next] & bits_within(next, a, b)).count_ones());
+            at = full_to(words, next + 1, b / WORD);
+            count += here + 64 * (at - next - 1) as u64;
         }
         count
     }
@@ -215,6 +215,20 @@ impl EntryBlock {
     {
         first_within(self.marks.as_slice(), from, end)
     }
+}
+
+// Passes the full words from `from` on, up to `end` at most, and answers where they end.
+fn full_to(words: &[u64], from: usize, end: usize) -> usize
+    ensures from { from ≤ result }
+    ensures to { from < result → result ≤ end }
+    ensures full { (k : ℕ) → 64 * from ≤ k → k < 64 * result → marked words.now k ≡ true }
+{
+    let last = end.min(words.len());
+    let mut at = from;
+    while at < last && words[at] == u64::MAX {
+        at += 1;
+    }
+    at
 }
 
 // Clears the words from `from` up to `end`, and answers how many bits they had. Those with no mark are passed.

@@ -30,7 +30,7 @@ use std::time::{Clock, Duration};
 // 256 MiB, of pages as large as there are: to fill them takes a hundred times as long as to store into one.
 const PAGES: u64 = 128;
 
-const PAGE_BYTES: usize = 2_097_152;
+pub(crate) const PAGE_BYTES: usize = 2_097_152;
 
 const MOST_TURNS: u64 = 10_000;
 
@@ -48,6 +48,13 @@ impl Gate for Filling {
 }
 
 impl Filling {
+    pub(crate) fn new() -> Filling {
+        Filling {
+            drawn: AtomicU64::new(0),
+            filled: AtomicU64::new(0),
+        }
+    }
+
     // Waits until the pages are being drawn, but no longer than 10,000 turns of a millisecond.
     fn wait<R: Clock>(&self, rt: &R) {
         for _turn in 0..MOST_TURNS {
@@ -60,7 +67,7 @@ impl Filling {
 }
 
 // A file to be filled, and a map of a page on another slot.
-fn start<R: Abort, P: Parts>(rt: &R, session: &mut Session<P>) {
+pub(crate) fn start_filling<R: Abort, P: Parts>(rt: &R, session: &mut Session<P>) {
     let pages = PAGES + 1;
     same!(rt; call(session, &Step::Nr { pages }), Ok(Answer::Number(PAGES + 1)));
     same!(rt; call(session, &Step::Connect { task: 2, home: 0 }), Ok(Answer::Done));
@@ -123,7 +130,7 @@ fn stores<N: Naming + Noted, R: Wait + Abort + Clock, const K: usize>(
     (filled, session.finish())
 }
 
-fn beside<
+pub(crate) fn fills_beside<
     N: Naming + Noted + Send + Sync,
     R: Threads + Wait + Abort + Clock + Sync,
     const K: usize,
@@ -156,13 +163,10 @@ fn row<N: Naming + Noted + Send + Sync, R: Threads + Wait + Abort + Clock + Sync
     );
     let free = Free {};
     let mut first = opened(rt, alloc, &shared, &free, ROOM);
-    start(rt, &mut first);
+    start_filling(rt, &mut first);
     let told = first.finish();
-    let filling = Filling {
-        drawn: AtomicU64::new(0),
-        filled: AtomicU64::new(0),
-    };
-    let (one, (filled, two)) = beside(rt, alloc, &shared, &filling);
+    let filling = Filling::new();
+    let (one, (filled, two)) = fills_beside(rt, alloc, &shared, &filling);
     same!(rt; filled, 0);
     let mut all = Vec::with_capacity(alloc, 3).expect(rt, "memory");
     all.push_reserved(told);

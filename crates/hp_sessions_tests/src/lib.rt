@@ -10,6 +10,8 @@ mod full;
 #[cfg(test)]
 mod gates;
 #[cfg(test)]
+mod held;
+#[cfg(test)]
 mod many;
 #[cfg(test)]
 mod preallocating;

@@ -56,7 +56,7 @@ fn map_of(task: u64, name: &[u8]) -> Step<'_> {
     }
 }
 
-fn store_of(task: u64, bytes: &[u8]) -> Step<'_> {
+pub(crate) fn store_of(task: u64, bytes: &[u8]) -> Step<'_> {
     Step::Store {
         task,
         slot: task,
@@ -78,7 +78,7 @@ pub(crate) fn counts<P: Parts>(session: &mut Session<P>) -> Option<[u64; 4]> {
 }
 
 // Two tasks, each with a slot of its own and a map of a page there.
-fn start<R: Abort, P: Parts>(rt: &R, session: &mut Session<P>) {
+pub(crate) fn start<R: Abort, P: Parts>(rt: &R, session: &mut Session<P>) {
     same!(rt; call(session, &Step::Nr { pages: 4 }), Ok(Answer::Number(4)));
     for task in 1..3 {
         let home = task - 1;

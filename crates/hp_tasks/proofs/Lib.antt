@@ -1,2 +1,3 @@
+mod Ordered
 mod Slots
 mod Tasks

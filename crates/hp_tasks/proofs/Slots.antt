@@ -1,29 +1,28 @@
 -- Tasks in slots with gaps between them.
-use Rattle.std.proofs.Common.{◌≡◌, ◌≢◌, ⊎_elim, ℕ, zero, suc, ◌+◌, ◌-◌, ◌%◌, ◌<◌, ◌≤◌, ◌==◌, Bool, true, false, not, eqb-true, eq-eqb}
-use Rattle.std.proofs.Common.{Option, None, Some, IfSome, List, [], ◌∷◌, ◌++◌, length, get_or, set, cond, arith, refl, ap, sym, subst, ◌∙◌}
+use Rattle.std.proofs.Common.{◌≡◌, ℕ, zero, suc, ◌+◌, ◌≤◌, ◌==◌, Bool, true, false, not, eqb-true, eq-eqb}
+use Rattle.std.proofs.Common.{Option, None, Some, IfSome, List, [], ◌∷◌, ◌++◌, length, set, cond, arith, refl, ap, sym, ◌∙◌}
 use Rattle.std.specs.List.{count_by, filter, find, position, position_from}
 use Rattle.std.specs.Option.{is_some, option_map}
-use Rattle.std.proofs.lemmas.Bool.{false≢true, false_from_ne_true, cases_eq}
-use Rattle.std.proofs.lemmas.List.{get_or-set_same, get_or-set_other}
+use Rattle.std.proofs.lemmas.Bool.{false≢true, false_from_ne_true}
+use Rattle.std.specs.List.Sorted.{IsPermutation}
+use Rattle.std.proofs.lemmas.List.Sorted.{sum_by-IsPermutation}
 use Rattle.std.proofs.lemmas.List.Sums.{sum_by-append}
 use Rattle.std.proofs.lemmas.Iterator.Adapters.{position_from-zero}
 use Rattle.std.proofs.lemmas.List.Quantifiers.{position-Some}
 use Rattle.hp_laws.proofs.lists.AtMostOne.{bit}
 use Rattle.hp_model.proofs.Counting.{count_cons}
 use Rattle.hp_model.specs.machine.Table.{Table, home_of, removed}
-use Rattle.hp_tasks.specs.Table.{AreCounted, Slot, count_of_rest, has_task, slot_at, tasks_in, rest_by, rests}
+use Rattle.hp_tasks.specs.Table.{AreListed, Slot, has_task, slot_at, tasks_in}
 
 -- ---- a task that is not there
 
--- no task has its rest
-pub none_of_rest : (tasks : Table) (task : ℕ) → count_of_rest (rest_by task) tasks ≡ 0 → home_of tasks task ≡ None
-none_of_rest [] task none = refl
-none_of_rest (e ∷ tasks) task none =
-    let all = count_cons (λ (x : ℕ × ℕ). rest_by x.0 == rest_by task) e tasks in
-    elim (e.0 == task) as (λ b. (e.0 == task) ≡ b → option_map (λ (x : ℕ × ℕ). x.1) (cond b (Some e) (find (λ x. x.0 == task) tasks)) ≡ None) [
-      | true ↦ λ is. (let one = ap bit (eq-eqb (rest_by e.0) (rest_by task) (ap rest_by (eqb-true e.0 task is))) in absurd (omega (arith, all, one, none)))
-      | false ↦ λ is. none_of_rest tasks task (omega (arith, all, none))
-    ] refl
+-- none of the tasks is it
+none_of_count : (task : ℕ) (tasks : Table) → count_by (λ e. e.0 == task) tasks ≡ 0 → home_of tasks task ≡ None
+none_of_count task [] none = refl
+none_of_count task (e ∷ tasks) none =
+    let all = count_cons (λ (x : ℕ × ℕ). x.0 == task) e tasks in
+    let other = false_from_ne_true (e.0 == task) (λ t. (let one = ap bit t in absurd (omega (arith, all, one, none)))) in
+    ap (λ b. option_map (λ (x : ℕ × ℕ). x.1) (cond b (Some e) (find (λ (x : ℕ × ℕ). x.0 == task) tasks))) other ∙ none_of_count task tasks (omega (arith, all, none))
 
 -- no slot has it
 none_from : (slots : List Slot) (task at : ℕ) → position_from (has_task task) at slots ≡ None → home_of (tasks_in slots) task ≡ None
@@ -145,9 +144,6 @@ entry_at slots task at has = entry_in (slot_at slots at) task has
 
 -- ---- a task more, and one less
 
-apart : (a b : ℕ) → a ≢ b → (a == b) ≡ false
-apart a b other = false_from_ne_true (a == b) (λ t. other (eqb-true a b t))
-
 pub one_fewer : (slots : List Slot) (at : ℕ) (e : ℕ × ℕ) → slot_at slots at ≡ Some e → length (tasks_in slots) ≡ suc (length (tasks_in (set slots at None)))
 one_fewer [] at e here = cc
 one_fewer (None ∷ slots) zero e here = cc
@@ -155,41 +151,25 @@ one_fewer (None ∷ slots) (suc at) e here = one_fewer slots at e here
 one_fewer (Some x ∷ slots) zero e here = refl
 one_fewer (Some x ∷ slots) (suc at) e here = ap suc (one_fewer slots at e here)
 
-module _ (counts : List ℕ) (long : length counts ≡ rests) (slots : List Slot) (counted : AreCounted slots counts) (rest : ℕ) (below : rest < rests) where
-  module _ (at : ℕ) (e : ℕ × ℕ) (here : slot_at slots at ≡ Some e) (own : rest ≡ rest_by e.0) where
-    pub some_of_rest : 1 ≤ get_or counts rest 0
-    some_of_rest =
-        let one = ap bit (eq-eqb (rest_by e.0) rest (sym own)) in
-        omega (arith, counted rest below, counted_at (λ (x : ℕ × ℕ). rest_by x.0 == rest) slots at e here, one)
+module _ (slots : List Slot) (order : List ℕ) (listed : AreListed slots order) where
+  pub none_listed : (task : ℕ) → count_by (λ t. t == task) order ≡ 0 → home_of (tasks_in slots) task ≡ None
+  none_listed task none = none_of_count task (tasks_in slots) (omega (arith, listed task, none))
 
-    pub counted_less : AreCounted (set slots at None) (set counts rest (get_or counts rest 0 - 1))
-    counted_less r small = ⊎_elim
-        (λ (same : r ≡ rest).
-        let one = ap bit (eq-eqb (rest_by e.0) rest (sym own)) in
-        let all = counted_at (λ (x : ℕ × ℕ). rest_by x.0 == rest) slots at e here in
-        subst (λ k. get_or (set counts rest (get_or counts rest 0 - 1)) k 0 ≡ count_of_rest k (tasks_in (set slots at None))) (sym same)
-        (get_or-set_same counts rest (get_or counts rest 0 - 1) 0 (omega (arith, below, long)) ∙ omega (arith, counted rest below, all, one)))
-        (λ (other : r ≢ rest).
-        let none : bit (rest_by e.0 == r) ≡ 0 = ap bit (apart (rest_by e.0) r (λ same. other (sym same ∙ sym own))) in
-        let all = counted_at (λ (x : ℕ × ℕ). rest_by x.0 == r) slots at e here in
-        get_or-set_other counts rest r (get_or counts rest 0 - 1) 0 other ∙ omega (arith, counted r small, all, none))
-        (cases_eq r rest)
+  module _ (at : ℕ) (e : ℕ × ℕ) (here : slot_at slots at ≡ Some e) where
+    pub one_listed : 1 ≤ count_by (λ t. t == e.0) order
+    one_listed =
+        let one = ap bit (eq-eqb e.0 e.0 refl) in
+        omega (arith, listed e.0, counted_at (λ (x : ℕ × ℕ). x.0 == e.0) slots at e here, one)
+
+    pub listed_less : (left : List ℕ) → IsPermutation order (e.0 ∷ left) → AreListed (set slots at None) left
+    listed_less left same task =
+        let p = λ (t : ℕ). t == task in
+        omega (arith, listed task, counted_at (λ (x : ℕ × ℕ). x.0 == task) slots at e here, count_cons p e.0 left, sum_by-IsPermutation (λ (t : ℕ). cond (t == task) 1 0) order (e.0 ∷ left) same)
 
   -- one task more, behind the others
-  pub counted_more : (new : List Slot) (task home : ℕ) → rest ≡ rest_by task → tasks_in new ≡ tasks_in slots ++ (task, home) ∷ []
-      → AreCounted new (set counts rest (get_or counts rest 0 + 1))
-  counted_more new task home own is r small = ⊎_elim
-      (λ (same : r ≡ rest).
-      let one = ap bit (eq-eqb (rest_by task) rest (sym own)) in
-      subst (λ k. get_or (set counts rest (get_or counts rest 0 + 1)) k 0 ≡ count_of_rest k (tasks_in new)) (sym same)
-      (get_or-set_same counts rest (get_or counts rest 0 + 1) 0 (omega (arith, below, long)) ∙ omega (arith, counted rest below, both rest, one)))
-      (λ (other : r ≢ rest).
-      let none : bit (rest_by task == r) ≡ 0 = ap bit (apart (rest_by task) r (λ same. other (sym same ∙ sym own))) in
-      get_or-set_other counts rest r (get_or counts rest 0 + 1) 0 other ∙ omega (arith, counted r small, both r, none))
-      (cases_eq r rest)
-    where
-      both : (k : ℕ) → count_of_rest k (tasks_in new) ≡ count_of_rest k (tasks_in slots) + bit (rest_by task == k)
-      both k =
-          let all = ap (count_of_rest k) is ∙ sum_by-append (λ (x : ℕ × ℕ). cond (rest_by x.0 == k) 1 0) (tasks_in slots) ((task, home) ∷ []) in
-          let last = count_cons (λ (x : ℕ × ℕ). rest_by x.0 == k) (task, home) [] in
-          omega (arith, all, last)
+  pub listed_more : (new : List Slot) (task home : ℕ) (more : List ℕ) → tasks_in new ≡ tasks_in slots ++ (task, home) ∷ [] → IsPermutation (task ∷ order) more
+      → AreListed new more
+  listed_more new task home more is same t =
+      let all = ap (count_by (λ (x : ℕ × ℕ). x.0 == t)) is ∙ sum_by-append (λ (x : ℕ × ℕ). cond (x.0 == t) 1 0) (tasks_in slots) ((task, home) ∷ []) in
+      let last = count_cons (λ (x : ℕ × ℕ). x.0 == t) (task, home) [] in
+      omega (arith, listed t, all, last, count_cons (λ (x : ℕ). x == t) task order, sum_by-IsPermutation (λ (x : ℕ). cond (x == t) 1 0) (task ∷ order) more same)

@@ -1,6 +1,7 @@
 -- The task table as it is kept.
-use Rattle.std.specs.Prelude.{◌≡◌, ℕ, ◌*◌, ◌/◌, ◌^◌, ◌<◌, ◌≤◌, ◌==◌, ◌%◌, Bool, false, List, length, Option, None, Some}
+use Rattle.std.specs.Prelude.{◌≡◌, ℕ, ◌*◌, ◌<◌, ◌≤◌, ◌==◌, Bool, false, List, length, Option, None, Some}
 use Rattle.std.specs.List.{count_by, filter_map, slice_index_or}
+use Rattle.std.specs.List.Sorted.{IsNonDecreasing}
 use Rattle.hp_model.specs.machine.Table.{Table}
 use Rattle.hp_model.specs.Profile.{most_tasks}
 
@@ -27,21 +28,30 @@ has_task task (Some e) = e.0 == task
 abbrev pub rests : ℕ
 rests = 4 * most_tasks
 
--- the upper bits of a product, so that numbers with the same lower bits have different rests
-abbrev pub rest_by : ℕ → ℕ
-rest_by task = task * 11400714819323198485 % 2 ^ 64 / 2 ^ 50
+-- numbers that don't fall, with a place for each, in room for all tasks
+pub record IsOrder (tasks : List ℕ) (stands tasks_capacity stands_capacity : ℕ) : Type 0 where
+  pub rise : IsNonDecreasing tasks
+  pub each : stands ≡ length tasks
+  pub room : most_tasks ≤ tasks_capacity
+  pub stands_room : most_tasks ≤ stands_capacity
 
--- how many tasks have this rest
-abbrev pub count_of_rest : ℕ → Table → ℕ
-count_of_rest rest tasks = count_by (λ e. rest_by e.0 == rest) tasks
+pub record IsPlaceOf (tasks : List ℕ) (task at : ℕ) : Type 0 where
+  pub within : at < length tasks
+  pub there : slice_index_or tasks at 0 ≡ task
 
-abbrev pub AreCounted : List Slot → (counts : List ℕ) → Type 0
-AreCounted slots counts = (rest : ℕ) → rest < rests → slice_index_or counts rest 0 ≡ count_of_rest rest (tasks_in slots)
+-- no greater number stands before it, and no smaller one from it on
+pub record IsPlaceFor (tasks : List ℕ) (task at : ℕ) : Type 0 where
+  pub within : at ≤ length tasks
+  pub before : (k : ℕ) → k < at → slice_index_or tasks k 0 ≤ task
+  pub behind : (k : ℕ) → at ≤ k → k < length tasks → task ≤ slice_index_or tasks k 0
+
+-- the numbers are those of the tasks
+abbrev pub AreListed : List Slot → (order : List ℕ) → Type 0
+AreListed slots order = (task : ℕ) → count_by (λ t. t == task) order ≡ count_by (λ e. e.0 == task) (tasks_in slots)
 
 -- each task once, in room for twice as many slots as there may be tasks
-pub record IsTaskTable (slots : List Slot) (capacity total : ℕ) (counts : List ℕ) : Type 0 where
+pub record IsTaskTable (slots : List Slot) (capacity : ℕ) (order : List ℕ) : Type 0 where
   pub once : HasEachOnce (tasks_in slots)
   pub room : 2 * most_tasks ≤ capacity
-  pub count : total ≡ length (tasks_in slots)
-  pub long : length counts ≡ rests
-  pub counted : AreCounted slots counts
+  pub count : length order ≡ length (tasks_in slots)
+  pub listed : AreListed slots order

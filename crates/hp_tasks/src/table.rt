@@ -1,5 +1,6 @@
 //! A task table over a `Vec`.
 
+use crate::order::Order;
 use hp_model::profile::MOST_TASKS;
 use hp_model::refusal::Refusal;
 use std::alloc::{AllocError, Global};
@@ -18,14 +19,15 @@ type Slot = Option<(u64, u64)>;
 
 /// The tasks with their home nodes, in order of adding, each once. There is room for all of them.
 ///
-/// By the rest of a task's number it is noted where the task stood, which is looked at first and never trusted, and how many
-/// tasks there are with that rest. So a task is found, or known not to be there, without a walk, but for tasks of one rest.
+/// By the rest of a task's number it is noted where the task stood, which is looked at first and never trusted. Where another
+/// stands there, as numbers of one rest do, the order of all numbers tells whether the task is there, and where.
 #[derive(Drop)]
 pub struct TaskTable {
     slots: Vec<Slot>,
-    count: usize,
+    order: Order,
     places: Box<[u16; RESTS]>,
-    counts: Box<[u16; RESTS]>,
+    // where the tasks stand once the gaps are closed
+    moved: Box<[u16; MOST_SLOTS]>,
 }
 
 impl Model for TaskTable {
@@ -37,8 +39,7 @@ impl Model for TaskTable {
 
     ghost view = { λ a. tasks_in a.slots.items };
 
-    ghost invariant = { λ a. IsTaskTable a.slots.items (vec_capacity a.slots) a.count
-        a.counts.value };
+    ghost invariant = { λ a. IsTaskTable a.slots.items (vec_capacity a.slots) a.order };
 }
 
 ghost use Rattle.std.specs.Prelude.{◌≡◌, ◌≢◌, ◌<◌, ◌*◌, ◌%◌, ℕ, length, true, vec_capacity, [], IfOk, IfSome, Ok, Err, IsTrue, is_some, None, Some};
@@ -48,14 +49,23 @@ ghost use Rattle.hp_model.specs.declared.refusal.Refusal.TheVariants as Refusal;
 ghost use Rattle.hp_model.specs.beside.Accesses.{done_reply};
 ghost use Rattle.hp_model.specs.Profile.{most_tasks};
 ghost use Rattle.hp_model.specs.machine.Table.{home_of, added, removed, is_known, is_crowded, table_event};
-ghost use Rattle.hp_tasks.specs.Table.{AreCounted, has_task, slot_at, tasks_in, rest_by, rests};
+ghost use Rattle.hp_tasks.specs.Table.{AreListed, has_task, slot_at, tasks_in, rests};
 
 // Which number stands for a task's.
 fn rest_of(task: u64) -> usize
-    ensures rest { result ≡ rest_by task }
-    ensures below { result < rests }
+    ensures { result < rests }
 {
     (task.wrapping_mul(SPREAD) >> 50) as usize
+}
+
+fn stands_at(slots: &[Slot], task: u64, at: usize) -> bool
+    ensures stands { result ≡ has_task task (slot_at slots.now at) }
+    ensures within { IsTrue result → at < length slots.now }
+{
+    match slots.get(at) {
+        Some(Some(entry)) => entry.0 == task,
+        _ => false,
+    }
 }
 
 // Where a task stands, found by going over all slots.
@@ -68,48 +78,57 @@ fn place_among_all(slots: &[Slot], task: u64) -> Option<usize>
     })
 }
 
-// Where a task stands.
-fn place_in(
-    slots: &[Slot],
-    places: &[u16; RESTS],
-    counts: &[u16; RESTS],
-    task: u64,
-) -> Option<usize>
-    requires { AreCounted slots.now counts.now }
+// Where a task stands. What was noted is right, so that all slots are never gone over.
+fn place_in(slots: &[Slot], places: &[u16; RESTS], order: &Order, task: u64) -> Option<usize>
+    requires { AreListed slots.now order.now }
     ensures some { IfSome result (λ at. has_task task (slot_at slots.now at) ≡ true) }
     ensures below { IfSome result (λ at. at < length slots.now) }
     ensures none { result ≡ None → home_of (tasks_in slots.now) task ≡ None }
 {
-    let rest = rest_of(task);
-    let at = places[rest] as usize;
-    match slots.get(at) {
-        Some(Some(entry)) if entry.0 == task => Some(at),
-        _ if counts[rest] == 0 => None,
-        _ => place_among_all(slots, task),
+    let hint = places[rest_of(task)] as usize;
+    if stands_at(slots, task, hint) {
+        return Some(hint);
     }
+    let noted = order.stand(task)?;
+    if stands_at(slots, task, noted) {
+        return Some(noted);
+    }
+    place_among_all(slots, task)
 }
 
-// Notes where each task stands.
-fn note_all(places: &mut [u16; RESTS], slots: &[Slot]) {
+// Notes where each task stands, and where it is moved to once the gaps are closed.
+fn note_all(places: &mut [u16; RESTS], moved: &mut [u16; MOST_SLOTS], slots: &[Slot]) {
+    let mut next: u16 = 0;
     for (at, slot) in slots.iter().enumerate() {
         if let Some(entry) = slot {
-            places[rest_of(entry.0)] = (at % 65_536) as u16;
+            places[rest_of(entry.0)] = next;
+            if let Some(place) = moved.get_mut(at) {
+                *place = next;
+            }
+            next = next.wrapping_add(1);
         }
     }
 }
 
 // So that there is a slot for one task more. Where there is none, the gaps are closed.
-fn make_slot(slots: &mut Vec<Slot>, places: &mut [u16; RESTS])
+fn make_slot(
+    slots: &mut Vec<Slot>,
+    order: &mut Order,
+    places: &mut [u16; RESTS],
+    moved: &mut [u16; MOST_SLOTS],
+)
     requires few { length (tasks_in slots.old.items) < most_tasks }
     ensures tasks { tasks_in slots.new.items ≡ tasks_in slots.old.items }
     ensures room { length slots.new.items < 2 * most_tasks }
     ensures capacity { vec_capacity slots.new ≡ vec_capacity slots.old }
+    ensures order { order.new ≡ order.old }
 {
     if slots.len() < MOST_SLOTS {
         return;
     }
+    note_all(places, moved, slots);
+    order.move_to(&*moved);
     slots.retain(|slot| slot.is_some());
-    note_all(places, slots);
 }
 
 impl TaskTable {
@@ -119,9 +138,9 @@ impl TaskTable {
     {
         Ok(TaskTable {
             slots: Vec::with_capacity(alloc, MOST_SLOTS)?,
-            count: 0,
+            order: Order::new(alloc)?,
             places: Box::new(alloc, [0; RESTS])?,
-            counts: Box::new(alloc, [0; RESTS])?,
+            moved: Box::new(alloc, [0; MOST_SLOTS])?,
         })
     }
 
@@ -129,7 +148,7 @@ impl TaskTable {
     pub fn home(&self, task: u64) -> Option<u64>
         ensures { result ≡ home_of self.now task }
     {
-        let at = place_in(&self.slots, &self.places, &self.counts, task)?;
+        let at = place_in(&self.slots, &self.places, &self.order, task)?;
         match self.slots[at] {
             Some(entry) => Some(entry.1),
             None => None,
@@ -139,7 +158,7 @@ impl TaskTable {
     fn is_full(&self) -> bool
         ensures { result ≡ is_crowded self.now }
     {
-        self.count >= MOST_TASKS
+        self.order.len() >= MOST_TASKS
     }
 
     fn add(&mut self, task: u64, home: u64)
@@ -147,11 +166,15 @@ impl TaskTable {
         requires absent { home_of self.old task ≡ None }
         ensures { self.new ≡ added self.old task home }
     {
-        make_slot(&mut self.slots, &mut self.places);
-        let rest = rest_of(task);
-        self.places[rest] = (self.slots.len() % 65_536) as u16;
-        self.counts[rest] += 1;
-        self.count += 1;
+        make_slot(
+            &mut self.slots,
+            &mut self.order,
+            &mut self.places,
+            &mut self.moved,
+        );
+        let at = (self.slots.len() % 65_536) as u16;
+        self.places[rest_of(task)] = at;
+        self.order.add(task, at);
         self.slots.push_reserved(Some((task, home)));
     }
 
@@ -177,12 +200,11 @@ impl TaskTable {
     pub fn remove(&mut self, task: u64)
         ensures { self.new ≡ removed self.old task }
     {
-        let Some(at) = place_in(&self.slots, &self.places, &self.counts, task) else {
+        let Some(at) = place_in(&self.slots, &self.places, &self.order, task) else {
             return;
         };
         self.slots[at] = None;
-        self.counts[rest_of(task)] -= 1;
-        self.count -= 1;
+        self.order.remove(task);
     }
 
     /// Adds a task with its home, which is one of so many nodes. Refused as NoSuchNode, TaskExists or TooMany; then nothing

@@ -1,15 +1,12 @@
-use Rattle.std.proofs.Common.{ap, sym, ◌∙◌}
-use Rattle.hp_tasks.specs.Table.{count_of_rest, tasks_in}
-use Rattle.hp_tasks.proofs.Slots.{found_some, none_at, none_of_rest}
+use Rattle.hp_tasks.proofs.Slots.{found_some, none_at, none_listed}
+use Rattle.std.proofs.Common.{refl, sym, ◌∙◌}
 use Rattle.hp_tasks.proofs.table.place_in.Goals as goal
 
-pub returns-in_default-clause-none : goal.returns-in_default-clause-none
-returns-in_default-clause-none c is =
-    none_of_rest (tasks_in c.args.slots.now) c.args.task (ap (λ n. count_of_rest n (tasks_in c.args.slots.now)) (sym c.rest_of-rest.ensures.rest)
-    ∙ sym (c.requires c.rest_of-rest.result c.rest_of-rest.ensures.below) ∙ c.if-counts-rest-eq0.true)
+pub returns-in_err-noted-clause-none : goal.returns-in_err-noted-clause-none
+returns-in_err-noted-clause-none c is = none_listed c.args.slots.now c.args.order.now c.requires c.args.task (c.in_err-noted.ensures refl)
 
-pub returns-in_default-2-clause-some : goal.returns-in_default-2-clause-some
-returns-in_default-2-clause-some c = found_some c.args.slots.now c.args.task c.place_among_all.result c.place_among_all.ensures
+pub returns-clause-some : goal.returns-clause-some
+returns-clause-some c = found_some c.args.slots.now c.args.task c.place_among_all.result c.place_among_all.ensures
 
-pub returns-in_default-2-clause-none : goal.returns-in_default-2-clause-none
-returns-in_default-2-clause-none c is = none_at c.args.slots.now c.args.task (sym c.place_among_all.ensures ∙ is)
+pub returns-clause-none : goal.returns-clause-none
+returns-clause-none c is = none_at c.args.slots.now c.args.task (sym c.place_among_all.ensures ∙ is)

@@ -1,4 +1,4 @@
-use Rattle.std.proofs.Common.{◌≡◌, ◌∙◌}
+use Rattle.std.proofs.Common.{◌∙◌}
 use Rattle.hp_inode.proofs.CellFacts.{length-cells, paged_cells}
 use Rattle.hp_inode.proofs.indices.Indices.pages_in_word.Goals as goal
 

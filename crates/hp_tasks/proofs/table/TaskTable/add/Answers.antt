@@ -1,9 +1,11 @@
-use Rattle.std.proofs.Common.{◌≡◌, ◌+◌, ◌++◌, ◌∷◌, [], Some, None, length, get_or, ap, sym, subst, ◌∙◌, arith}
-use Rattle.std.proofs.lemmas.List.{length-append, length-set}
+use Rattle.std.proofs.Common.{◌≡◌, ℕ, List, ◌++◌, ◌∷◌, [], Some, None, length, ap, sym, subst, ◌∙◌, arith}
+use Rattle.std.specs.List.Sorted.{IsPermutation}
+use Rattle.std.proofs.lemmas.List.{length-append}
+use Rattle.std.proofs.lemmas.List.Sorted.{length_permutation}
 use Rattle.std.proofs.lemmas.List.Elements.{filter_map-append}
 use Rattle.hp_model.specs.machine.Table.{Table, added, home_of}
-use Rattle.hp_tasks.specs.Table.{AreCounted, HasEachOnce, Slot, tasks_in, rests}
-use Rattle.hp_tasks.proofs.Slots.{counted_more}
+use Rattle.hp_tasks.specs.Table.{HasEachOnce, Slot, tasks_in}
+use Rattle.hp_tasks.proofs.Slots.{listed_more}
 use Rattle.hp_tasks.proofs.Tasks.{once_added}
 use Rattle.hp_tasks.proofs.table.TaskTable.add.Goals as goal
 use Rattle.hp_tasks.proofs.table.TaskTable.add.Goals.{After-push_reserved}
@@ -20,16 +22,13 @@ module _ (c : After-push_reserved) where
 pub invariant_of-self : goal.invariant_of-self
 invariant_of-self c =
     let absent = subst (λ (t : Table). home_of t c.args.task ≡ None) (sym c.self.view_is) c.requires.absent in
-    let counts = c.deref_mut-3.result.now in
-    let long : length counts ≡ rests = ap length c.deref_mut-3.ensures.value ∙ c.self.invariant.long in
-    let counted = subst (AreCounted c.self.inside.slots.items) (sym c.deref_mut-3.ensures.value) c.self.invariant.counted in
+    let order = c.self.inside.order in
+    let same = subst (λ (xs : List ℕ). IsPermutation (c.args.task ∷ xs) c.add.new.self) c.make_slot.ensures.order c.add.ensures in
     record {
       once = subst HasEachOnce (sym (more c)) (once_added (tasks c) c.args.task c.args.home absent c.self.invariant.once);
       room = omega (arith, c.self.invariant.room, c.make_slot.ensures.capacity, c.push_reserved.ensures.capacity);
-      count = omega (arith, c.self.invariant.count, ap length (more c), length-append (tasks c) ((c.args.task, c.args.home) ∷ []));
-      long = length-set counts c.rest_of-rest.result (get_or counts c.rest_of-rest.result 0 + 1) ∙ long;
-      counted = counted_more counts long c.self.inside.slots.items counted c.rest_of-rest.result c.rest_of-rest.ensures.below
-          c.push_reserved.new.self.items c.args.task c.args.home c.rest_of-rest.ensures.rest (more c);
+      count = omega (arith, c.self.invariant.count, length_permutation (c.args.task ∷ order) c.add.new.self same, ap length (more c), length-append (tasks c) ((c.args.task, c.args.home) ∷ []));
+      listed = listed_more c.self.inside.slots.items order c.self.invariant.listed c.push_reserved.new.self.items c.args.task c.args.home c.add.new.self (more c) same;
     }
 
 pub returns : goal.returns
