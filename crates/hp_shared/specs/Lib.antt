@@ -1,3 +1,4 @@
+pub mod Kept
 pub mod Tables
 pub mod Slots
 pub mod SlotWork
