@@ -16,23 +16,22 @@ use Rattle.hp_history.specs.declared.law.Change.{Change}
 use Rattle.hp_history.specs.declared.law.Shape.{Shape}
 use Rattle.hp_history.specs.History.{IsChange, IsStep, Turns, Whole, number_in, receipts_in}
 use Rattle.hp_history.specs.Sections.{session_view}
-use Rattle.hp_locked.specs.Views.{HasPlaces, IsFresh}
+use Rattle.hp_locked.specs.Views.{HasPlaces, IsFresh, IsTrailOf}
 use Rattle.hp_trail.specs.Keeping.{has_room, one_less, with_entry}
-use Rattle.hp_shared.specs.Kept.{Agrees}
 use Rattle.hp_shared.specs.Tables.{IsLockedTable, IsNext, table_entry, table_item, table_over}
-use Rattle.hp_shared.proofs.Kept.{agrees_more}
+use Rattle.hp_shared.proofs.Kept.{kept_more}
 use Rattle.hp_shared.proofs.Places.{has_closing, places_after, room_closing}
 
 pub fresh_table : (nodes : ℕ) (o : Option (List TableEntry)) (left : Option ℕ) (extra : ℕ) (t : Table) → t ≡ [] → IsFresh o → most_tasks ≤ extra → IsLockedTable nodes [] o left extra t
 fresh_table nodes o left extra t is fresh enough = record {
-  run = sym is;
-  agrees = nothing o fresh;
+  ends = sym is;
+  kept = nothing o fresh;
   few = (let none = ap length is in omega (arith, none));
   enough = enough;
   places = room left (ap length is);
 }
   where
-    nothing : (o : Option (List TableEntry)) → IsFresh o → Agrees o []
+    nothing : (o : Option (List TableEntry)) → IsFresh o → IsTrailOf [] o
     nothing None fresh = tt
     nothing (Some es) fresh = fresh
 
@@ -64,8 +63,8 @@ module _ (nodes : ℕ) (es : List TableEntry) (o : Option (List TableEntry)) (le
       left2 ≡ one_less left → extra2 ≡ extra → (removes_task t e ≡ false → has_room false left extra ≡ true)
       → IsLockedTable nodes (es ++ table_entry e reply ∷ []) o2 left2 extra2 q
   table_noted o2 left2 extra2 noted lessens stays room = record {
-    run = table_push nodes [] es t (table_entry e reply) q was.run step;
-    agrees = subst (λ (x : Option (List TableEntry)). Agrees x (es ++ table_entry e reply ∷ [])) (sym noted) (agrees_more o es (table_entry e reply) was.agrees);
+    ends = table_push nodes [] es t (table_entry e reply) q was.ends step;
+    kept = subst (IsTrailOf (es ++ table_entry e reply ∷ [])) (sym noted) (kept_more o es (table_entry e reply) was.kept);
     few = keeps.enough;
     enough = (let enough = was.enough in omega (arith, enough, stays));
     places = subst (λ (x : Option ℕ). HasPlaces x (to_remove q)) (sym lessens) (places_after most_tasks (to_remove t) (to_remove q) extra (removes_task t e) left keeps was.enough was.places room);

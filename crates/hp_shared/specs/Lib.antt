@@ -1,5 +1,5 @@
-pub mod Kept
 pub mod Tables
 pub mod Slots
 pub mod SlotWork
 pub mod Sharing
+pub mod Seated

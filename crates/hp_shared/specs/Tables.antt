@@ -15,9 +15,8 @@ use Rattle.hp_history.specs.Sections.{told_more}
 use Rattle.hp_history.specs.declared.held.Held.{Held}
 use Rattle.hp_history.specs.declared.held.Held.TheVariants.{Tasks}
 use Rattle.hp_history.specs.declared.law.Change.{Change}
-use Rattle.hp_locked.specs.Views.{HasPlaces}
+use Rattle.hp_locked.specs.Views.{HasPlaces, IsTrailOf}
 use Rattle.hp_trail.specs.Keeping.{with_entry}
-use Rattle.hp_shared.specs.Kept.{Agrees}
 
 -- ---- the trail that the table's seat has
 
@@ -55,19 +54,19 @@ IsNext nodes es e r change =
 
 -- ---- the table under its lock
 
--- the tasks with their trail, which no memory holds; and the entries if they are kept, and the places left there
+-- the tasks, their trail as the history has it, and as it is kept, if it is, with the places left there
 pub record TableView : Type 0 where
   pub tasks : Table
-  pub trail : List TableEntry
+  pub run : List TableEntry
   pub entries : Option (List TableEntry)
   pub left : Option ℕ
   pub extra : ℕ
 
--- what holds of the table under its lock: from no task the trail is a run of the table that ends in these tasks; and a place is left
--- for the removal of each task
-pub record IsLockedTable (nodes : ℕ) (trail : List TableEntry) (entries : Option (List TableEntry)) (left : Option ℕ) (extra : ℕ) (t : Table) : Type 0 where
-  pub run : IsTableRun nodes [] trail t
-  pub agrees : Agrees entries trail
+-- what holds of the table under its lock: from no task its trail is a run of it that ends in these tasks; and a place is left for the
+-- removal of each task
+pub record IsLockedTable (nodes : ℕ) (run : List TableEntry) (entries : Option (List TableEntry)) (left : Option ℕ) (extra : ℕ) (t : Table) : Type 0 where
+  pub ends : IsTableRun nodes [] run t
+  pub kept : IsTrailOf run entries
   pub few : to_remove t ≤ most_tasks
   pub enough : most_tasks ≤ extra
   pub places : HasPlaces left (to_remove t)
@@ -75,5 +74,5 @@ pub record IsLockedTable (nodes : ℕ) (trail : List TableEntry) (entries : Opti
 -- an event changed the tasks, with this reply, and added its entry
 pub record IsTableEventDone (nodes : ℕ) (old new : TableView) (e : TableEvent) (reply : Reply) : Type 0 where
   pub changes : table_event nodes old.tasks e ≡ (reply, new.tasks)
-  pub trail : new.trail ≡ old.trail ++ table_entry e reply ∷ []
+  pub run : new.run ≡ old.run ++ table_entry e reply ∷ []
   pub entries : new.entries ≡ with_entry old.entries (table_entry e reply)

@@ -9,9 +9,8 @@ ghost use Rattle.hp_model.specs.threads.TableRun.{IsTableRun};
 ghost use Rattle.hp_history.specs.declared.held.Held.TheVariants.{Tasks};
 ghost use Rattle.hp_history.specs.History.{IsChange, IsSession};
 ghost use Rattle.hp_history.specs.Sections.{told_more};
-ghost use Rattle.hp_locked.specs.Views.{IsFresh, frames_list};
+ghost use Rattle.hp_locked.specs.Views.{IsFresh, IsTrailOf, frames_list};
 ghost use Rattle.hp_parts.specs.Replies.{table_reply};
-ghost use Rattle.hp_shared.specs.Kept.{Agrees};
 ghost use Rattle.hp_shared.specs.Tables.{IsNext, IsTableEventDone, table_in, table_receipt, table_view, table_with};
 ghost use Rattle.hp_trail.specs.Keeping.{has_room, one_less, with_entry};
 
@@ -28,10 +27,10 @@ use hp_trail::trail::Trail;
 use std::marker::{Brand, Model, PhantomData};
 use std::mem;
 
-/// The tasks with their trail, which no memory holds; its entries are kept as well where T keeps them.
+/// The tasks with their trail.
 ///
-/// Whenever its lock is free, the trail is a run of the table that ends in these tasks, and there is a place in it for the
-/// removal of each: so that is never refused.
+/// Whenever its lock is free, its trail in the history is a run of the table that ends in these tasks. Where the trail is kept,
+/// there is a place in it for the removal of each: so that is never refused.
 pub struct Table<N: Naming + Places, T: Trail<TableEntry>> {
     nodes: u64,
     tasks: TaskTable,
@@ -49,7 +48,7 @@ impl<N: Naming + Places, T: Trail<TableEntry>> Model for Table<N, T> {
 
     ghost view = { λ t. record {
       tasks = t.tasks;
-      trail = table_in t.seat.views;
+      run = table_in t.seat.views;
       entries = T.entries t.trail;
       left = T.left t.trail;
       extra = T.extra t.trail;
@@ -76,7 +75,7 @@ impl<N: Naming + Places, T: Trail<TableEntry>> Table<N, T> {
         requires first { seat.me ≡ (Tasks [] ∷ [], []) }
         ensures { result ≡ record {
           tasks = tasks;
-          trail = [];
+          run = [];
           entries = T.entries trail;
           left = T.left trail;
           extra = T.extra trail;
@@ -95,10 +94,10 @@ impl<N: Naming + Places, T: Trail<TableEntry>> Table<N, T> {
     pub fn into_parts(self) -> (TaskTable, T, Token)
         ensures tasks { result.0 ≡ self.tasks }
         ensures entries { T.entries result.1 ≡ self.entries }
-        ensures agrees { Agrees self.entries self.trail }
-        ensures run { IsTableRun (length (frames_list N.frames)) [] self.trail self.tasks }
+        ensures kept { IsTrailOf self.run self.entries }
+        ensures run { IsTableRun (length (frames_list N.frames)) [] self.run self.tasks }
         ensures named { result.2.table_id ≡ N.history }
-        ensures trail { result.2.me ≡ (Tasks self.trail ∷ [], []) }
+        ensures trail { result.2.me ≡ (Tasks self.run ∷ [], []) }
     {
         let Table {
             nodes: _,
@@ -126,11 +125,11 @@ impl<N: Naming + Places, T: Trail<TableEntry>> Table<N, T> {
             self.old self.new event (table_reply r.0)) }
         ensures told { IfOk result (λ r. mine.new.me ≡ (
           told_more mine.old.me.0
-              (table_receipt event (table_reply r.0) (length self.old.trail)) ∷ [],
+              (table_receipt event (table_reply r.0) (length self.old.run)) ∷ [],
           [],
         )) }
         ensures receipt { IfOk result (λ r. r.1 ≡ (if T.keeps
-            then Some (table_receipt event (table_reply r.0) (length self.old.trail))
+            then Some (table_receipt event (table_reply r.0) (length self.old.run))
             else None)) }
         ensures closing { removes_task self.old.tasks event ≡ true → IsOk result }
         ensures full { OnErr result (has_room false self.old.left self.old.extra ≡ false) }
@@ -272,7 +271,7 @@ fn note<T: Trail<TableEntry>>(trail: &mut T, event: TableEvent, told: TableTold)
         (record { event = event; reply = table_reply told }) }
     ensures left { T.left trail.new ≡ one_less (T.left trail.old) }
     ensures extra { T.extra trail.new ≡ T.extra trail.old }
-    ensures receipt { (es : List Entry) → Agrees (T.entries trail.old) es
+    ensures receipt { (es : List Entry) → IsTrailOf es (T.entries trail.old)
         → result ≡ (if T.keeps then Some (table_receipt event (table_reply told) (length es)) else None) }
 {
     let receipt = receipt_of(trail, event, told);
@@ -288,7 +287,7 @@ fn receipt_of<T: Trail<TableEntry>>(
     event: TableEvent,
     told: TableTold,
 ) -> Option<Receipt>
-    ensures { (es : List Entry) → Agrees (T.entries trail.now) es
+    ensures { (es : List Entry) → IsTrailOf es (T.entries trail.now)
         → result ≡ (if T.keeps then Some (table_receipt event (table_reply told) (length es)) else None) }
 {
     if !trail.is_kept() {
