@@ -1,7 +1,10 @@
+pub mod Kept
 pub mod Places
 pub mod TablesKept
 pub mod Acting
 pub mod SlotsKept
+pub mod Seats
+pub mod SeatedKept
 pub mod Unmounting
 pub mod Naming
 pub mod Opened

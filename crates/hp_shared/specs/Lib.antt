@@ -2,3 +2,4 @@ pub mod Tables
 pub mod Slots
 pub mod SlotWork
 pub mod Sharing
+pub mod Seated

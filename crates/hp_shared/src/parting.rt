@@ -4,8 +4,9 @@ ghost use Rattle.hp_model.specs.Profile.{most_slots};
 ghost use Rattle.hp_shared.specs.Sharing.{AreGathered};
 ghost use Rattle.hp_trail.specs.Walk.{lists};
 
-use crate::Slot;
+use crate::seated_slot::SeatedSlot;
 use crossbeam_utils::CachePadded;
+use hp_history::Places;
 use hp_model::entry::SlotEntry;
 use hp_model::naming::Naming;
 use hp_mount::Mount;
@@ -14,8 +15,8 @@ use std::sync::Mutex;
 
 // Takes the slots from under their locks: their mounts and their trails, for which there is room. Whether each has its place
 // as its number.
-pub(crate) fn take_slots<N: Naming, const K: usize>(
-    slots: Vec<CachePadded<Mutex<Slot<N, Trace<SlotEntry, K>>>>>,
+pub(crate) fn take_slots<N: Naming + Places, const K: usize>(
+    slots: Vec<CachePadded<Mutex<SeatedSlot<N, Trace<SlotEntry, K>>>>>,
     mounts: &mut Vec<Option<Mount<N>>>,
     trails: &mut Vec<Vec<SlotEntry>>,
 ) -> bool
@@ -31,7 +32,7 @@ pub(crate) fn take_slots<N: Naming, const K: usize>(
     let mut in_order = true;
     let mut rest = slots.into_iter();
     while let Some(slot) = rest.next() {
-        let (number, mount, trail) = slot.into_inner().into_inner().into_parts();
+        let (number, mount, trail, _seat) = slot.into_inner().into_inner().into_parts();
         in_order = in_order && number == mounts.len() as u64;
         mounts.push_reserved(mount);
         trails.push_reserved(trail.into_entries());
