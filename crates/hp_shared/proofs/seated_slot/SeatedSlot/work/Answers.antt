@@ -14,7 +14,7 @@ use Rattle.hp_shared.proofs.seated_slot.SeatedSlot.work.Goals as goal
 use Rattle.hp_shared.proofs.seated_slot.SeatedSlot.work.Goals.{After-leave}
 
 module _ (g : Over) (c : After-leave g) where
-  run : List SlotEntry
+  abbrev run : List SlotEntry
   run = run_in c.self.inside.seat.views
 
   at_door : c.door-door.result.mine ≡ held c.self.inside.slot.number run c.args.mine.me.0 None
