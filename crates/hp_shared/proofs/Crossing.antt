@@ -51,17 +51,17 @@ module _ (N : RattleType) (names : Ghosts N.Denot) (places : law.Ghosts N.Denot)
   opener_send : IsSend (Opener.the_row N places)
   opener_send = search (sendable, crosses, seat.the_send) depth 30
 
-  table_send : (T : RattleType) (keeps : trail.Ghosts T.Denot TableEntry) → IsSend T → IsSend (Table.the_row N T places names keeps)
-  table_send T keeps t = view_send (TableInside.the_row N T places names keeps) _ _ _ _ (declared_send (TableInside.the_type N T places names keeps)
+  table_send : (T : RattleType) (keeps : trail.Ghosts T.Denot TableEntry) → IsSend T → IsSend (Table.the_row N T names places keeps)
+  table_send T keeps t = view_send (TableInside.the_row N T names places keeps) _ _ _ _ (declared_send (TableInside.the_type N T names places keeps)
       (search sendable, (task_table_send, (search sendable depth 20, (search (sendable, badge.the_send) depth 20, (search sendable, tt))))))
 
-  core_send : (T : RattleType) (keeps : trail.Ghosts T.Denot PoolEntry) → IsSend T → IsSend (Core.the_row N T places names keeps)
+  core_send : (T : RattleType) (keeps : trail.Ghosts T.Denot PoolEntry) → IsSend T → IsSend (Core.the_row N T names places keeps)
   core_send T keeps t = search (sendable, pool_send, badge.the_send) depth 30
 
   slot_send : (T : RattleType) (keeps : trail.Ghosts T.Denot SlotEntry) → IsSend T → IsSend (Slot.the_row N T names keeps)
   slot_send T keeps t = search (sendable, mount_send) depth 30
 
-  seated_send : (T : RattleType) (keeps : trail.Ghosts T.Denot SlotEntry) → IsSend T → IsSend (SeatedSlot.the_row N T places names keeps)
+  seated_send : (T : RattleType) (keeps : trail.Ghosts T.Denot SlotEntry) → IsSend T → IsSend (SeatedSlot.the_row N T names places keeps)
   seated_send T keeps t = search (sendable, slot_send, badge.the_send) depth 30
 
   spare_send : IsSend (Spare.the_row N names)

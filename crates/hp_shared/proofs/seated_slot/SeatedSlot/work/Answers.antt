@@ -1,4 +1,4 @@
-use Rattle.std.proofs.Common.{◌≡◌, true, Bool, Option, None, List, [], ◌∷◌, sym, ap, ◌∙◌, subst}
+use Rattle.std.proofs.Common.{◌≡◌, true, Bool, None, List, [], ◌∷◌, sym, ap, ◌∙◌, subst}
 use Rattle.hp_history.specs.declared.held.Held.{Held}
 use Rattle.hp_history.specs.Sections.{IsEntered, free_slot, session_view}
 use Rattle.hp_model.specs.beside.Told.{told_reply}
