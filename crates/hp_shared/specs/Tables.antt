@@ -1,6 +1,5 @@
 -- What the task table under its lock is to a contract.
-use Rattle.std.specs.Prelude.{◌≡◌, ℕ, ◌≤◌, Option, None, Some, Ok, Err, List, [], ◌∷◌, ◌++◌, length}
-use Rattle.hp_model.specs.declared.answer.Answer.TheVariants as answer
+use Rattle.std.specs.Prelude.{◌≡◌, ℕ, ◌≤◌, Option, List, [], ◌∷◌, ◌++◌, length}
 use Rattle.hp_model.specs.declared.entry.Receipt.{Receipt}
 use Rattle.hp_model.specs.declared.entry.TableEntry.{TableEntry}
 use Rattle.hp_model.specs.declared.event.TableEvent.{TableEvent}

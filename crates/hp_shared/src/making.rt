@@ -101,7 +101,9 @@ pub(crate) fn first_mount<N: Naming>(alloc: Global, pool: &mut OwnPool<N>) -> Mo
 
 // A machine's history, the seats that have the table and the pool, the one that may open sessions, and the one that has the
 // slots.
-pub(crate) fn open_history<N: Naming + Places>(opened: Opened) -> (History<N>, Token, Token, Opener<N>, Token)
+pub(crate) fn open_history<N: Naming + Places>(
+    opened: Opened,
+) -> (History<N>, Token, Token, Opener<N>, Token)
     requires named { opened.table.shared.table_id ≡ N.history }
     requires shape { opened.shape ≡ N.shape }
     ensures table { result.1.table_id ≡ N.history }

@@ -198,7 +198,9 @@ impl<N: Naming + Places, T: Trail<SlotEntry>> SeatedSlot<N, T> {
         let told = slot.event_unnoted(&mut door, page_bytes, home, event, room);
         let entered = door.asked_section().is_some();
         let mut mine = door.into_mine();
-        *seat = ways.history.leave::<Brand, _>(&mut mine, (home, event, &told));
+        *seat = ways
+            .history
+            .leave::<Brand, _>(&mut mine, (home, event, &told));
         (mine, told, entered)
     }
 

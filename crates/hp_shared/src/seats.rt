@@ -49,8 +49,11 @@ pub(crate) fn leave<'a, N: Places>(
     ensures trail { result.views
         ≡ (slot_left (asked_event work.entry) (told_reply told.now) mine.old.me.0 ∷ []) ∷ [] }
     ensures named { mine.new.table_id ≡ N.history }
-    ensures told { mine.new.me ≡ (session_left (asked_event work.entry) (told_reply told.now)
-        mine.old.me.0 ∷ [], []) }
+    ensures told { mine.new.me ≡ (
+      session_left (asked_event work.entry) (told_reply told.now)
+          mine.old.me.0 ∷ [],
+      [],
+    ) }
 {
     if is_full(told) {
         return history.give_away(mine).into_badge();
