@@ -7,6 +7,7 @@ use hp_history::{History, Places, Token};
 use std::marker::PhantomData;
 
 // The seat that may open sessions.
+#[derive(Drop)]
 pub(crate) struct Opener<N: Places> {
     seat: Token,
     of: PhantomData<N>,
