@@ -22,7 +22,8 @@ pub struct Waiting<'a, N: Naming + Places, R: Wait, G: Gate, const K: usize> {
 }
 
 // Behind a reference, so that it is known that the machine lives as long as the session.
-impl<'a, N: Naming + Places, R: Wait, G: Gate, const K: usize> Host for &'a Waiting<'a, N, R, G, K> {
+impl<'a, N: Naming + Places, R: Wait, G: Gate, const K: usize> Host
+    for &'a Waiting<'a, N, R, G, K> {
     type Session = Session<Entrance<'a, N, R, G, K>>;
 
     /// The receipts, in order.
