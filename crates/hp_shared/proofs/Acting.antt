@@ -30,11 +30,11 @@ use Rattle.hp_parts.proofs.Came.{always_came}
 use Rattle.hp_shared.specs.Slots.{IsActedOr}
 
 -- a door that was not used has its seat as it was
-pub unused : {X : Type 0} (asked : X → Option Asked) (mine : X → List Held) (d : X) → asked d ≡ None → IsEntered (mine d) (asked d) (mine d)
-unused asked mine d none = subst (λ (a : Option Asked). IsEntered (mine d) a (mine d)) (sym none) refl
+pub unused : {X : Type 0} (keeps : Bool) (asked : X → Option Asked) (mine : X → List Held) (d : X) → asked d ≡ None → IsEntered keeps (mine d) (asked d) (mine d)
+unused keeps asked mine d none = subst (λ (a : Option Asked). IsEntered keeps (mine d) a (mine d)) (sym none) refl
 
-pub stayed : {X : Type 0} (asked : X → Option Asked) (mine : X → List Held) (d e : X) → asked d ≡ None → e ≡ d → IsEntered (mine d) (asked e) (mine e)
-stayed asked mine d e none is = subst (λ x. IsEntered (mine d) (asked x) (mine x)) (sym is) (unused asked mine d none)
+pub stayed : {X : Type 0} (keeps : Bool) (asked : X → Option Asked) (mine : X → List Held) (d e : X) → asked d ≡ None → e ≡ d → IsEntered keeps (mine d) (asked e) (mine e)
+stayed keeps asked mine d e none is = subst (λ x. IsEntered keeps (mine d) (asked x) (mine x)) (sym is) (unused keeps asked mine d none)
 
 -- a door that was not used tells what it was asked
 goes_on : {X : Type 0} (asked : X → Option Asked) (p : Plan) (old : Slot) (d : X) (reply : Reply) (new : Slot) (e : X) → asked d ≡ None →
@@ -44,16 +44,16 @@ goes_on asked (Ask sec f) old d reply new e none (a, took, gives) =
     subst (λ (x : Option Asked). Goes (Ask sec f) x old reply new) (sym took.1) (refl, gives)
 
 -- through any door that tells what it was asked, and how its seat went
-module _ {X : Type 0} (asked : X → Option Asked) (mine : X → List Held) (took : X → Section → PoolAnswer → X → Type 0) (full : X → Type 0)
-    (tells : (d : X) (s : Section) (a : PoolAnswer) (e : X) → took d s a e → Asks (asked e) s a × IsEntered (mine d) (asked e) (mine e)) where
-  pub plan_entered : (p : Plan) (old : Slot) (d : X) (reply : Reply) (new : Slot) (e : X) → asked d ≡ None → ThroughDoor took p old d reply new e → IsEntered (mine d) (asked e) (mine e)
-  plan_entered (Finish o) old d reply new e none t = stayed asked mine d e none t.1
+module _ {X : Type 0} (keeps : Bool) (asked : X → Option Asked) (mine : X → List Held) (took : X → Section → PoolAnswer → X → Type 0) (full : X → Type 0)
+    (tells : (d : X) (s : Section) (a : PoolAnswer) (e : X) → took d s a e → Asks (asked e) s a × IsEntered keeps (mine d) (asked e) (mine e)) where
+  pub plan_entered : (p : Plan) (old : Slot) (d : X) (reply : Reply) (new : Slot) (e : X) → asked d ≡ None → ThroughDoor took p old d reply new e → IsEntered keeps (mine d) (asked e) (mine e)
+  plan_entered (Finish o) old d reply new e none t = stayed keeps asked mine d e none t.1
   plan_entered (Ask sec f) old d reply new e none (a, t, gives) = (tells d (sec a.nr) a e t).1
 
   pub event_entered : (size k : ℕ) (old : Slot) (d : X) (ev : SlotEvent) (reply : Reply) (new : Slot) (e : X) → asked d ≡ None →
-      IsDone took full size k old d ev reply new e → IsEntered (mine d) (asked e) (mine e)
+      IsDone took full size k old d ev reply new e → IsEntered keeps (mine d) (asked e) (mine e)
   event_entered size k old d ev (Ok a) new e none t = plan_entered (slot_event size k t.0 old ev) old d (Ok a) new e none t.2
-  event_entered size k old d ev (Err r.TraceFull) new e none t = stayed asked mine d e none t.1.0
+  event_entered size k old d ev (Err r.TraceFull) new e none t = stayed keeps asked mine d e none t.1.0
   event_entered size k old d ev (Err other) new e none t = plan_entered (slot_event size k t.0 old ev) old d (Err other) new e none t.2
 
   tells_plan : (p : Plan) (old : Slot) (d : X) (reply : Reply) (new : Slot) (e : X) → ThroughDoor took p old d reply new e → ThroughDoor (λ d s a e. Asks (asked e) s a) p old d reply new e

@@ -3,7 +3,7 @@ pub mod Places
 pub mod TablesKept
 pub mod Acting
 pub mod SlotsKept
-pub mod Seats
+pub mod Parted
 pub mod SeatedKept
 pub mod Unmounting
 pub mod Naming

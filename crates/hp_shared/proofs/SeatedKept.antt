@@ -6,7 +6,7 @@ use Rattle.atomic_table.specs.Seated.{TableId}
 use Rattle.hp_history.specs.declared.held.Held.{Held}
 use Rattle.hp_history.specs.declared.held.Held.TheVariants.{Slot as SlotPart, Busy}
 use Rattle.hp_history.specs.History.{number_in, receipts_in}
-use Rattle.hp_history.specs.Sections.{IsEntered, IsFree, IsHeld, placed, session_view, slot_entry, told_more}
+use Rattle.hp_history.specs.Sections.{IsEntered, IsFree, IsHeld, asked_in, free_slot, placed, receipts_next, session_view, slot_entry, told_more, trail_next}
 use Rattle.hp_model.specs.declared.entry.Asked.{Asked}
 use Rattle.hp_model.specs.declared.entry.Part.TheVariants.{Slot as AtSlot}
 use Rattle.hp_model.specs.declared.entry.Receipt.{Receipt}
@@ -143,19 +143,22 @@ module _ (keeps : Bool) (full : Type 0) (size : ℕ) (s t : SlotView) (es : List
   was_done is = done_in (is_trace_full r) Full (IsSlotEventDone size s t e r asked receipt) is does
 
   stays : is_trace_full r ≡ true → w ≡ held s.number es v None
-  stays is = subst (λ (a : Option Asked). IsEntered keeps (held s.number es v None) a w) (was_full is).2.0 entered
+  stays is = subst (λ (a : Option Asked). IsEntered keeps (held s.number es v None) a w) (was_full is).2 entered
 
   pub full_free : is_trace_full r ≡ true → IsFree w
   full_free is = subst IsFree (sym (stays is)) refl
 
-  o : Option Asked
-  o = (seen keeps s.number es v w asked entered).0
+  there : (o : Option Asked) × IsSame keeps asked o × (w ≡ held s.number es v o)
+  there = seen keeps s.number es v w asked entered
+
+  abbrev o : Option Asked
+  o = there.0
 
   same : IsSame keeps asked o
-  same = (seen keeps s.number es v w asked entered).1
+  same = there.1
 
   is_w : w ≡ held s.number es v o
-  is_w = (seen keeps s.number es v w asked entered).2
+  is_w = there.2
 
   went : is_trace_full r ≡ false → Went size s.number s.mount e r o t.mount
   went is = went_same keeps size s.number s.mount e r asked o t.mount same (was_done is).changes
@@ -213,27 +216,48 @@ module _ (keeps : Bool) (full : Type 0) (size : ℕ) (s t : SlotView) (es : List
               given = receipt_given keeps s.number es s.entries e r receipt kept (was_done b).told (given b);
             })
 
+-- where the event was done
+
+pub slot_went : (e : SlotEvent) (r : Reply) (w : List Held) → is_trace_full r ≡ false → trail_next e r (asked_in w) w ≡ slot_left e r w
+slot_went e r w is = sym (ap (λ b. if b then free_slot w else trail_next e r (asked_in w) w) is)
+
+pub session_went : (e : SlotEvent) (r : Reply) (w : List Held) → is_trace_full r ≡ false → receipts_next e r (asked_in w) w ≡ session_left e r w
+session_went e r w is = sym (ap (λ b. if b then session_view w else receipts_next e r (asked_in w) w) is)
+
+pub seated_done : (full : Type 0) (keeps : Bool) (size : ℕ) (old new : SeatedView) (e : SlotEvent) (r : Reply) (was now : List Held) (receipt : Option Receipt) → is_trace_full r ≡ false
+    → IsSeatedEvent full keeps size old new e r was now receipt → IsSeatedDone keeps size old new e r was now receipt
+seated_done full keeps size old new e r was now receipt is does =
+    done_in (is_trace_full r)
+    ((new ≡ old) × (now ≡ was) × (receipt ≡ None)
+    × ((has_room false old.slot.left old.slot.extra ≡ false) ⊎ (full × MayEnter (λ c. slot_event size old.slot.number c old.slot.mount e) old.slot.mount)))
+    (IsSeatedDone keeps size old new e r was now receipt) is does
+
+pub never_true : (b : Bool) → (b ≡ true → ⊥) → b ≡ false
+never_true true never = absurd (never refl)
+never_true false never = refl
+
 -- ---- where a door had room
+
+abbrev Fulls : Type 0 → (size : ℕ) → SlotView → SlotView → SlotEvent → Option Asked → Option Receipt → Type 0
+Fulls X size s t e asked receipt =
+    (t ≡ s) × (receipt ≡ None) × (asked ≡ None) × ((has_room false s.left s.extra ≡ false) ⊎ (X × MayEnter (λ c. slot_event size s.number c s.mount e) s.mount))
+
+room_as : (A B M : Type 0) (x : Bool) → (A → B) → (x ≡ false) ⊎ (A × M) → (x ≡ false) ⊎ (B × M)
+room_as A B M x f (inl y) = inl y
+room_as A B M x f (inr y) = inr (f y.0, y.1)
 
 pub full_as : (A B : Type 0) → (A → B) → (size : ℕ) (s t : SlotView) (e : SlotEvent) (r : Reply) (asked : Option Asked) (receipt : Option Receipt) → IsSlotEvent A size s t e r asked receipt
     → IsSlotEvent B size s t e r asked receipt
 full_as A B f size s t e r asked receipt does = by (is_trace_full r) refl
   where
-    abbrev Full : Type 0 → Type 0
-    Full X = (t ≡ s) × (receipt ≡ None) × (asked ≡ None) × ((has_room false s.left s.extra ≡ false) ⊎ (X × MayEnter (λ c. slot_event size s.number c s.mount e) s.mount))
-
-    room : (has_room false s.left s.extra ≡ false) ⊎ (A × MayEnter (λ c. slot_event size s.number c s.mount e) s.mount) →
-        (has_room false s.left s.extra ≡ false) ⊎ (B × MayEnter (λ c. slot_event size s.number c s.mount e) s.mount)
-    room (inl x) = inl x
-    room (inr x) = inr (f x.0, x.1)
-
     by : (b : Bool) → is_trace_full r ≡ b → IsSlotEvent B size s t e r asked receipt
     by true b =
-        let was = full_in (is_trace_full r) (Full A) (IsSlotEventDone size s t e r asked receipt) b does in
-        full_put (is_trace_full r) (Full B) (IsSlotEventDone size s t e r asked receipt) b (was.0, was.1, was.2, room was.3)
+        let was = full_in (is_trace_full r) (Fulls A size s t e asked receipt) (IsSlotEventDone size s t e r asked receipt) b does in
+        full_put (is_trace_full r) (Fulls B size s t e asked receipt) (IsSlotEventDone size s t e r asked receipt) b
+        (was.0, was.1, was.2, room_as A B (MayEnter (λ c. slot_event size s.number c s.mount e) s.mount) (has_room false s.left s.extra) f was.3)
     by false b =
-        done_put (is_trace_full r) (Full B) (IsSlotEventDone size s t e r asked receipt) b
-        (done_in (is_trace_full r) (Full A) (IsSlotEventDone size s t e r asked receipt) b does)
+        done_put (is_trace_full r) (Fulls B size s t e asked receipt) (IsSlotEventDone size s t e r asked receipt) b
+        (done_in (is_trace_full r) (Fulls A size s t e asked receipt) (IsSlotEventDone size s t e r asked receipt) b does)
 
 pub work_full_as : (A B : Type 0) → (A → B) → (work : SlotWork) → full_for A work → full_for B work
 work_full_as A B f (w.Mount options) x = f x

@@ -51,12 +51,12 @@ free : (k : ℕ) (m : Mount) → (k == 0) ≡ false → has_maps m ≡ false →
 free k m e f =
     sym (ap (λ x. cond x (refuse r.Busy) (cond (has_maps m) (refuse r.Busy) (gives Done (Some m) None))) e ∙ ap (λ x. cond x (refuse r.Busy) (gives Done (Some m) None)) f)
 
-module _ {X : Type 0} (asked : X → Option Asked) (mine : X → List Held) (took : X → Section → PoolAnswer → X → Type 0) (full : X → Type 0)
-    (tells : (d : X) (s : Section) (a : PoolAnswer) (e : X) → took d s a e → Asks (asked e) s a × IsEntered (mine d) (asked e) (mine e)) (d e : X) (none : asked d ≡ None) where
+module _ {X : Type 0} (keeps : Bool) (asked : X → Option Asked) (mine : X → List Held) (took : X → Section → PoolAnswer → X → Type 0) (full : X → Type 0)
+    (tells : (d : X) (s : Section) (a : PoolAnswer) (e : X) → took d s a e → Asks (asked e) s a × IsEntered keeps (mine d) (asked e) (mine e)) (d e : X) (none : asked d ≡ None) where
   pub unmounted : (size k : ℕ) (m : Mount) → (k == 0) ≡ false → has_maps m ≡ false →
       ThroughDoor took (gives Done (Some m) None) (Some m) d (Ok Done) None e → Went size k (Some m) Umount (Ok Done) (asked e) None
   unmounted size k m other no_maps t =
-      acted_or asked mine took full tells size k (Some m) d Umount (Ok Done) None e none
+      acted_or keeps asked mine took full tells size k (Some m) d Umount (Ok Done) None e none
       (fresh_choice false (Some m), is_fresh false (Some m), subst (λ p. ThroughDoor took p (Some m) d (Ok Done) None e) (free k m other no_maps) t)
 
   -- ---- mount
@@ -109,9 +109,9 @@ module _ {X : Type 0} (asked : X → Option Asked) (mine : X → List Held) (too
   mounted size k text (Err r.TraceFull) o = (refl, ap asked o.0 ∙ none, o.1, (choice, is_fresh false None, tt))
   mounted size k text (Err other) o = mount_went size k text (Err other) o.0 o.1 o.2 o.3 o.4
 
-  pub open_entered : (size : ℕ) (text : List ℕ) (got : Result (Subpool × Limits) Refusal) → IsOpenedAt took full size text d e got → IsEntered (mine d) (asked e) (mine e)
+  pub open_entered : (size : ℕ) (text : List ℕ) (got : Result (Subpool × Limits) Refusal) → IsOpenedAt took full size text d e got → IsEntered keeps (mine d) (asked e) (mine e)
   open_entered size text (Ok got) o = (tells d o.1 o.2 e o.4).1
-  open_entered size text (Err r.TraceFull) o = stayed asked mine d e none o.0
+  open_entered size text (Err r.TraceFull) o = stayed keeps asked mine d e none o.0
   open_entered size text (Err other) o = (tells d o.1 o.2 e o.4).1
 
 pub taken : (full : Type 0) (size k : ℕ) (text : List ℕ) (m : Mount) (asked : Option Asked) → asked ≡ None → IsActedOr full size k (Some m) (Mounting text) (Err r.SlotTaken) asked (Some m)

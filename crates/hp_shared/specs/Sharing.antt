@@ -19,7 +19,7 @@ pub record SharedView : Type 0 where
   pub page_size : ℕ
   pub slots : ℕ
 
-pub record IsSharedMachine (keeps : Bool) (bytes : ℕ) (frames : ℕ → ℕ) (shape : Shape) (s : SharedView) : Type 0 where
+pub record IsSharedMachine (keeps : Bool) (bytes : ℕ) (frames : ℕ → ℕ) (sh : Shape) (s : SharedView) : Type 0 where
   pub size : s.page_size ≡ bytes
   pub some : 0 < s.page_size
   pub most : s.page_size ≤ most_page_bytes
@@ -28,7 +28,7 @@ pub record IsSharedMachine (keeps : Bool) (bytes : ℕ) (frames : ℕ → ℕ) (
   pub nodes : length (frames_list frames) ≤ 4
   pub small : All (λ f. f ≤ most_frames) (frames_list frames)
   -- the history has the machine's shape, and homes are looked up in its words where no entries are kept
-  pub shape : shape ≡ record { slots = s.slots; nodes = length (frames_list frames); looks = not keeps }
+  pub shape : sh ≡ record { slots = s.slots; nodes = length (frames_list frames); looks = not keeps }
 
 -- each slot's trail is a run of it, from its start to this mount
 pub record AreGathered (size : ℕ) (trails : List (List SlotEntry)) (mounts : List Slot) : Type 0 where

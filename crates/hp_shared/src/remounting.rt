@@ -37,7 +37,7 @@ pub(crate) fn remount<
     ensures done { IsActedOr (D.is_full door.new) page_bytes number mount.old
         (Remount options.now)
         (told_reply result) (D.asked door.new) mount.new }
-    ensures entered { IsEntered (D.mine door.old) (D.asked door.new) (D.mine door.new) }
+    ensures entered { IsEntered D.keeps (D.mine door.old) (D.asked door.new) (D.mine door.new) }
     ensures limits { IsWithinLimits (told_reply result) }
     ensures plain { reply_has_names (told_reply result) ≡ false }
 {

@@ -26,8 +26,7 @@ impl<'a, N: Naming + Places, R: Wait, G: Gate, P: Trail<PoolEntry>> Ways<'a, N, 
         requires named { mine.table_id ≡ N.history }
         requires free { IsFree mine.me.0 }
         requires alone { mine.me.1 ≡ [] }
-        ensures asked { result.asked ≡ None }
-        ensures mine { result.mine.me ≡ mine.me }
+        ensures { result ≡ record { asked = None; mine = mine.me.0 } }
     {
         Door::new(
             self.rt,

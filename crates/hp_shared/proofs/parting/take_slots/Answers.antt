@@ -22,9 +22,9 @@ loop-slot-preserved g c =
             | then-in_order w ↦
                 let here : c.into_parts-number.result.0 ≡ length c.loop-slot.mounts.items =
                 (let same = eqb-true c.into_parts-number.result.0 w.len.result (sym w.in_order-is ∙ order) in omega (arith, same, w.len.ensures, c.loop-slot.mounts.ok.0)) in
-                slot_gathered (g.row.K == 1) g.N.Naming.page_bytes c.into_inner-in-Some.result.number c.into_inner-in-Some.result.entries c.into_inner-in-Some.result.mount c.into_parts-number.result.1
+                slot_gathered (g.row.K == 1) g.N.Naming.page_bytes c.into_inner-in-Some.result.slot.number c.into_inner-in-Some.result.slot.entries c.into_inner-in-Some.result.slot.mount c.into_parts-number.result.1
                 c.into_parts-number.result.2 c.into_entries.result c.loop-slot.trails.items c.push_reserved-in-Some.new.self.items c.loop-slot.mounts.items
-                c.push_reserved.new.self.items keeps (was.runs keeps w.if-in_order.true) (sym parts.number ∙ here) parts.run parts.entries parts.mount c.into_entries.ensures
+                c.push_reserved.new.self.items keeps (was.runs keeps w.if-in_order.true) (sym parts.number ∙ here) parts.trail parts.entries parts.mount c.into_entries.ensures
                 noted.items mounted.items
             | else-in_order w ↦ absurd (false≢true (sym w.if-in_order.false ∙ (sym w.in_order-is ∙ order)))
           ];

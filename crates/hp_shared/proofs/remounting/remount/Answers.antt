@@ -29,7 +29,7 @@ pub returns-else-number-eq0-clause-done : goal.returns-else-number-eq0-clause-do
 returns-else-number-eq0-clause-done g c =
     subst (λ (s : Slot). IsActedOr (g.D.PoolDoor.is_full c.remount.new.door) c.args.page_bytes c.args.number s (Remount c.args.options.now)
     (told_reply c.done.result) (g.D.SessionDoor.asked c.remount.new.door) (Some c.remount.new.self)) (sym c.in-Some.is)
-    (acted_or g.D.SessionDoor.asked g.D.SessionDoor.mine g.D.PoolDoor.took g.D.PoolDoor.is_full g.met.D.SessionDoor.tells c.args.page_bytes c.args.number (Some c.in-Some.open)
+    (acted_or g.D.SessionDoor.keeps g.D.SessionDoor.asked g.D.SessionDoor.mine g.D.PoolDoor.took g.D.PoolDoor.is_full g.met.D.SessionDoor.tells c.args.page_bytes c.args.number (Some c.in-Some.open)
     c.args.door.now (Remount c.args.options.now) (told_reply c.done.result) (Some c.remount.new.self) c.remount.new.door
     (g.met.D.SessionDoor.begins c.args.door.now c.requires.ready)
     (subst (λ (r : Reply). IsDone g.D.PoolDoor.took g.D.PoolDoor.is_full c.args.page_bytes c.args.number (Some c.in-Some.open) c.args.door.now
@@ -37,13 +37,13 @@ returns-else-number-eq0-clause-done g c =
     (c.remount.ensures.done c.args.number (grind (arith, nat_tests, c.if-number-eq0.false)))))
 
 pub returns-in-None-clause-entered : goal.returns-in-None-clause-entered
-returns-in-None-clause-entered g c = unused g.D.SessionDoor.asked g.D.SessionDoor.mine c.args.door.now (g.met.D.SessionDoor.begins c.args.door.now c.requires.ready)
+returns-in-None-clause-entered g c = unused g.D.SessionDoor.keeps g.D.SessionDoor.asked g.D.SessionDoor.mine c.args.door.now (g.met.D.SessionDoor.begins c.args.door.now c.requires.ready)
 
 pub returns-then-number-eq0-clause-entered : goal.returns-then-number-eq0-clause-entered
-returns-then-number-eq0-clause-entered g c = unused g.D.SessionDoor.asked g.D.SessionDoor.mine c.args.door.now (g.met.D.SessionDoor.begins c.args.door.now c.requires.ready)
+returns-then-number-eq0-clause-entered g c = unused g.D.SessionDoor.keeps g.D.SessionDoor.asked g.D.SessionDoor.mine c.args.door.now (g.met.D.SessionDoor.begins c.args.door.now c.requires.ready)
 
 pub returns-else-number-eq0-clause-entered : goal.returns-else-number-eq0-clause-entered
 returns-else-number-eq0-clause-entered g c =
-    event_entered g.D.SessionDoor.asked g.D.SessionDoor.mine g.D.PoolDoor.took g.D.PoolDoor.is_full g.met.D.SessionDoor.tells c.args.page_bytes c.args.number (Some c.in-Some.open)
+    event_entered g.D.SessionDoor.keeps g.D.SessionDoor.asked g.D.SessionDoor.mine g.D.PoolDoor.took g.D.PoolDoor.is_full g.met.D.SessionDoor.tells c.args.page_bytes c.args.number (Some c.in-Some.open)
     c.args.door.now (Remount c.args.options.now) (done_reply c.remount.result) (Some c.remount.new.self) c.remount.new.door
     (g.met.D.SessionDoor.begins c.args.door.now c.requires.ready) (c.remount.ensures.done c.args.number (grind (arith, nat_tests, c.if-number-eq0.false)))

@@ -22,7 +22,7 @@ tell-requires-clause-next g c =
     let was = c.self.invariant.4 in (
       t.tasks,
       c.answered-told.new.tasks,
-      subst (λ n. IsTableRun n [] (table_in t.seat.views) t.tasks) c.self.invariant.1 was.run,
+      subst (λ n. IsTableRun n [] (table_in t.seat.views) t.tasks) c.self.invariant.1 was.ends,
       subst (λ n. table_event n t.tasks c.args.event ≡ (table_reply c.answered-told.result.0, c.answered-told.new.tasks)) c.self.invariant.1 c.answered-told.ensures.event,
       c.answered-told.ensures.change,
     )

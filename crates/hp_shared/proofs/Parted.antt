@@ -14,7 +14,7 @@ slots_apart q k below (es ∷ ess) = ((((λ same. absurd (omega (arith, same, be
 
 pub tasks_go : (sh : Shape) → CanGo (all_parts sh)
 tasks_go sh =
-    ((((λ same. absurd (omega (arith, same))), tt), tt), (((λ same. absurd (omega (arith, same))), tt), tt), slots_apart 0 0 (omega arith) (replicate sh.slots []))
+    ((((λ same. absurd (omega (arith, same))), tt), tt), ((((λ same. absurd (omega (arith, same))), tt), tt), slots_apart 0 0 (omega arith) (replicate sh.slots [])))
 
 pub pool_goes : (ess : List (List SlotEntry)) → CanGo (Pool [] ∷ Opener 0 ∷ slots_from 0 ess)
 pool_goes ess = ((((λ same. absurd (omega (arith, same))), tt), tt), slots_apart 1 0 (omega arith) ess)
@@ -35,3 +35,9 @@ module _ (k m n : ℕ) (v : List Held) (is : v ≡ slots_from k (replicate m [])
 
   pub slots_rest : rest_of_view v ≡ slots_from (k + 1) (replicate n [])
   slots_rest = ap rest_of_view some
+
+-- what is left of them in a seat
+pub slots_left : {X : Type 0} (now was : List Held × List X) (k m n j : ℕ) → now ≡ (rest_of_view was.0, was.1) → was ≡ (slots_from k (replicate m []), []) → m ≡ suc n → j ≡ k + 1
+    → now ≡ (slots_from j (replicate n []), [])
+slots_left now was k m n j view is more next =
+    view ∙ ((λ i. (slots_rest k m n was.0 (ap (λ x. x.0) is) more i, (is i).1)) ∙ ap (λ x. (slots_from x (replicate n []), [])) (sym next))
