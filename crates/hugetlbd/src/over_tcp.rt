@@ -132,7 +132,7 @@ fn serve_kept<
     requires shape { N.shape ≡ record {
       slots = machine.now.slots;
       nodes = length machine.now.frames.items;
-      looks = not (nat_lt 0 serving.room);
+      looks = serving.room == 0;
     } }
     ensures { IsServingEnded (choice_of machine.now) serving (W.contents output.old)
         (W.contents output.new) (E.is_sure faults.old) (E.contents faults.old)
@@ -195,7 +195,7 @@ fn serve_on<
     requires shape { N.shape ≡ record {
       slots = machine.now.slots;
       nodes = length machine.now.frames.items;
-      looks = not (nat_lt 0 serving.room);
+      looks = not (K == 1);
     } }
     ensures { IsServingEnded (choice_of machine.now) serving (W.contents output.old)
         (W.contents output.new) (E.is_sure faults.old) (E.contents faults.old)
