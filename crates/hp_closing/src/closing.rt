@@ -12,7 +12,7 @@ ghost use Rattle.hp_model.specs.machine.Ready.{IsReadyMachine, Machine};
 ghost use Rattle.hp_trail.specs.Audit.{IsJointList, IsUnjoined};
 ghost use Rattle.hp_trail.specs.Walk.{lists};
 
-use hp_homes::Noted;
+use hp_history::Places;
 use hp_model::answer::Counts;
 use hp_model::entry::Receipt;
 use hp_model::event::Event;
@@ -71,7 +71,7 @@ fn is_joined<const K: usize>(
 
 /// The machine by itself, with all that is on it, and the trails where K is 1. These are runs of its parts, from the
 /// start of the machine to where it is. Never refused; it takes no memory.
-pub fn into_system<N: Naming + Noted, const K: usize>(
+pub fn into_system<N: Naming + Places, const K: usize>(
     shared: Shared<N, K>,
 ) -> (System<N>, Option<Trails>)
     ensures ready { IsReadyPool result.0.pool }
@@ -104,7 +104,7 @@ pub fn into_system<N: Naming + Noted, const K: usize>(
 ///
 /// Where they were joined, all pages that were persistent are free again, and none is promised or surplus. Refused where
 /// the memory to join them is, and then the machine is closed as well.
-pub fn close<N: Naming + Noted, const K: usize>(
+pub fn close<N: Naming + Places, const K: usize>(
     alloc: Global,
     shared: Shared<N, K>,
     told: Vec<Vec<Receipt>>,

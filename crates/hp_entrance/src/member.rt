@@ -120,7 +120,7 @@ impl<N: Naming + Places, const K: usize> Member<N, K> {
     }
 
     /// An event of the task table under its lock: what it answers.
-    #[inline(always)]
+    #[inline(never)]
     pub fn table(
         &mut self,
         history: &History<N>,

@@ -7,7 +7,7 @@ ghost use Rattle.hp_serving.specs.Ended.{IsOfMachine};
 
 use crate::host::Waiting;
 use hp_closing::{close, into_system};
-use hp_homes::Noted;
+use hp_history::Places;
 use hp_locked::Gate;
 use hp_model::entry::Receipt;
 use hp_model::naming::Naming;
@@ -18,13 +18,13 @@ use std::alloc::{AllocError, Global};
 use std::sync::Wait;
 
 /// A machine that threads share, with who watches its locks, and the room of each of its sessions.
-pub struct Served<N: Naming + Noted, G: Gate + Drop, const K: usize> {
+pub struct Served<N: Naming + Places, G: Gate + Drop, const K: usize> {
     pub shared: Shared<N, K>,
     pub gate: G,
     pub room: usize,
 }
 
-impl<N: Naming + Noted, G: Gate + Drop, const K: usize> Machine for Served<N, G, K> {
+impl<N: Naming + Places, G: Gate + Drop, const K: usize> Machine for Served<N, G, K> {
     /// The receipts of a session, in order.
     type Told = Vec<Receipt>;
 

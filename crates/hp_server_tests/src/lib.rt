@@ -6,6 +6,8 @@ mod full;
 #[cfg(test)]
 mod gate;
 #[cfg(test)]
+mod histories;
+#[cfg(test)]
 mod lines;
 #[cfg(test)]
 mod over_tcp;

@@ -1,13 +1,13 @@
 //! Full trails, a full room, and what a session left to others.
-ghost use Rattle.std.specs.Prelude.{◌≡◌, ◌≤◌, ◌∷◌, []};
+ghost use Rattle.std.specs.Prelude.{◌≡◌, ◌≤◌, ◌∷◌, [], false};
 ghost use Rattle.hp_nodes.specs.Ledgers.{AreFrames};
 ghost use Rattle.hp_pool.specs.Ledgers.{AreLedgers};
 
 use crate::gates::Free;
-use crate::rows::{call, counts, opened};
+use crate::rows::{call, counts, history_of, opened};
 use crate::same::same;
 use hp_closing::{audit, into_system};
-use hp_homes::{Blank, Noted};
+use hp_history::{Opened, Places};
 use hp_model::answer::{Answer, Reply};
 use hp_model::entry::Receipt;
 use hp_model::lent::Lent;
@@ -28,7 +28,7 @@ fn connect<P: Parts>(session: &mut Session<P>, task: u64) -> Reply {
 }
 
 // What these sessions were told, and the trails, are one run: of how many events, and how many entries the task table has.
-fn joined<N: Naming + Noted, R: Abort>(
+fn joined<N: Naming + Places, R: Abort>(
     rt: &R,
     alloc: Global,
     shared: Shared<N, 1>,
@@ -63,49 +63,53 @@ fn two_places<R: Abort, P: Parts>(rt: &R, session: &mut Session<P>) {
     same!(rt; call(session, &Step::Exit { task: 1 }), Err(Refusal::TraceFull));
 }
 
-fn full_trails<N: Naming + Noted, R: Wait + Abort>(
+fn full_trails<N: Naming + Places, R: Wait + Abort>(
     rt: &R,
     alloc: Global,
     blanks: Blanks,
-    words: Blank,
+    history: Opened,
 )
     requires ledgers { AreLedgers N.Naming blanks }
-    requires words { words.words.shared.table_id ≡ N.words }
+    requires history { history.table.shared.table_id ≡ N.history }
+    requires shaped { history.shape ≡ N.shape }
+    requires shape { N.shape ≡ record { slots = 4; nodes = 2; looks = false } }
     requires frames { AreFrames N.frames (4 ∷ 4 ∷ []) }
     requires bytes { N.page_bytes ≡ 1024 }
 {
-    let shared = Shared::<N, 1>::new(alloc, &[4, 4], 1024, 4, 2, blanks, words).expect(
+    let shared = Shared::<N, 1>::new(alloc, &[4, 4], 1024, 4, 2, blanks, history).expect(
         rt, "memory",
     );
     let free = Free {};
-    let mut session = opened(rt, alloc, &shared, &free, 16);
+    let mut session = opened(rt, &shared, &free, 16);
     two_places(rt, &mut session);
-    let told = session.finish();
+    let told = session.finish().into_receipts();
     same!(rt; told.len(), 5);
     let all = alone(rt, alloc, told);
     same!(rt; joined(rt, alloc, shared, all), [5, 3]);
 }
 
 // With room for one receipt the second step is refused before its event.
-fn full_room<N: Naming + Noted, R: Wait + Abort>(
+fn full_room<N: Naming + Places, R: Wait + Abort>(
     rt: &R,
     alloc: Global,
     blanks: Blanks,
-    words: Blank,
+    history: Opened,
 )
     requires ledgers { AreLedgers N.Naming blanks }
-    requires words { words.words.shared.table_id ≡ N.words }
+    requires history { history.table.shared.table_id ≡ N.history }
+    requires shaped { history.shape ≡ N.shape }
+    requires shape { N.shape ≡ record { slots = 4; nodes = 2; looks = false } }
     requires frames { AreFrames N.frames (4 ∷ 4 ∷ []) }
     requires bytes { N.page_bytes ≡ 1024 }
 {
-    let shared = Shared::<N, 1>::new(alloc, &[4, 4], 1024, 4, 16, blanks, words).expect(
+    let shared = Shared::<N, 1>::new(alloc, &[4, 4], 1024, 4, 16, blanks, history).expect(
         rt, "memory",
     );
     let free = Free {};
-    let mut session = opened(rt, alloc, &shared, &free, 1);
+    let mut session = opened(rt, &shared, &free, 1);
     same!(rt; connect(&mut session, 1), Ok(Answer::Done));
     same!(rt; connect(&mut session, 2), Err(Refusal::TraceFull));
-    let told = session.finish();
+    let told = session.finish().into_receipts();
     same!(rt; told.len(), 1);
     let all = alone(rt, alloc, told);
     same!(rt; joined(rt, alloc, shared, all), [1, 1]);
@@ -151,23 +155,25 @@ fn finds<R: Abort, P: Parts>(rt: &R, session: &mut Session<P>) {
     same!(rt; counts(session), Some([4, 4, 0, 0]));
 }
 
-fn left<N: Naming + Noted, R: Wait + Abort>(rt: &R, alloc: Global, blanks: Blanks, words: Blank)
+fn left<N: Naming + Places, R: Wait + Abort>(rt: &R, alloc: Global, blanks: Blanks, history: Opened)
     requires ledgers { AreLedgers N.Naming blanks }
-    requires words { words.words.shared.table_id ≡ N.words }
+    requires history { history.table.shared.table_id ≡ N.history }
+    requires shaped { history.shape ≡ N.shape }
+    requires shape { N.shape ≡ record { slots = 4; nodes = 2; looks = false } }
     requires frames { AreFrames N.frames (4 ∷ 4 ∷ []) }
     requires bytes { N.page_bytes ≡ 1024 }
 {
-    let shared = Shared::<N, 1>::new(alloc, &[4, 4], 1024, 4, 16, blanks, words).expect(
+    let shared = Shared::<N, 1>::new(alloc, &[4, 4], 1024, 4, 16, blanks, history).expect(
         rt, "memory",
     );
     let free = Free {};
-    let mut first = opened(rt, alloc, &shared, &free, 16);
+    let mut first = opened(rt, &shared, &free, 16);
     leaves(rt, &mut first);
-    let mut second = opened(rt, alloc, &shared, &free, 16);
+    let mut second = opened(rt, &shared, &free, 16);
     finds(rt, &mut second);
     let mut all = Vec::with_capacity(alloc, 2).expect(rt, "memory");
-    all.push_reserved(first.finish());
-    all.push_reserved(second.finish());
+    all.push_reserved(first.finish().into_receipts());
+    all.push_reserved(second.finish().into_receipts());
     let [_events, tasks] = joined(rt, alloc, shared, all);
     same!(rt; tasks, 6);
 }
@@ -175,20 +181,20 @@ fn left<N: Naming + Noted, R: Wait + Abort>(rt: &R, alloc: Global, blanks: Blank
 #[test]
 fn full_trails_refuse_all_but_what_gives_back(rt: HostRuntime) {
     let blanks = Blanks::new(rt.alloc(), &[4, 4], 1024).expect(&rt, "memory");
-    let words = Blank::new(rt.alloc()).expect(&rt, "memory");
-    full_trails::<Brand, HostRuntime>(&rt, rt.alloc(), blanks, words);
+    let history = history_of(&rt, rt.alloc(), 4, 2, false);
+    full_trails::<Brand, HostRuntime>(&rt, rt.alloc(), blanks, history);
 }
 
 #[test]
 fn a_full_room_refuses_a_step_with_no_event(rt: HostRuntime) {
     let blanks = Blanks::new(rt.alloc(), &[4, 4], 1024).expect(&rt, "memory");
-    let words = Blank::new(rt.alloc()).expect(&rt, "memory");
-    full_room::<Brand, HostRuntime>(&rt, rt.alloc(), blanks, words);
+    let history = history_of(&rt, rt.alloc(), 4, 2, false);
+    full_room::<Brand, HostRuntime>(&rt, rt.alloc(), blanks, history);
 }
 
 #[test]
 fn what_a_session_left_is_there_for_another(rt: HostRuntime) {
     let blanks = Blanks::new(rt.alloc(), &[4, 4], 1024).expect(&rt, "memory");
-    let words = Blank::new(rt.alloc()).expect(&rt, "memory");
-    left::<Brand, HostRuntime>(&rt, rt.alloc(), blanks, words);
+    let history = history_of(&rt, rt.alloc(), 4, 2, false);
+    left::<Brand, HostRuntime>(&rt, rt.alloc(), blanks, history);
 }

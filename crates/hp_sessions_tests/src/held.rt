@@ -1,14 +1,14 @@
 //! Two sessions with no trace, of which one is held under a lock in the midst of a line while the other goes on.
-ghost use Rattle.std.specs.Prelude.{◌≡◌, ◌∷◌, []};
+ghost use Rattle.std.specs.Prelude.{◌≡◌, ◌∷◌, [], true};
 ghost use Rattle.hp_nodes.specs.Ledgers.{AreFrames};
 ghost use Rattle.hp_pool.specs.Ledgers.{AreLedgers};
 
 use crate::filling::{Filling, PAGE_BYTES, fills_beside, start_filling};
 use crate::gates::{Free, Hold, Place};
-use crate::rows::{call, counts, opened, start, store_of};
+use crate::rows::{call, counts, history_of, opened, start, store_of};
 use crate::same::same;
 use hp_closing::close;
-use hp_homes::{Blank, Noted};
+use hp_history::{Opened, Places};
 use hp_model::answer::{Answer, Reply};
 use hp_model::lent::Lent;
 use hp_model::naming::Naming;
@@ -96,38 +96,35 @@ fn act_of(act: Act) -> Step<'static> {
 }
 
 // Acts while a gate holds it.
-fn acts<N: Naming + Noted, R: Wait + Abort + Clock>(
+fn acts<N: Naming + Places, R: Wait + Abort + Clock>(
     rt: &R,
-    alloc: Global,
     shared: &Shared<N, 0>,
     hold: &Hold<'_, R>,
     act: Act,
 ) {
-    let mut session = opened(rt, alloc, shared, hold, 0);
+    let mut session = opened(rt, shared, hold, 0);
     same!(rt; call(&mut session, &act_of(act)), Ok(Answer::Done));
     let _ = session.finish();
 }
 
 // Once the other is held: stores, looks at the counts and lets it go.
-fn meanwhile<N: Naming + Noted, R: Wait + Abort + Clock>(
+fn meanwhile<N: Naming + Places, R: Wait + Abort + Clock>(
     rt: &R,
-    alloc: Global,
     shared: &Shared<N, 0>,
     hold: &Hold<'_, R>,
     wanted: [u64; 4],
 ) {
     hold.wait();
     let free = Free {};
-    let mut session = opened(rt, alloc, shared, &free, 0);
+    let mut session = opened(rt, shared, &free, 0);
     same!(rt; call(&mut session, &store_of(2, &[0x22])), Ok(Answer::Done));
     same!(rt; counts(&mut session), Some(wanted));
     hold.open();
     let _ = session.finish();
 }
 
-fn beside<N: Naming + Noted + Send + Sync, R: Threads + Wait + Abort + Clock + Sync>(
+fn beside<N: Naming + Places + Send + Sync, R: Threads + Wait + Abort + Clock + Sync>(
     rt: &R,
-    alloc: Global,
     shared: &Shared<N, 0>,
     hold: &Hold<'_, R>,
     act: Act,
@@ -135,67 +132,71 @@ fn beside<N: Naming + Noted + Send + Sync, R: Threads + Wait + Abort + Clock + S
 ) {
     let _ = thread::join(
         rt,
-        move || acts(rt, alloc, shared, hold, act),
-        move || meanwhile(rt, alloc, shared, hold, wanted),
+        move || acts(rt, shared, hold, act),
+        move || meanwhile(rt, shared, hold, wanted),
     );
 }
 
 // The machine ends with all pages free, and with no trails.
-fn ends<R: Abort, N: Naming + Noted>(rt: &R, alloc: Global, shared: Shared<N, 0>, pages: u64) {
+fn ends<R: Abort, N: Naming + Places>(rt: &R, alloc: Global, shared: Shared<N, 0>, pages: u64) {
     let closed = close(alloc, shared, Vec::new(alloc)).expect(rt, "memory");
     same!(rt; closed.audit, None);
     let counts = [closed.counts.total, closed.counts.free, closed.counts.rsvd];
     same!(rt; counts, [pages, pages, 0]);
 }
 
-fn row<N: Naming + Noted + Send + Sync, R: Threads + Wait + Abort + Clock + Sync>(
+fn row<N: Naming + Places + Send + Sync, R: Threads + Wait + Abort + Clock + Sync>(
     rt: &R,
     alloc: Global,
     blanks: Blanks,
-    words: Blank,
+    history: Opened,
     place: Place,
     act: Act,
     wanted: [u64; 4],
 )
     requires ledgers { AreLedgers N.Naming blanks }
-    requires words { words.words.shared.table_id ≡ N.words }
+    requires history { history.table.shared.table_id ≡ N.history }
+    requires shaped { history.shape ≡ N.shape }
+    requires shape { N.shape ≡ record { slots = 4; nodes = 2; looks = true } }
     requires frames { AreFrames N.frames (4 ∷ 4 ∷ []) }
     requires bytes { N.page_bytes ≡ 1024 }
 {
-    let shared = Shared::<N, 0>::new(alloc, &[4, 4], 1024, 4, 0, blanks, words).expect(
+    let shared = Shared::<N, 0>::new(alloc, &[4, 4], 1024, 4, 0, blanks, history).expect(
         rt, "memory",
     );
     let free = Free {};
-    let mut first = opened(rt, alloc, &shared, &free, 0);
+    let mut first = opened(rt, &shared, &free, 0);
     start(rt, &mut first);
     before(rt, &mut first, act);
     let _ = first.finish();
     let hold = Hold::new(rt, place);
-    beside(rt, alloc, &shared, &hold, act, wanted);
+    beside(rt, &shared, &hold, act, wanted);
     assert!(rt; hold.left() > 0, "the second session was held too");
     ends(rt, alloc, shared, 4);
 }
 
-fn fills<N: Naming + Noted + Send + Sync, R: Threads + Wait + Abort + Clock + Sync>(
+fn fills<N: Naming + Places + Send + Sync, R: Threads + Wait + Abort + Clock + Sync>(
     rt: &R,
     alloc: Global,
     blanks: Blanks,
-    words: Blank,
+    history: Opened,
 )
     requires ledgers { AreLedgers N.Naming blanks }
-    requires words { words.words.shared.table_id ≡ N.words }
+    requires history { history.table.shared.table_id ≡ N.history }
+    requires shaped { history.shape ≡ N.shape }
+    requires shape { N.shape ≡ record { slots = 4; nodes = 1; looks = true } }
     requires frames { AreFrames N.frames (129 ∷ []) }
     requires bytes { N.page_bytes ≡ 2097152 }
 {
-    let shared = Shared::<N, 0>::new(alloc, &[129], PAGE_BYTES, 4, 0, blanks, words).expect(
+    let shared = Shared::<N, 0>::new(alloc, &[129], PAGE_BYTES, 4, 0, blanks, history).expect(
         rt, "memory",
     );
     let free = Free {};
-    let mut first = opened(rt, alloc, &shared, &free, 0);
+    let mut first = opened(rt, &shared, &free, 0);
     start_filling(rt, &mut first);
     let _ = first.finish();
     let filling = Filling::new();
-    let (_, (filled, _)) = fills_beside(rt, alloc, &shared, &filling);
+    let (_, (filled, _)) = fills_beside(rt, &shared, &filling);
     same!(rt; filled, 0);
     ends(rt, alloc, shared, 129);
 }
@@ -203,12 +204,12 @@ fn fills<N: Naming + Noted + Send + Sync, R: Threads + Wait + Abort + Clock + Sy
 #[test]
 fn a_slot_that_is_held_holds_no_table(rt: HostRuntime) {
     let blanks = Blanks::new(rt.alloc(), &[4, 4], 1024).expect(&rt, "memory");
-    let words = Blank::new(rt.alloc()).expect(&rt, "memory");
+    let history = history_of(&rt, rt.alloc(), 4, 2, true);
     row::<Brand, HostRuntime>(
         &rt,
         rt.alloc(),
         blanks,
-        words,
+        history,
         Place::Slot(1),
         Act::Store,
         [4, 3, 1, 0],
@@ -218,12 +219,12 @@ fn a_slot_that_is_held_holds_no_table(rt: HostRuntime) {
 #[test]
 fn a_node_that_is_held_holds_no_table(rt: HostRuntime) {
     let blanks = Blanks::new(rt.alloc(), &[4, 4], 1024).expect(&rt, "memory");
-    let words = Blank::new(rt.alloc()).expect(&rt, "memory");
+    let history = history_of(&rt, rt.alloc(), 4, 2, true);
     row::<Brand, HostRuntime>(
         &rt,
         rt.alloc(),
         blanks,
-        words,
+        history,
         Place::Node(0),
         Act::Store,
         [4, 2, 0, 0],
@@ -233,12 +234,12 @@ fn a_node_that_is_held_holds_no_table(rt: HostRuntime) {
 #[test]
 fn a_granted_page_comes_with_no_pool_held(rt: HostRuntime) {
     let blanks = Blanks::new(rt.alloc(), &[4, 4], 1024).expect(&rt, "memory");
-    let words = Blank::new(rt.alloc()).expect(&rt, "memory");
+    let history = history_of(&rt, rt.alloc(), 4, 2, true);
     row::<Brand, HostRuntime>(
         &rt,
         rt.alloc(),
         blanks,
-        words,
+        history,
         Place::Node(0),
         Act::Fault,
         [4, 2, 1, 0],
@@ -248,12 +249,12 @@ fn a_granted_page_comes_with_no_pool_held(rt: HostRuntime) {
 #[test]
 fn a_batch_is_drawn_with_no_pool_held(rt: HostRuntime) {
     let blanks = Blanks::new(rt.alloc(), &[4, 4], 1024).expect(&rt, "memory");
-    let words = Blank::new(rt.alloc()).expect(&rt, "memory");
+    let history = history_of(&rt, rt.alloc(), 4, 2, true);
     row::<Brand, HostRuntime>(
         &rt,
         rt.alloc(),
         blanks,
-        words,
+        history,
         Place::Node(0),
         Act::Fill,
         [4, 2, 1, 0],
@@ -263,12 +264,12 @@ fn a_batch_is_drawn_with_no_pool_held(rt: HostRuntime) {
 #[test]
 fn pages_go_back_with_no_pool_held(rt: HostRuntime) {
     let blanks = Blanks::new(rt.alloc(), &[4, 4], 1024).expect(&rt, "memory");
-    let words = Blank::new(rt.alloc()).expect(&rt, "memory");
+    let history = history_of(&rt, rt.alloc(), 4, 2, true);
     row::<Brand, HostRuntime>(
         &rt,
         rt.alloc(),
         blanks,
-        words,
+        history,
         Place::Node(0),
         Act::Exit,
         [4, 2, 1, 0],
@@ -278,6 +279,6 @@ fn pages_go_back_with_no_pool_held(rt: HostRuntime) {
 #[test]
 fn a_range_is_filled_with_no_node_held_nor_table(rt: HostRuntime) {
     let blanks = Blanks::new(rt.alloc(), &[129], PAGE_BYTES).expect(&rt, "memory");
-    let words = Blank::new(rt.alloc()).expect(&rt, "memory");
-    fills::<Brand, HostRuntime>(&rt, rt.alloc(), blanks, words);
+    let history = history_of(&rt, rt.alloc(), 4, 1, true);
+    fills::<Brand, HostRuntime>(&rt, rt.alloc(), blanks, history);
 }

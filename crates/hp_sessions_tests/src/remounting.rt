@@ -1,13 +1,13 @@
 //! Limits that are set anew over a session.
-ghost use Rattle.std.specs.Prelude.{◌≡◌, ◌∷◌, []};
+ghost use Rattle.std.specs.Prelude.{◌≡◌, ◌∷◌, [], false};
 ghost use Rattle.hp_nodes.specs.Ledgers.{AreFrames};
 ghost use Rattle.hp_pool.specs.Ledgers.{AreLedgers};
 
 use crate::gates::Free;
-use crate::rows::{ROOM, call, counts, opened};
+use crate::rows::{ROOM, call, counts, history_of, opened};
 use crate::same::same;
 use hp_closing::close;
-use hp_homes::{Blank, Noted};
+use hp_history::{Opened, Places};
 use hp_model::answer::{Answer, Reply};
 use hp_model::entry::Receipt;
 use hp_model::lent::Lent;
@@ -102,7 +102,7 @@ fn minimum<R: Abort, P: Parts>(rt: &R, session: &mut Session<P>) {
 }
 
 // The machine is closed with what its session was told, and all is joined.
-pub(crate) fn ended<N: Naming + Noted, R: Abort>(
+pub(crate) fn ended<N: Naming + Places, R: Abort>(
     rt: &R,
     alloc: Global,
     shared: Shared<N, 1>,
@@ -115,93 +115,104 @@ pub(crate) fn ended<N: Naming + Noted, R: Abort>(
     same!(rt; [closed.counts.total, closed.counts.free, closed.counts.rsvd], [4, 4, 0]);
 }
 
-fn limits<N: Naming + Noted, R: Wait + Abort>(rt: &R, alloc: Global, blanks: Blanks, words: Blank)
+fn limits<N: Naming + Places, R: Wait + Abort>(
+    rt: &R,
+    alloc: Global,
+    blanks: Blanks,
+    history: Opened,
+)
     requires ledgers { AreLedgers N.Naming blanks }
-    requires words { words.words.shared.table_id ≡ N.words }
+    requires history { history.table.shared.table_id ≡ N.history }
+    requires shaped { history.shape ≡ N.shape }
+    requires shape { N.shape ≡ record { slots = 4; nodes = 2; looks = false } }
     requires frames { AreFrames N.frames (4 ∷ 4 ∷ []) }
     requires bytes { N.page_bytes ≡ 1024 }
 {
-    let shared = Shared::<N, 1>::new(alloc, &[4, 4], 1024, 4, PLACES, blanks, words).expect(
+    let shared = Shared::<N, 1>::new(alloc, &[4, 4], 1024, 4, PLACES, blanks, history).expect(
         rt, "memory",
     );
     let free = Free {};
-    let mut session = opened(rt, alloc, &shared, &free, ROOM);
+    let mut session = opened(rt, &shared, &free, ROOM);
     below_usage(rt, &mut session);
     minimum(rt, &mut session);
-    let told = session.finish();
+    let told = session.finish().into_receipts();
     ended(rt, alloc, shared, told);
 }
 
 // The pool's trail has no place for the section.
-fn pool_full<N: Naming + Noted, R: Wait + Abort>(
+fn pool_full<N: Naming + Places, R: Wait + Abort>(
     rt: &R,
     alloc: Global,
     blanks: Blanks,
-    words: Blank,
+    history: Opened,
 )
     requires ledgers { AreLedgers N.Naming blanks }
-    requires words { words.words.shared.table_id ≡ N.words }
+    requires history { history.table.shared.table_id ≡ N.history }
+    requires shaped { history.shape ≡ N.shape }
+    requires shape { N.shape ≡ record { slots = 4; nodes = 2; looks = false } }
     requires frames { AreFrames N.frames (4 ∷ 4 ∷ []) }
     requires bytes { N.page_bytes ≡ 1024 }
 {
-    let shared = Shared::<N, 1>::new(alloc, &[4, 4], 1024, 4, 3, blanks, words).expect(
+    let shared = Shared::<N, 1>::new(alloc, &[4, 4], 1024, 4, 3, blanks, history).expect(
         rt, "memory",
     );
     let free = Free {};
-    let mut session = opened(rt, alloc, &shared, &free, ROOM);
+    let mut session = opened(rt, &shared, &free, ROOM);
     same!(rt; call(&mut session, &Step::Nr { pages: 4 }), Ok(Answer::Number(4)));
     same!(rt; mount(&mut session, b"min_size=1K"), Ok(Answer::Done));
     same!(rt; counts(&mut session), Some([4, 4, 1, 0]));
     same!(rt; remount(&mut session, 2, b"min_size=2K"), Err(Refusal::TraceFull));
     same!(rt; call(&mut session, &Step::Df { slot: 2 }), usage(None, 1, 0, 0));
-    let told = session.finish();
+    let told = session.finish().into_receipts();
     ended(rt, alloc, shared, told);
 }
 
 // The slot's trail has no place for the event.
-fn slot_full<N: Naming + Noted, R: Wait + Abort>(
+fn slot_full<N: Naming + Places, R: Wait + Abort>(
     rt: &R,
     alloc: Global,
     blanks: Blanks,
-    words: Blank,
+    history: Opened,
 )
     requires ledgers { AreLedgers N.Naming blanks }
-    requires words { words.words.shared.table_id ≡ N.words }
+    requires history { history.table.shared.table_id ≡ N.history }
+    requires shaped { history.shape ≡ N.shape }
+    requires shape { N.shape ≡ record { slots = 4; nodes = 2; looks = false } }
     requires frames { AreFrames N.frames (4 ∷ 4 ∷ []) }
     requires bytes { N.page_bytes ≡ 1024 }
 {
-    let shared = Shared::<N, 1>::new(alloc, &[4, 4], 1024, 4, 3, blanks, words).expect(
+    let shared = Shared::<N, 1>::new(alloc, &[4, 4], 1024, 4, 3, blanks, history).expect(
         rt, "memory",
     );
     let free = Free {};
-    let mut session = opened(rt, alloc, &shared, &free, ROOM);
+    let mut session = opened(rt, &shared, &free, ROOM);
     same!(rt; call(&mut session, &Step::Nr { pages: 4 }), Ok(Answer::Number(4)));
     same!(rt; mount(&mut session, b"min_size=1K"), Ok(Answer::Done));
     same!(rt; call(&mut session, &Step::Df { slot: 2 }), usage(None, 1, 0, 0));
     same!(rt; call(&mut session, &Step::Df { slot: 2 }), usage(None, 1, 0, 0));
     same!(rt; remount(&mut session, 2, b"min_size=2K"), Err(Refusal::TraceFull));
     same!(rt; counts(&mut session), Some([4, 4, 1, 0]));
-    let told = session.finish();
+    let told = session.finish().into_receipts();
     ended(rt, alloc, shared, told);
 }
 
 #[test]
 fn limits_are_set_anew(rt: HostRuntime) {
     let blanks = Blanks::new(rt.alloc(), &[4, 4], 1024).expect(&rt, "memory");
-    let words = Blank::new(rt.alloc()).expect(&rt, "memory");
-    limits::<Brand, HostRuntime>(&rt, rt.alloc(), blanks, words);
+    let history = history_of(&rt, rt.alloc(), 4, 2, false);
+    limits::<Brand, HostRuntime>(&rt, rt.alloc(), blanks, history);
 }
 
 #[test]
 fn no_limit_changes_where_the_pool_has_no_place(rt: HostRuntime) {
     let blanks = Blanks::new(rt.alloc(), &[4, 4], 1024).expect(&rt, "memory");
-    let words = Blank::new(rt.alloc()).expect(&rt, "memory");
-    pool_full::<Brand, HostRuntime>(&rt, rt.alloc(), blanks, words);
+    let history = history_of(&rt, rt.alloc(), 4, 2, false);
+    pool_full::<Brand, HostRuntime>(&rt, rt.alloc(), blanks, history);
 }
 
 #[test]
 fn no_limit_changes_where_the_slot_has_no_place(rt: HostRuntime) {
     let blanks = Blanks::new(rt.alloc(), &[4, 4], 1024).expect(&rt, "memory");
-    let words = Blank::new(rt.alloc()).expect(&rt, "memory");
-    slot_full::<Brand, HostRuntime>(&rt, rt.alloc(), blanks, words);
+    let history = history_of(&rt, rt.alloc(), 4, 2, false);
+    slot_full::<Brand, HostRuntime>(&rt, rt.alloc(), blanks, history);
 }

@@ -23,6 +23,7 @@ use hp_parts::{Parts, SlotWork, TableTold};
 
 impl<P: Parts> Session<P> {
     // An event of the task table.
+    #[inline(always)]
     pub(super) fn make_table(&mut self, event: TableEvent) -> TableTold
         requires { HasReceiptRoom P.keeps 1 self.old }
         ensures made { IsMade P.keeps P.page self.old (OnTasks event) (table_reply result)

@@ -10,7 +10,7 @@ ghost use Rattle.hp_model.specs.Profile.{most_bytes};
 ghost use Rattle.hp_events.specs.Event.{event_of, shows_bytes};
 ghost use Rattle.hp_parts.specs.SlotWork.{AreCopiesFor, asked_event, carries, is_of_maps, needs_room};
 ghost use Rattle.hp_parts.specs.Replies.{table_reply};
-ghost use Rattle.hp_events.specs.declared.work.Work.TheVariants.{Attach as AttachATask, OfTask as OfATask, OnSlot as OnASlot};
+ghost use Rattle.hp_events.specs.declared.work.Work.TheVariants.{Attach as AttachATask, OfTask as OfATask, OnSlot as OnASlot, Pool as ThePool};
 ghost use Rattle.hp_sessions.specs.Calls.{HasReceiptRoom, IsCallAnswered};
 ghost use Rattle.hp_events.specs.Works.{ListsByNamesAlone};
 ghost use Rattle.hp_parts.specs.Fitting.{HasAnswerOf};
@@ -62,6 +62,9 @@ impl<P: Parts> Session<P> {
         match step {
             Step::Attach { task } => {
                 *reply = self.attach(*task);
+            }
+            Step::Meminfo => {
+                *reply = self.of_pool(PoolEvent::Meminfo);
             }
             Step::Fault {
                 task,
@@ -184,6 +187,19 @@ impl<P: Parts> Session<P> {
             return Err(Refusal::TraceFull);
         }
         table_told(self.make_table(TableEvent::Find { task }))
+    }
+
+    // An event of the pool alone.
+    #[inline(never)]
+    fn of_pool(&mut self, event: PoolEvent) -> Result<Told<'static>, Refusal>
+        ensures worked { IsWorked P.keeps P.page self.old (ThePool event) (told_reply result)
+            self.new }
+        ensures limits { IsWithinLimits (told_reply result) }
+    {
+        if self.lacks(1) {
+            return Err(Refusal::TraceFull);
+        }
+        self.make_pool(event)
     }
 
     // An event of a mount.
