@@ -1,5 +1,6 @@
 -- How the serving of all sessions ends, and what is printed then.
 use Rattle.std.specs.Prelude.{◌≡◌, ◌≤◌, ◌++◌, ℕ, Bool, true, false, List, [], Option, Some, None, codes}
+use Rattle.std.specs.List.{All}
 use Rattle.std.specs.Io.KnownBytes.{Appends}
 use Rattle.hp_model.specs.text.Writing.{meminfo_text}
 use Rattle.hp_model.specs.Profile.{most_frames_in_all, most_page_bytes}
@@ -41,11 +42,15 @@ status_of (Printed closed) = status_after closed.audit 0
 status_of (Unprinted closed) = status_after closed.audit 1
 status_of (Failed fault) = 1
 
--- what is left of the machine, where it is told, is what closing it may leave
-abbrev pub LeavesAsked : (Closed → Type 0) → Ended → Type 0
-LeavesAsked may_leave (Printed closed) = may_leave closed
-LeavesAsked may_leave (Unprinted closed) = may_leave closed
-LeavesAsked may_leave (Failed fault) = Unit {0}
+-- closing a machine left this, and it was given what sessions were told, each as it may be
+abbrev pub Leaves : {T : Type 0} → (T → Type 0) → (List T → Closed → Type 0) → Closed → Type 0
+Leaves {T} may_tell may_leave closed = (told : List T) × All may_tell told × may_leave told closed
+
+-- so it was, where it is told what is left of the machine
+abbrev pub LeavesAsked : {T : Type 0} → (T → Type 0) → (List T → Closed → Type 0) → Ended → Type 0
+LeavesAsked may_tell may_leave (Printed closed) = Leaves may_tell may_leave closed
+LeavesAsked may_tell may_leave (Unprinted closed) = Leaves may_tell may_leave closed
+LeavesAsked may_tell may_leave (Failed fault) = Unit {0}
 
 -- what was printed: the text of the close, or a front of it where a write failed, and nothing where a fault came before
 abbrev pub Prints : Option (List ℕ) → Option (List ℕ) → Ended → Type 0

@@ -1,7 +1,10 @@
 //! What sessions are opened on.
-ghost use Rattle.std.specs.Prelude.{◌≤◌, IfOk};
+ghost use Rattle.std.specs.Prelude.{◌≡◌, ◌≤◌, ℕ, List, IfOk, OnErr};
 ghost use Rattle.hp_model.specs.Profile.{most_page_bytes};
+ghost use Rattle.hp_model.specs.declared.step.Step.{Step as TheStep};
+ghost use Rattle.hp_model.specs.machine.Plan.{Reply as TheReply};
 ghost use Rattle.hp_serving.specs.Ended.{IsOfMachine};
+ghost use Rattle.hp_serving.specs.Session.{IsServed};
 ghost use Rattle.hp_serving.specs.declared.host.Closed.{Closed as TheClosed};
 
 use hp_model::answer::Counts;
@@ -48,11 +51,26 @@ pub struct Closed {
 
 /// A machine that sessions are served on, and that is closed after them.
 pub trait Machine {
-    /// What a session was told.
+    /// What a session was told, once it is finished.
     type Told: Drop + Send + Sync;
 
-    /// Closing the machine may leave this.
-    ghost may_leave: { Self → TheClosed → Type 0 };
+    /// What is seen of a session.
+    ghost Session: { Type 0 };
+
+    /// From the old value, a session may answer the step so, which leaves the new value.
+    ghost may_answer: { Session → TheStep → TheReply → Session → Type 0 };
+
+    /// The bytes of a page.
+    ghost page: { Session → ℕ };
+
+    /// The session was just opened.
+    ghost is_opened: { Session → Type 0 };
+
+    /// The finished session was told this.
+    ghost was_told: { Session → Self.Told → Type 0 };
+
+    /// Closing the machine, where its sessions were told this, may leave that.
+    ghost may_leave: { Self → List Self.Told → TheClosed → Type 0 };
 
     /// Serves a connection as `serve_session` does, on a session of this machine.
     fn serve_one<R: Wait, A: Source, B: Sink>(
@@ -61,12 +79,20 @@ pub trait Machine {
         alloc: Global,
         reader: &mut A,
         writer: &mut B,
-    ) -> Result<Self::Told, AllocError>;
+    ) -> Result<Self::Told, AllocError>
+        ensures served { IfOk result (IsServed is_opened was_told may_answer page
+            (A.remaining reader.old) (A.remaining reader.new)
+            (B.contents writer.old) (B.contents writer.new)) }
+        ensures unread { OnErr result (reader.new ≡ reader.old) }
+        ensures unwritten { OnErr result (writer.new ≡ writer.old) };
 
-    /// Closes the machine once all its sessions are finished, and compares what these were told with its trails,
-    /// where it keeps them. Refused is only the comparison, for want of memory; then it is closed too.
+    /// The number that the session got when it was opened: the first got 0, and each the next.
+    fn number(told: &Self::Told) -> usize;
+
+    /// Closes the machine once all its sessions are finished, given what these were told in the order of their
+    /// numbers, and finds out whether that is all. Refused is only that, for want of memory; then it is closed too.
     fn close(self, alloc: Global, told: Vec<Self::Told>) -> Result<Closed, AllocError>
-        ensures leaves { IfOk result (may_leave self) }
+        ensures leaves { IfOk result (may_leave self told.items) }
         ensures limits { IfOk result IsOfMachine };
 
     /// Closes the machine after a fault.

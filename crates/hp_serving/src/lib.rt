@@ -3,6 +3,7 @@
 
 mod connections;
 mod fault;
+mod filed;
 mod host;
 mod http;
 mod serving;
@@ -10,8 +11,9 @@ mod session;
 mod sessions;
 mod tcp;
 
-pub use connections::{Accepted, Connections};
+pub use connections::Connections;
 pub use fault::ServeFault;
+pub use filed::Filed;
 pub use host::{Closed, Host, Machine};
 pub use serving::serve;
 pub use session::serve_session;

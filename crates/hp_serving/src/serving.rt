@@ -1,34 +1,31 @@
 //! Workers that serve accepted connections.
-ghost use Rattle.std.specs.Prelude.{◌≤◌};
+ghost use Rattle.std.specs.Prelude.{◌≡◌, ◌≤◌, IfOk, OnErr};
+ghost use Rattle.hp_serving.specs.Session.{IsServed};
 
-use crate::connections::{Accepted, Connections, numbered};
+use crate::connections::Connections;
 use crate::fault::ServeFault;
+use crate::filed::Filed;
 use crate::host::Machine;
 use crossbeam_channel::{Receiver, Sender};
 use hp_wire::ends::{Sink, Source};
-use std::alloc::Global;
+use std::alloc::{AllocError, Global};
 use std::sync::{OnceLock, Wait};
 use std::thread;
 use std::thread::{Scope, Threads};
 
-/// Serves as many sessions as there are cells, on so many workers, and files what each was told in the cell of its
-/// number. A worker that can't be started is left out. The connections are announced once one runs.
+/// Serves as many sessions as there are cells, on so many workers, and files what each was told in the cell of the
+/// number that it got. A worker that can't be started is left out. The connections are announced once one runs.
 ///
 /// It returns when all sessions that were handed out have ended, however these ended. `Memory` says that no worker
 /// could be started or no queue made, and `Write` that the connections could not be announced: then no session was
 /// handed out. `Network` says that the source failed.
-pub fn serve<
-    R: Threads + Wait + Sync,
-    T: Drop + Send + Sync,
-    M: Machine<Told = T> + Sync,
-    C: Connections,
->(
+pub fn serve<R: Threads + Wait + Sync, M: Machine + Sync, C: Connections>(
     rt: &R,
     alloc: Global,
     machine: &M,
     connections: &mut C,
     workers: usize,
-    filed: &[OnceLock<T>],
+    filed: &[OnceLock<Filed<M>>],
 ) -> Result<(), ServeFault> {
     let Ok((to, from)) = crossbeam_channel::bounded(alloc, workers.max(1)) else {
         return Err(ServeFault::Memory);
@@ -36,21 +33,15 @@ pub fn serve<
     run(rt, alloc, machine, connections, workers, filed, &from, to)
 }
 
-fn run<
-    'x,
-    R: Threads + Wait + Sync,
-    T: Drop + Send + Sync,
-    M: Machine<Told = T> + Sync,
-    C: Connections,
->(
+fn run<'x, R: Threads + Wait + Sync, M: Machine + Sync, C: Connections>(
     rt: &'x R,
     alloc: Global,
     machine: &'x M,
     connections: &mut C,
     workers: usize,
-    filed: &'x [OnceLock<T>],
-    jobs: &'x Receiver<Accepted<C::Reader, C::Writer>, Global>,
-    to: Sender<Accepted<C::Reader, C::Writer>, Global>,
+    filed: &'x [OnceLock<Filed<M>>],
+    jobs: &'x Receiver<(C::Reader, C::Writer), Global>,
+    to: Sender<(C::Reader, C::Writer), Global>,
 ) -> Result<(), ServeFault> {
     thread::scope(thread::scope_env(), rt, |scope| {
         if start_workers(scope, rt, alloc, machine, workers, jobs, filed) {
@@ -66,8 +57,7 @@ fn start_workers<
     'x,
     E,
     R: Wait + Sync,
-    T: Drop + Send + Sync,
-    M: Machine<Told = T> + Sync,
+    M: Machine + Sync,
     A: Source + Drop + Send,
     B: Sink + Drop + Send,
 >(
@@ -76,8 +66,8 @@ fn start_workers<
     alloc: Global,
     machine: &'x M,
     workers: usize,
-    jobs: &'x Receiver<Accepted<A, B>, Global>,
-    filed: &'x [OnceLock<T>],
+    jobs: &'x Receiver<(A, B), Global>,
+    filed: &'x [OnceLock<Filed<M>>],
 ) -> bool {
     let mut started = false;
     for _ in 0..workers {
@@ -95,7 +85,7 @@ fn start_workers<
 fn hand_out_all<R: Wait, C: Connections>(
     rt: &R,
     connections: &mut C,
-    to: Sender<Accepted<C::Reader, C::Writer>, Global>,
+    to: Sender<(C::Reader, C::Writer), Global>,
     count: usize,
 ) -> Result<(), ServeFault> {
     if connections.announce().is_err() {
@@ -111,18 +101,15 @@ fn hand_out_all<R: Wait, C: Connections>(
 fn hand_out<R: Wait, C: Connections>(
     rt: &R,
     connections: &mut C,
-    to: Sender<Accepted<C::Reader, C::Writer>, Global>,
+    to: Sender<(C::Reader, C::Writer), Global>,
     count: usize,
 ) -> usize
     ensures { result ≤ count }
 {
     for number in 0..count {
         match connections.next() {
-            Ok(Some((reader, writer))) => {
-                if to
-                    .send(rt, numbered(number, count, reader, writer))
-                    .is_err()
-                {
+            Ok(Some(connection)) => {
+                if to.send(rt, connection).is_err() {
                     return number;
                 }
             }
@@ -134,39 +121,46 @@ fn hand_out<R: Wait, C: Connections>(
 }
 
 // Serves connections until no more come.
-fn work<R: Wait, T: Drop + Send + Sync, M: Machine<Told = T>, A: Source + Drop, B: Sink + Drop>(
+fn work<R: Wait, M: Machine, A: Source + Drop, B: Sink + Drop>(
     rt: &R,
     alloc: Global,
     machine: &M,
-    jobs: &Receiver<Accepted<A, B>, Global>,
-    filed: &[OnceLock<T>],
+    jobs: &Receiver<(A, B), Global>,
+    filed: &[OnceLock<Filed<M>>],
 ) {
     for _ in rt.forever() {
-        let Ok(job) = jobs.recv(rt) else {
+        let Ok((mut reader, mut writer)) = jobs.recv(rt) else {
             return;
         };
-        serve_one(rt, alloc, machine, job, filed);
+        if let Ok(one) = serve_one(rt, alloc, machine, &mut reader, &mut writer) {
+            file(rt, one, filed);
+        }
     }
 }
 
-// Serves one connection to its end, whatever that is, and files what its session was told.
-fn serve_one<
-    R: Wait,
-    T: Drop + Send + Sync,
-    M: Machine<Told = T>,
-    A: Source + Drop,
-    B: Sink + Drop,
->(rt: &R, alloc: Global, machine: &M, job: Accepted<A, B>, filed: &[OnceLock<T>]) {
-    let Accepted {
-        number,
-        count: _,
-        mut reader,
-        mut writer,
-    } = job;
-    let Ok(told) = machine.serve_one(rt, alloc, &mut reader, &mut writer) else {
-        return;
-    };
-    if let Some(cell) = filed.get(number) {
-        let _kept = cell.set(rt, told);
+// Serves one connection to its end, whatever that is. It is refused only where its session is, and then nothing is read
+// or written.
+fn serve_one<R: Wait, M: Machine, A: Source, B: Sink>(
+    rt: &R,
+    alloc: Global,
+    machine: &M,
+    reader: &mut A,
+    writer: &mut B,
+) -> Result<Filed<M>, AllocError>
+    ensures served { IfOk result (λ one. IsServed M.is_opened M.was_told M.may_answer M.page
+        (A.remaining reader.old) (A.remaining reader.new)
+        (B.contents writer.old) (B.contents writer.new) one.told) }
+    ensures unread { OnErr result (reader.new ≡ reader.old) }
+    ensures unwritten { OnErr result (writer.new ≡ writer.old) }
+{
+    let told = machine.serve_one(rt, alloc, reader, writer)?;
+    Ok(Filed { told })
+}
+
+// Files it in the cell of its session's number. What has no cell, or comes to one that is taken, is lost, and the machine
+// finds that out when it is closed.
+fn file<R: Wait, M: Machine>(rt: &R, one: Filed<M>, filed: &[OnceLock<Filed<M>>]) {
+    if let Some(cell) = filed.get(M::number(&one.told)) {
+        let _kept = cell.set(rt, one);
     }
 }

@@ -17,8 +17,8 @@ pub fn serve_session<H: Host, A: Source, B: Sink>(
     writer: &mut B,
 ) -> Result<H::Told, AllocError>
     ensures served { IfOk result (IsServed H.is_opened H.was_told H.Session.may_answer
-        H.Session.page
-        A.remaining B.contents reader.old reader.new writer.old writer.new) }
+        H.Session.page (A.remaining reader.old) (A.remaining reader.new)
+        (B.contents writer.old) (B.contents writer.new)) }
     ensures unread { OnErr result (reader.new ≡ reader.old) }
     ensures unwritten { OnErr result (writer.new ≡ writer.old) }
 {

@@ -2,10 +2,12 @@
 ghost use Rattle.std.specs.Prelude.{◌≡◌, ◌≤◌, [], ◌++◌, vec_capacity, IfOk, IfErr, IfSome, IsOk, OnOk};
 ghost use Rattle.hp_wire.specs.Sent.{Writes, WritesFront};
 ghost use Rattle.hp_serving.specs.Ended.{IsOfMachine, LeavesAsked, Prints, Says, SaysEnd, line_of_fault, status_after, status_of, text_of_audit, text_of_close};
+ghost use Rattle.hp_serving.specs.Session.{IsOfConnection};
 ghost use Rattle.hp_serving.specs.declared.sessions.Ended.{Ended as TheEnd};
 
 use crate::connections::Connections;
 use crate::fault::ServeFault;
+use crate::filed::{Filed, all_told};
 use crate::host::{Closed, Machine};
 use crate::serving::serve;
 use hp_text::meminfo::meminfo_text;
@@ -48,7 +50,9 @@ pub fn serve_sessions<
     output: &mut W,
     faults: &mut E,
 ) -> u8
-    ensures { (ended : TheEnd) × LeavesAsked (M.may_leave machine) ended
+    ensures { (ended : TheEnd)
+        × LeavesAsked (IsOfConnection M.is_opened M.was_told M.may_answer M.page)
+        (M.may_leave machine) ended
         × (result ≡ status_of ended)
         × Prints (W.contents output.old) (W.contents output.new) ended
         × SaysEnd (E.is_sure faults.old) (E.contents faults.old) (E.contents faults.new) ended }
@@ -58,11 +62,12 @@ pub fn serve_sessions<
 }
 
 // What is asked for before the first session: cells for what they are told, a list of it, and a text.
-fn rooms<T: Drop>(
+fn rooms<M: Machine>(
     alloc: Global,
     sessions: usize,
-) -> Result<(Vec<OnceLock<T>>, Vec<T>, Vec<u8>), AllocError>
-    ensures { IfOk result (λ rooms. (rooms.2.items ≡ []) × (256 ≤ vec_capacity rooms.2)) }
+) -> Result<(Vec<OnceLock<Filed<M>>>, Vec<M::Told>, Vec<u8>), AllocError>
+    ensures { IfOk result (λ rooms. (rooms.1.items ≡ [])
+        × (rooms.2.items ≡ []) × (256 ≤ vec_capacity rooms.2)) }
 {
     let text = Vec::with_capacity(alloc, 256)?;
     let told = Vec::with_capacity(alloc, sessions)?;
@@ -87,10 +92,12 @@ fn run<R: Threads + Wait + Sync, M: Machine + Sync, C: Connections, W: Sink>(
     workers: usize,
     output: &mut W,
 ) -> Ended
-    ensures leaves { LeavesAsked (M.may_leave machine) result }
+    ensures leaves { LeavesAsked
+        (IsOfConnection M.is_opened M.was_told M.may_answer M.page)
+        (M.may_leave machine) result }
     ensures prints { Prints (W.contents output.old) (W.contents output.new) result }
 {
-    let Ok((filed, told, mut text)) = rooms(alloc, sessions) else {
+    let Ok((filed, told, mut text)) = rooms::<M>(alloc, sessions) else {
         machine.abandon();
         return Ended::Failed(ServeFault::Memory);
     };
@@ -105,16 +112,6 @@ fn run<R: Threads + Wait + Sync, M: Machine + Sync, C: Connections, W: Sink>(
         Ok(()) => Ended::Printed(closed),
         Err(_) => Ended::Unprinted(closed),
     }
-}
-
-// What the sessions were told, in the order of their numbers.
-fn all_told<T: Drop>(filed: Vec<OnceLock<T>>, mut told: Vec<T>) -> Vec<T> {
-    for cell in filed {
-        if let Some(one) = cell.into_inner() {
-            let _ = told.push(one);
-        }
-    }
-    told
 }
 
 // Prints what is left of the machine.
