@@ -1,7 +1,6 @@
 -- What is printed, and what is said of a fault.
 use Rattle.std.proofs.Common.{◌≡◌, ◌++◌, ℕ, List, refl, Option, Result, Ok, Err, OnOk, IfErr, IsOk, true, false}
 use Rattle.std.specs.Io.KnownBytes.{Appends}
-use Rattle.hp_model.specs.run.Ran.{AppendsFront}
 use Rattle.hp_wire.specs.Sent.{IsWriteCut}
 use Rattle.hp_model.specs.declared.fault.RunFault.{RunFault}
 use Rattle.hp_wire.proofs.Known.{appends_then, front_whole, front_then, front_more}

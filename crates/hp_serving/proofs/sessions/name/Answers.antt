@@ -1,4 +1,4 @@
-use Rattle.std.proofs.Common.{◌≡◌, ◌∙◌, rules}
+use Rattle.std.proofs.Common.{◌≡◌, rules}
 use Rattle.hp_serving.specs.Ended.{line_of_fault}
 use Rattle.hp_serving.proofs.Printed.{says_of}
 use Rattle.hp_serving.proofs.sessions.name.Goals as goal
