@@ -1,5 +1,5 @@
 -- A run of the program.
-use Rattle.std.specs.Prelude.{◌≡◌, ◌≤◌, ◌++◌, ℕ, nat_lt, List, Option, Some, None, is_some, true, Result, Ok, Err, IfErr, IfSome, IsSomeAnd, MatchOption, codes}
+use Rattle.std.specs.Prelude.{◌≡◌, ◌≢◌, ◌≤◌, ◌++◌, ℕ, nat_lt, List, [], Option, Some, None, is_some, false, true, Result, Ok, Err, IfErr, IfSome, IsSomeAnd, MatchOption, codes}
 use Rattle.std.specs.Io.KnownBytes.{Appends, Consumes}
 use Rattle.clap.specs.Faults.{fault_of}
 use Rattle.clap.specs.Kinds.{IsAmong}
@@ -16,6 +16,8 @@ use Rattle.hp_model.specs.declared.fault.RunFault.TheVariants as fault
 use Rattle.hp_model.specs.declared.entry.Receipt.{Receipt}
 use Rattle.hp_serving.specs.Ended as serving
 use Rattle.hp_serving.specs.Ended.{Says}
+use Rattle.hp_serving.specs.Session.{IsOfConnection}
+use Rattle.hp_sessions.specs.Calls.{IsCallAnswered, SessionView}
 use Rattle.hp_serving.specs.declared.host.Closed.{Closed}
 use Rattle.hp_serving.specs.declared.sessions.Ended.{Ended}
 use Rattle.hp_closing.specs.Joined.{WasJoined}
@@ -113,18 +115,25 @@ pub record Refuses {W : Type 0} (contents : W → Option (List ℕ)) (is_sure : 
 
 -- ---- a server
 
--- What may be left of the machine that was asked for, once it is closed. It was audited just where there was room for
--- entries; and where the audit was right, the sessions' events were one run of it, at whose end all its pages are free.
-pub record MayBeLeft (c : MachineChoice) (s : Serving) (closed : Closed) : Type 0 where
-  pub page : closed.page ≡ c.page
-  pub audited : is_some closed.audit ≡ nat_lt 0 s.room
-  pub joined : closed.audit ≡ Some true → (told : List (List Receipt)) × WasJoined (chosen c) told closed.counts
+-- A session that had no receipts yet answered the lines of a connection by its calls, and these are the receipts that it had
+-- then.
+abbrev pub IsToldOn : MachineChoice → Serving → List Receipt → Type 0
+IsToldOn c s receipts =
+    IsOfConnection {SessionView} (λ session. session.receipts ≡ []) (λ session told. told ≡ session.receipts) (IsCallAnswered (nat_lt 0 s.room) c.page)
+    (λ session. c.page) receipts
 
--- how the serving of all sessions ended, what was printed and said then, and the status
+-- What may be left of the machine that was asked for, once it is closed with what its sessions were told. Unless that was
+-- found not to fit, their events were one run of it, at whose end all its pages are free.
+pub record MayBeLeft (c : MachineChoice) (s : Serving) (told : List (List Receipt)) (closed : Closed) : Type 0 where
+  pub page : closed.page ≡ c.page
+  pub audited : closed.audit ≢ Some false → is_some closed.audit ≡ nat_lt 0 s.room
+  pub joined : closed.audit ≢ Some false → WasJoined (chosen c) told closed.counts
+
+-- how the serving of all sessions ended, what these were told and what is left then, what was printed and said, and the status
 pub record IsServingEnded (c : MachineChoice) (s : Serving) (before after : Option (List ℕ)) (sure : Type 0) (unsaid said : Option (List ℕ))
     (status : ℕ) : Type 0 where
   pub ended : Ended
-  pub leaves : serving.LeavesAsked (MayBeLeft c s) ended
+  pub leaves : serving.LeavesAsked (IsToldOn c s) (MayBeLeft c s) ended
   pub ends : status ≡ serving.status_of ended
   pub prints : serving.Prints before after ended
   pub says : serving.SaysEnd sure unsaid said ended

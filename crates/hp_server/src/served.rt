@@ -1,15 +1,16 @@
 //! The machine that is served, with what its sessions are told.
-ghost use Rattle.std.specs.Prelude.{IfOk};
+ghost use Rattle.std.specs.Prelude.{◌≡◌, ◌==◌, [], map, IfOk};
 ghost use Rattle.hp_locked.specs.Views.{frames_list};
 ghost use Rattle.hp_model.specs.machine.Machine.{start};
 ghost use Rattle.hp_server.specs.Left.{MayLeave};
 ghost use Rattle.hp_serving.specs.Ended.{IsOfMachine};
+ghost use Rattle.hp_sessions.specs.Calls.{IsCallAnswered, SessionView};
 
 use crate::host::Waiting;
 use hp_closing::{close, into_system};
-use hp_homes::Noted;
+use hp_entrance::Told;
+use hp_history::Places;
 use hp_locked::Gate;
-use hp_model::entry::Receipt;
 use hp_model::naming::Naming;
 use hp_serving::{Closed, Machine, serve_session};
 use hp_shared::Shared;
@@ -18,18 +19,28 @@ use std::alloc::{AllocError, Global};
 use std::sync::Wait;
 
 /// A machine that threads share, with who watches its locks, and the room of each of its sessions.
-pub struct Served<N: Naming + Noted, G: Gate + Drop, const K: usize> {
+pub struct Served<N: Naming + Places, G: Gate + Drop, const K: usize> {
     pub shared: Shared<N, K>,
     pub gate: G,
     pub room: usize,
 }
 
-impl<N: Naming + Noted, G: Gate + Drop, const K: usize> Machine for Served<N, G, K> {
-    /// The receipts of a session, in order.
-    type Told = Vec<Receipt>;
+impl<N: Naming + Places + Send + Sync, G: Gate + Drop, const K: usize> Machine for Served<N, G, K> {
+    /// The receipts of a session, in order, and its number.
+    type Told = Told<N>;
 
-    ghost may_leave = { λ machine closed. MayLeave K (start (frames_list N.frames)
-        machine.shared.page_size machine.shared.slots) closed };
+    ghost Session = { SessionView };
+
+    ghost may_answer = { IsCallAnswered (K == 1) N.page_bytes };
+
+    ghost page = { λ session. N.page_bytes };
+
+    ghost is_opened = { λ session. session.receipts ≡ [] };
+
+    ghost was_told = { λ session told. told.receipts ≡ session.receipts };
+
+    ghost may_leave = { λ machine told closed. MayLeave K (start (frames_list N.frames)
+        machine.shared.page_size machine.shared.slots) (map (λ one. one.receipts) told) closed };
 
     fn serve_one<R: Wait, A: Source, B: Sink>(
         &self,
@@ -37,7 +48,7 @@ impl<N: Naming + Noted, G: Gate + Drop, const K: usize> Machine for Served<N, G,
         alloc: Global,
         reader: &mut A,
         writer: &mut B,
-    ) -> Result<Vec<Receipt>, AllocError> {
+    ) -> Result<Told<N>, AllocError> {
         let host = Waiting {
             rt,
             shared: &self.shared,
@@ -47,9 +58,13 @@ impl<N: Naming + Noted, G: Gate + Drop, const K: usize> Machine for Served<N, G,
         serve_session(alloc, &&host, reader, writer)
     }
 
-    fn close(self, alloc: Global, told: Vec<Vec<Receipt>>) -> Result<Closed, AllocError>
+    fn number(told: &Told<N>) -> usize {
+        told.number() as usize
+    }
+
+    fn close(self, alloc: Global, told: Vec<Told<N>>) -> Result<Closed, AllocError>
         ensures leaves { IfOk result (MayLeave K (start (frames_list N.frames)
-            self.shared.page_size self.shared.slots)) }
+            self.shared.page_size self.shared.slots) (map (λ one. one.receipts) told.items)) }
         ensures limits { IfOk result IsOfMachine }
     {
         let Served {

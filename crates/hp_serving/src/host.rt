@@ -19,7 +19,7 @@ pub trait Host {
     type Session: Service;
 
     /// What a session was told, once it is finished.
-    type Told: Drop + Send + Sync;
+    type Told: Drop;
 
     /// The session was just opened.
     ghost is_opened: { Self.Session → Type 0 };

@@ -1,28 +1,38 @@
 -- What is left of a machine that was served.
-use Rattle.std.proofs.Common.{◌≡◌, ◌==◌, ◌∙◌, ℕ, true, Some, nat_lt, ap, subst}
+use Rattle.std.proofs.Common.{◌≡◌, ◌≢◌, ◌==◌, ◌∙◌, ℕ, Bool, List, [], ◌∷◌, All, map, false, Some, nat_lt, ap, subst, sym}
+use Rattle.std.proofs.lemmas.List.Elements.{All-map}
+use Rattle.hp_model.specs.declared.entry.Receipt.{Receipt}
 use Rattle.hp_model.specs.machine.State.{State}
 use Rattle.hp_server.specs.Left as left
 use Rattle.hp_serving.specs.Ended.{LeavesAsked}
+use Rattle.hp_serving.specs.Session.{IsOfConnection}
 use Rattle.hp_serving.specs.declared.host.Closed.{Closed}
 use Rattle.hp_serving.specs.declared.sessions.Ended.{Ended}
 use Rattle.hp_serving.specs.declared.sessions.Ended.TheVariants.{Printed, Unprinted, Failed}
+use Rattle.hp_sessions.specs.Calls.{IsCallAnswered, SessionView}
 use Rattle.hp_closing.specs.Joined.{WasJoined}
 use Rattle.hp_words.specs.Config.{MachineChoice, chosen}
-use Rattle.hp_program.specs.Program.{MayBeLeft}
+use Rattle.hp_program.specs.Program.{IsToldOn, MayBeLeft}
 use Rattle.hp_words.specs.declared.settings.Serving.{Serving}
 
-pub leaves : (A B : Closed → Type 0) (ended : Ended) → ((x : Closed) → A x → B x) → LeavesAsked A ended → LeavesAsked B ended
-leaves A B (Printed closed) more left = more closed left
-leaves A B (Unprinted closed) more left = more closed left
-leaves A B (Failed fault) more left = tt
+-- what sessions were told and what is left, both seen otherwise
+pub leaves : {S T : Type 0} (f : S → T) (A : S → Type 0) (B : T → Type 0) (L : List S → Closed → Type 0) (M : List T → Closed → Type 0) (ended : Ended)
+    → ((x : S) → A x → B (f x)) → ((told : List S) (x : Closed) → L told x → M (map f told) x) → LeavesAsked A L ended → LeavesAsked B M ended
+leaves f A B L M (Printed closed) one all left = (map f left.0, All-map B f left.0 (λ k d within. one _ (left.1 k d within)), all left.0 closed left.2)
+leaves f A B L M (Unprinted closed) one all left = (map f left.0, All-map B f left.0 (λ k d within. one _ (left.1 k d within)), all left.0 closed left.2)
+leaves f A B L M (Failed fault) one all left = tt
 
 -- a machine that started as the one that was asked for
-pub as_asked : (c : MachineChoice) (s : Serving) (keeps : ℕ) (machine : State) → machine ≡ chosen c → (keeps == 1) ≡ nat_lt 0 s.room → (x : Closed)
-    → left.MayLeave keeps machine x → MayBeLeft c s x
-as_asked c s keeps machine same kept x h = record {
+pub as_asked : (c : MachineChoice) (s : Serving) (keeps : ℕ) (machine : State) → machine ≡ chosen c → (keeps == 1) ≡ nat_lt 0 s.room
+    → (told : List (List Receipt)) (x : Closed) → left.MayLeave keeps machine told x → MayBeLeft c s told x
+as_asked c s keeps machine same kept told x h = record {
   page = h.page ∙ ap (λ (m : State). m.page_size) same;
-  audited = h.audited ∙ kept;
-  joined = λ joined.
-      let j = h.joined joined in
-      (j.0, subst (λ (m : State). WasJoined m j.0 x.counts) same j.1);
+  audited = λ fits. h.audited fits ∙ kept;
+  joined = λ fits. subst (λ (m : State). WasJoined m told x.counts) same (h.joined fits);
 }
+
+-- a session on it
+pub told_on : (c : MachineChoice) (s : Serving) (kept : Bool) (size : ℕ) → kept ≡ nat_lt 0 s.room → size ≡ c.page → (receipts : List Receipt)
+    → IsOfConnection {SessionView} (λ session. session.receipts ≡ []) (λ session told. told ≡ session.receipts) (IsCallAnswered kept size) (λ session. size) receipts
+    → IsToldOn c s receipts
+told_on c s kept size keeps bytes receipts h = (let one = keeps in let other = bytes in rw (sym one, sym other) h)
