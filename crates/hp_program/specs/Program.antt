@@ -119,7 +119,7 @@ pub record Refuses {W : Type 0} (contents : W → Option (List ℕ)) (is_sure : 
 -- then.
 abbrev pub IsToldOn : MachineChoice → Serving → List Receipt → Type 0
 IsToldOn c s receipts =
-    IsOfConnection {SessionView} (λ session. session.receipts ≡ []) (λ session told. told ≡ session.receipts) (IsCallAnswered (nat_lt 0 s.room) c.page)
+    IsOfConnection {S = SessionView} (λ session. session.receipts ≡ []) (λ session told. told ≡ session.receipts) (IsCallAnswered (nat_lt 0 s.room) c.page)
     (λ session. c.page) receipts
 
 -- What may be left of the machine that was asked for, once it is closed with what its sessions were told. Unless that was

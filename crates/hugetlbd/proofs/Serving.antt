@@ -33,6 +33,6 @@ as_asked c s keeps machine same kept told x h = record {
 
 -- a session on it
 pub told_on : (c : MachineChoice) (s : Serving) (kept : Bool) (size : ℕ) → kept ≡ nat_lt 0 s.room → size ≡ c.page → (receipts : List Receipt)
-    → IsOfConnection {SessionView} (λ session. session.receipts ≡ []) (λ session told. told ≡ session.receipts) (IsCallAnswered kept size) (λ session. size) receipts
+    → IsOfConnection {S = SessionView} (λ session. session.receipts ≡ []) (λ session told. told ≡ session.receipts) (IsCallAnswered kept size) (λ session. size) receipts
     → IsToldOn c s receipts
 told_on c s kept size keeps bytes receipts h = (let one = keeps in let other = bytes in rw (sym one, sym other) h)
