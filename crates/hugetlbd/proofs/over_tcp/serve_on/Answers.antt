@@ -22,7 +22,7 @@ returns g c =
     record {
       ended = e.0;
       leaves = leaves (λ (one : ToldView). one.receipts) _ _ _ _ e.0 (λ one. told_on _ _ _ _ c.requires.keeps c.requires.bytes one.receipts)
-      (λ told. as_asked (choice_of c.args.machine.now) c.args.serving _ _ same c.requires.keeps (map (λ (one : ToldView). one.receipts) told)) e.1;
+          (λ told. as_asked (choice_of c.args.machine.now) c.args.serving _ _ same c.requires.keeps (map (λ (one : ToldView). one.receipts) told)) e.1;
       ends = e.2;
       prints = e.3;
       says = e.4;
