@@ -34,7 +34,7 @@ state_is end size table xs p slots pool =
 settled_so : (s : State) (size : ℕ) (table : Table) → IsSettledState s → IsSettledState (with_other s size table)
 settled_so s size table h = record { pool = h.pool; used = h.used; homed = h.homed; slots = h.slots; nodes = h.nodes }
 
-ready_at : (s end : State) (t : Trails) (m : Machine) → EndsRuns s t m → IsSettledState end → HasParts end (length s.slots) m.state.table (slot_at m.state) m.pool → IsReadyMachine m
+pub ready_at : (s end : State) (t : Trails) (m : Machine) → EndsRuns s t m → IsSettledState end → HasParts end (length s.slots) m.state.table (slot_at m.state) m.pool → IsReadyMachine m
 ready_at s end t m ends settled has =
     let same : end.slots ≡ m.state.slots = ext_get_or None end.slots m.state.slots (has.count ∙ sym ends.count) (λ k below. has.slots k (omega (arith, below, has.count))) in
     let is : m.state ≡ with_other end m.state.page_size m.state.table =

@@ -1,2 +1,3 @@
+pub mod Forking
 pub mod Handed
 pub mod Held

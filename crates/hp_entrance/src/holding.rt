@@ -1,70 +1,40 @@
-//! What is asked of a slot while its lock is held, where no entries are kept.
-ghost use Rattle.std.specs.Prelude.{◌≡◌, ◌==◌, ◌≤◌, None, false, true, length, IfNone, IfSome};
-ghost use Rattle.hp_laws.specs.Answers.{lists_names};
-ghost use Rattle.hp_model.specs.beside.Told.{told_reply};
-ghost use Rattle.hp_model.specs.declared.event.Event.TheVariants.{Slot as OnSlot};
+//! Loads and stores that are done while their slot's lock is held, where no entries are kept.
+ghost use Rattle.std.specs.Prelude.{◌≡◌, ◌==◌, ◌≤◌, false, length, IfNone, IfSome, true};
 ghost use Rattle.hp_model.specs.Profile.{most_bytes};
-ghost use Rattle.hp_model.specs.text.Writing.{IsWithinLimits};
-ghost use Rattle.hp_events.specs.Event.{event_of, shows_bytes};
-ghost use Rattle.hp_parts.specs.Answered.{IsHanded};
 ghost use Rattle.hp_parts.specs.Queues.{AreFirstHanded, IsAccessHanded};
 
-use crate::asking::noted;
-use crate::entrance::Entrance;
+use crate::member::Member;
 use hp_events::MountEvent;
-use hp_homes::Noted;
-use hp_locked::{Door, Gate};
-use hp_model::entry::SlotEntry;
+use hp_history::Places;
+use hp_locked::Gate;
+use hp_model::entry::{PoolEntry, SlotEntry};
 use hp_model::naming::Naming;
 use hp_model::queued::{Doing, Queued};
-use hp_model::refusal::Refusal;
-use hp_model::told::Told;
-use hp_parts::{TableTold, into_bytes, into_done};
-use hp_shared::Slot;
+use hp_parts::{into_bytes, into_done};
+use hp_shared::{SeatedSlot, Shared, Ways};
 use hp_trail::trace::Trace;
 use std::sync::Wait;
 
-// An event of a mount, and whether it entered the pool.
-#[inline(always)]
-pub(crate) fn held_event<'b, N: Naming + Noted, R: Wait, G: Gate, const K: usize>(
-    entrance: &Entrance<'_, N, R, G, K>,
-    slot: &mut Slot<N, Trace<SlotEntry, K>>,
-    at: usize,
-    home: u64,
-    event: MountEvent<'_>,
-    room: &'b mut [u8],
-) -> (Result<Told<'b>, Refusal>, bool)
-    requires unkept { (K == 1) ≡ false }
-    requires number { slot.old.number ≡ at }
-    requires room { shows_bytes event ≡ true → most_bytes ≤ length room.old }
-    requires apart { lists_names (event_of home event) ≡ false }
-    ensures handed { IsHanded (K == 1) N.page_bytes (OnSlot at (event_of home event.entry))
-        (told_reply result.0) None }
-    ensures limits { IsWithinLimits (told_reply result.0) }
-    ensures number { slot.new.number ≡ slot.old.number }
-{
-    let shared = entrance.shared;
-    let mut door = Door::new(entrance.rt, entrance.gate, shared.core(), shared.nodes());
-    let told = slot.event_unnoted(&mut door, shared.page_bytes(), home, event, room);
-    (told, door.asked_section().is_some())
-}
-
 // The first loads and stores of a queue, up to one of another slot or of a task that is not noted, or behind one that entered
 // the pool: so that nobody waits long for the slot. How many were done.
-pub(crate) fn held_accesses<N: Naming + Noted, R: Wait, G: Gate, const K: usize>(
-    entrance: &Entrance<'_, N, R, G, K>,
-    slot: &mut Slot<N, Trace<SlotEntry, K>>,
+pub(crate) fn held_accesses<N: Naming + Places, R: Wait, G: Gate, const K: usize>(
+    shared: &Shared<N, K>,
+    ways: &Ways<'_, N, R, G, Trace<PoolEntry, K>>,
+    member: &mut Member<N, K>,
+    slot: &mut SeatedSlot<N, Trace<SlotEntry, K>>,
     at: usize,
     queue: &mut [Queued],
     room: &mut [u8],
 ) -> usize
     requires unkept { (K == 1) ≡ false }
-    requires number { slot.old.number ≡ at }
+    requires number { slot.old.slot.number ≡ at }
     requires room { most_bytes ≤ length room.old }
-    ensures { AreFirstHanded N.page_bytes at result queue.old queue.new }
+    ensures first { AreFirstHanded N.page_bytes at result queue.old queue.new
+        member.old.receipts member.new.receipts }
+    ensures room { member.new.room ≡ member.old.room }
 {
     for done in 0..queue.len() {
-        match held_access(entrance, slot, at, &mut queue[done], room) {
+        match held_access(shared, ways, member, slot, at, &mut queue[done], room) {
             None => return done,
             Some(true) => return done + 1,
             Some(false) => {}
@@ -75,28 +45,31 @@ pub(crate) fn held_accesses<N: Naming + Noted, R: Wait, G: Gate, const K: usize>
 
 // A load or a store that waits, if it is one of this slot and its task is noted: whether it entered the pool.
 #[inline(always)]
-fn held_access<N: Naming + Noted, R: Wait, G: Gate, const K: usize>(
-    entrance: &Entrance<'_, N, R, G, K>,
-    slot: &mut Slot<N, Trace<SlotEntry, K>>,
+fn held_access<N: Naming + Places, R: Wait, G: Gate, const K: usize>(
+    shared: &Shared<N, K>,
+    ways: &Ways<'_, N, R, G, Trace<PoolEntry, K>>,
+    member: &mut Member<N, K>,
+    slot: &mut SeatedSlot<N, Trace<SlotEntry, K>>,
     at: usize,
     queued: &mut Queued,
     room: &mut [u8],
 ) -> Option<bool>
     requires unkept { (K == 1) ≡ false }
-    requires number { slot.old.number ≡ at }
+    requires number { slot.old.slot.number ≡ at }
     requires room { most_bytes ≤ length room.old }
-    ensures done { IfSome result (λ entered.
-        IsAccessHanded N.page_bytes at queued.old.step queued.new.reply) }
+    ensures done { IfSome result (λ entered. IsAccessHanded N.page_bytes at queued.old.step
+        queued.new.reply member.old.receipts member.new.receipts) }
     ensures left { IfNone result (queued.new ≡ queued.old) }
-    ensures number { slot.new.number ≡ slot.old.number }
+    ensures untold { IfNone result (member.new.receipts ≡ member.old.receipts) }
+    ensures number { slot.new.slot.number ≡ slot.old.slot.number }
+    ensures room { member.new.room ≡ member.old.room }
 {
     let access = *queued.access();
     if access.slot != at as u64 {
         return None;
     }
-    let Some(TableTold::Home(home)) = noted(entrance.shared, access.task) else {
-        return None;
-    };
+    let home = member.look(shared.history(), access.task)?;
+    let page_bytes = shared.page_bytes();
     match queued.doing() {
         Doing::Load { count } => {
             let event = MountEvent::Load {
@@ -106,7 +79,7 @@ fn held_access<N: Naming + Noted, R: Wait, G: Gate, const K: usize>(
                 offset: access.offset,
                 count,
             };
-            let (told, entered) = held_event(entrance, slot, at, home, event, room);
+            let (told, entered) = member.unnoted(ways, slot, page_bytes, home, event, room);
             queued.answer_load(into_bytes(told));
             Some(entered)
         }
@@ -118,7 +91,7 @@ fn held_access<N: Naming + Noted, R: Wait, G: Gate, const K: usize>(
                 offset: access.offset,
                 bytes,
             };
-            let (told, entered) = held_event(entrance, slot, at, home, event, &mut []);
+            let (told, entered) = member.unnoted(ways, slot, page_bytes, home, event, &mut []);
             queued.answer_store(into_done(told));
             Some(entered)
         }

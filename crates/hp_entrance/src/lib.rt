@@ -4,5 +4,7 @@
 mod asking;
 mod entrance;
 mod holding;
+mod member;
 
 pub use entrance::Entrance;
+pub use member::Member;

@@ -23,7 +23,11 @@ use Rattle.hp_model.specs.pool.Pool.{granted_at, no_pages}
 use Rattle.hp_subpool.specs.Subpool.{Subpool}
 use Rattle.std.specs.Bool.{MatchBool}
 use Rattle.hp_trail.specs.Keeping.{has_room, one_less, with_entry}
-use Rattle.hp_locked.specs.Views.{IsFresh, Asks, HasPlaces, IsAnswered, CoreView, IsCore, IsGiven, IsPlace, IsPoolTrail}
+use Rattle.hp_locked.specs.Views.{DoorView, IsFresh, Asks, HasPlaces, IsAnswered, CoreView, IsCore, IsGiven, IsPlace, IsPoolTrail, IsSeated, IsTrailOf}
+use Rattle.atomic_table.specs.Seated.{TableId}
+use Rattle.hp_history.specs.declared.held.Held.{Held}
+use Rattle.hp_history.specs.declared.held.Held.TheVariants.{Pool as PoolPart}
+use Rattle.hp_history.specs.Sections.{IsEntered, pool_in, pool_next, pool_view}
 use Rattle.hp_model.specs.threads.Closing.{to_return}
 use Rattle.hp_laws.proofs.settled.Closing.{most_return, step_frames}
 use Rattle.hp_laws.proofs.sections.Lengths.{long_event}
@@ -129,14 +133,56 @@ pub section_noted : (start : Pool) (o o2 : Option (List PoolEntry)) (left left2 
 section_noted start o o2 left left2 extra extra2 p s a q core noted lessens stays step ready law room =
     entry_noted start o o2 left left2 extra extra2 p (OfSlot s a) q core noted lessens stays step ready law room
 
+-- the pool's seat, once it has an entry more
+pub seated_more : (history : TableId) (start : Pool) (id id2 : TableId) (views views2 : List (List Held)) (o o2 : Option (List PoolEntry)) (p : Pool) (e : PoolEntry) (q : Pool) →
+    IsSeated history start id views o p → o2 ≡ with_entry o e → id2 ≡ history → views2 ≡ (PoolPart (pool_in views ++ e ∷ []) ∷ []) ∷ [] → IsPoolStep p e q
+    → IsSeated history start id2 views2 o2 q
+seated_more history start id id2 views views2 o o2 p e q was noted named now step = record {
+  named = named;
+  one = now ∙ ap (λ vs. pool_view vs ∷ []) (sym now);
+  run = subst (λ vs. IsPoolRun start (pool_in vs) q) (sym now) (pool_push start (pool_in views) p e q was.run step);
+  kept = subst (λ vs. IsTrailOf (pool_in vs) o2) (sym now) (subst (λ (x : Option (List PoolEntry)). IsTrailOf (pool_in views ++ e ∷ []) x) (sym noted) (more o was.kept));
+}
+  where
+    more : (o : Option (List PoolEntry)) → IsTrailOf (pool_in views) o → IsTrailOf (pool_in views ++ e ∷ []) (with_entry o e)
+    more None kept = tt
+    more (Some es) kept = ap (λ (xs : List PoolEntry). xs ++ e ∷ []) kept
+
+-- the same seat
+pub seated_stays : (history : TableId) (start : Pool) (id id2 : TableId) (views views2 : List (List Held)) (o o2 : Option (List PoolEntry)) (p q : Pool) →
+    IsSeated history start id views o p → o2 ≡ o → id2 ≡ history → views2 ≡ views → q ≡ p → IsSeated history start id2 views2 o2 q
+seated_stays history start id id2 views views2 o o2 p q was same named stays is = record {
+  named = named;
+  one = stays ∙ was.one ∙ ap (λ vs. pool_view vs ∷ []) (sym stays);
+  run = subst (λ vs. IsPoolRun start (pool_in vs) q) (sym stays) (subst (λ (x : Pool). IsPoolRun start (pool_in views) x) (sym is) was.run);
+  kept = subst (λ vs. IsTrailOf (pool_in vs) o2) (sym stays) (subst (λ (x : Option (List PoolEntry)). IsTrailOf (pool_in views) x) (sym same) was.kept);
+}
+
+pub fresh_seat : (history : TableId) (fs : List ℕ) (id : TableId) (views : List (List Held)) (o : Option (List PoolEntry)) (p : Pool) → p ≡ idle_pool fs → id ≡ history
+    → views ≡ (PoolPart [] ∷ []) ∷ [] → IsFresh o → IsSeated history (idle_pool fs) id views o p
+fresh_seat history fs id views o p is named one fresh = record {
+  named = named;
+  one = one ∙ ap (λ vs. pool_view vs ∷ []) (sym one);
+  run = subst (λ vs. IsPoolRun (idle_pool fs) (pool_in vs) p) (sym one) (sym is);
+  kept = subst (λ vs. IsTrailOf (pool_in vs) o) (sym one) (none o fresh);
+}
+  where
+    none : (o : Option (List PoolEntry)) → IsFresh o → IsTrailOf [] o
+    none None fresh = tt
+    none (Some es) fresh = fresh
+
 -- what was given back, noted
-module _ {X : Type 0} (E : X → Option (List PoolEntry)) (L : X → Option ℕ) (R : X → ℕ) (old new : X) (puts : List ℕ) (k : ℕ) (p q : Pool) where
-  abbrev view : Pool → X → CoreView
-  view p t = record { pool = p; entries = E t; left = L t; extra = R t }
+module _ {X : Type 0} (E : X → Option (List PoolEntry)) (L : X → Option ℕ) (R : X → ℕ) (old new : X) (before after : List (List Held)) (puts : List ℕ) (k : ℕ) (p q : Pool) where
+  abbrev view : Pool → X → List (List Held) → CoreView
+  view p t vs = record { pool = p; run = pool_in vs; entries = E t; left = L t; extra = R t }
 
   abbrev Noted : List ℕ → ℕ → Asked → Type 0
   Noted counts m a = (a.section ≡ GiveBack counts m) × (a.answer ≡ granted_at 0) × IsPlace (E old) a.place
       × (E new ≡ with_entry (E old) (OfSlot a.section a.answer)) × (0 < sum counts + m) × (L new ≡ one_less (L old)) × (R new ≡ R old)
+      × (after ≡ (pool_next a (pool_in before) ∷ []) ∷ [])
+
+  abbrev Unnoted : ℕ → Type 0
+  Unnoted n = (new ≡ old) × (n ≡ 0) × (after ≡ before)
 
   -- the section as it is said of the pool
   gave : (a : Asked) → q ≡ settled (released k (puts_from 0 puts p)) → Noted puts k a → section p a.section ≡ (a.answer, q)
@@ -145,31 +191,39 @@ module _ {X : Type 0} (E : X → Option (List PoolEntry)) (L : X → Option ℕ)
   noted_as : (counts : List ℕ) (m : ℕ) (t : Option Asked) → counts ≡ puts → m ≡ k → IfSome t (λ a. Noted counts m a) → IfSome t (λ a. Noted puts k a)
   noted_as counts m t same falls n = subst (λ (x : List ℕ). IfSome t (λ a. Noted x k a)) same (subst (λ (x : ℕ). IfSome t (λ a. Noted counts x a)) falls n)
 
-  none_as : (counts : List ℕ) (m : ℕ) (t : Option Asked) → counts ≡ puts → m ≡ k → IfNone t ((new ≡ old) × (sum counts + m ≡ 0)) → IfNone t ((new ≡ old) × (sum puts + k ≡ 0))
-  none_as counts m t same falls n = subst (λ (x : List ℕ). IfNone t ((new ≡ old) × (sum x + k ≡ 0))) same (subst (λ (x : ℕ). IfNone t ((new ≡ old) × (sum counts + x ≡ 0))) falls n)
+  none_as : (counts : List ℕ) (m : ℕ) (t : Option Asked) → counts ≡ puts → m ≡ k → IfNone t (Unnoted (sum counts + m)) → IfNone t (Unnoted (sum puts + k))
+  none_as counts m t same falls n = subst (λ (x : List ℕ). IfNone t (Unnoted (sum x + k))) same (subst (λ (x : ℕ). IfNone t (Unnoted (sum counts + x))) falls n)
 
   keeps : (start : Pool) (t : Option Asked) → IsCore start (E old) (L old) (R old) p → q ≡ settled (released k (puts_from 0 puts p)) →
       (sum puts + k ≡ 0 → q ≡ p) → IsReady q → (IsSettled q → IsSettledPool q)
       → (0 < sum puts + k → to_return q < to_return p)
-      → IfSome t (λ a. Noted puts k a) → IfNone t ((new ≡ old) × (sum puts + k ≡ 0)) → IsCore start (E new) (L new) (R new) q
+      → IfSome t (λ a. Noted puts k a) → IfNone t (Unnoted (sum puts + k)) → IsCore start (E new) (L new) (R new) q
   keeps start (Some a) core moved stays ready law less n none =
       given_back start (E old) (E new) (L old) (L new) (R old) (R new) p (OfSlot a.section a.answer) q core n.3 n.5 n.6 (gave a moved n) ready law (less n.4)
   keeps start None core moved stays ready law less n none =
       subst (λ (x : Pool). IsCore start (E new) (L new) (R new) x) (sym (stays none.1)) (subst (λ (x : X). IsCore start (E x) (L x) (R x) p) (sym none.0) core)
 
   is_given : (t : Option Asked) → q ≡ settled (released k (puts_from 0 puts p)) → (sum puts + k ≡ 0 → q ≡ p) → IfSome t (λ a. Noted puts k a) →
-      IfNone t ((new ≡ old) × (sum puts + k ≡ 0)) → IsGiven puts k (view p old) (view q new) t
-  is_given (Some a) moved stays n none = (record { changes = gave a moved n; entries = n.3; place = n.2 }, n.0, n.1, n.4)
-  is_given None moved stays n none = (ap (λ x. view x new) (stays none.1) ∙ ap (view p) none.0, none.1)
+      IfNone t (Unnoted (sum puts + k)) → IsGiven puts k (view p old before) (view q new after) t
+  is_given (Some a) moved stays n none = (record { changes = gave a moved n; run = ap pool_in n.7; entries = n.3; place = n.2 }, n.0, n.1, n.4)
+  is_given None moved stays n none = (ap (λ x. view x new after) (stays none.1) ∙ ap (λ x. view p x after) none.0 ∙ ap (view p old) none.2, none.1)
+
+  seats : (history : TableId) (start : Pool) (id id2 : TableId) (t : Option Asked) → IsSeated history start id before (E old) p → id2 ≡ history → q ≡ settled (released k (puts_from 0 puts p))
+      → (sum puts + k ≡ 0 → q ≡ p) → IfSome t (λ a. Noted puts k a) → IfNone t (Unnoted (sum puts + k)) → IsSeated history start id2 after (E new) q
+  seats history start id id2 (Some a) was named moved stays n none = seated_more history start id id2 before after (E old) (E new) p (OfSlot a.section a.answer) q was n.3 named n.7 (gave a moved n)
+  seats history start id id2 None was named moved stays n none = seated_stays history start id id2 before after (E old) (E new) p q was (ap E none.0) named none.2 (stays none.1)
 
   module _ (counts : List ℕ) (m : ℕ) (same : counts ≡ puts) (falls : m ≡ k) (moved : q ≡ settled (released k (puts_from 0 puts p)))
       (stays : sum puts + k ≡ 0 → q ≡ p) (t : Option Asked) (n : IfSome t (λ a. Noted counts m a))
-      (none : IfNone t ((new ≡ old) × (sum counts + m ≡ 0))) where
+      (none : IfNone t (Unnoted (sum counts + m))) where
     pub given_noted : (start : Pool) → IsCore start (E old) (L old) (R old) p → IsReady q → (IsSettled q → IsSettledPool q) →
         (0 < sum puts + k → to_return q < to_return p) → IsCore start (E new) (L new) (R new) q
     given_noted start core ready law less = keeps start t core moved stays ready law less (noted_as counts m t same falls n) (none_as counts m t same falls none)
 
-    pub given_is : IsGiven puts k (view p old) (view q new) t
+    pub given_seated : (history : TableId) (start : Pool) (id id2 : TableId) → IsSeated history start id before (E old) p → id2 ≡ history → IsSeated history start id2 after (E new) q
+    given_seated history start id id2 was named = seats history start id id2 t was named moved stays (noted_as counts m t same falls n) (none_as counts m t same falls none)
+
+    pub given_is : IsGiven puts k (view p old before) (view q new after) t
     given_is = is_given t moved stays (noted_as counts m t same falls n) (none_as counts m t same falls none)
 
 -- what gives back has room
@@ -181,16 +235,18 @@ may_note start o l extra p q puts counts k m core same falls less some =
     has_place l extra (to_return p) core.places (omega (arith, few))
 
 -- what a door asked, as it is said of doors
-module _ {X : Type 0} (asked : X → Option Asked) (d e : X) (pages : List Page) (k : ℕ) (old new : CoreView) where
-  door_is : (t : Option Asked) → IsGiven (by_node pages) k old new t → asked e ≡ t → (t ≡ None → e ≡ d) → GivesBack (λ x s a y. Asks (asked y) s a) pages k d e
-  door_is None given is stays = record { some = λ l. absurd (omega (arith, l, given.1)); none = λ z. stays refl }
-  door_is (Some a) given is stays = record {
-    some = λ l. subst (λ (o : Option Asked). Asks o (GiveBack (by_node pages) k) (granted_at 0)) (sym is) (asks_it a (GiveBack (by_node pages) k) (granted_at 0) given.1 given.2);
+module _ {X : Type 0} (kept : Bool) (asked : X → Option Asked) (mine : X → List Held) (d e : X) (pages : List Page) (k : ℕ) (old new : CoreView) where
+  door_is : (t : Option Asked) → IsGiven (by_node pages) k old new t → asked e ≡ t → (t ≡ None → e ≡ d) → IsEntered kept (mine d) t (mine e)
+      → GivesBack (λ x s a y. Asks (asked y) s a × IsEntered kept (mine x) (asked y) (mine y)) pages k d e
+  door_is None given is stays went = record { some = λ l. absurd (omega (arith, l, given.1)); none = λ z. stays refl }
+  door_is (Some a) given is stays went = record {
+    some = λ l. subst (λ (o : Option Asked). Asks o (GiveBack (by_node pages) k) (granted_at 0) × IsEntered kept (mine d) o (mine e)) (sym is)
+        (asks_it a (GiveBack (by_node pages) k) (granted_at 0) given.1 given.2, went);
     none = λ z. absurd (let l = given.3 in omega (arith, l, z));
   }
 
   pub door_gives : (puts : List ℕ) (m : ℕ) (t : Option Asked) → puts ≡ by_node pages → m ≡ k → IsGiven puts m old new t → asked e ≡ t →
-      (t ≡ None → e ≡ d) → GivesBack (λ x s a y. Asks (asked y) s a) pages k d e
+      (t ≡ None → e ≡ d) → IsEntered kept (mine d) t (mine e) → GivesBack (λ x s a y. Asks (asked y) s a × IsEntered kept (mine x) (asked y) (mine y)) pages k d e
   door_gives puts m t same falls given = door_is t (subst (λ (x : List ℕ). IsGiven x k old new t) same (subst (λ (x : ℕ). IsGiven puts x old new t) falls given))
 
 -- an event leaves the pool ready
@@ -204,13 +260,12 @@ event_ready p q e r step ready is =
 pub set_ready : (p q : Pool) (n : ℕ) → q ≡ set_nr n p → IsReady p → IsSettled q → IsReady q
 set_ready p q n is ready = event_ready p q (Nr n) (Ok (Number (set_nr n p).nr)) (ap (λ (x : Pool). (Ok (Number (set_nr n p).nr), x)) (sym is)) ready
 
--- where no entries are kept
-pub unnoted : (o : Option (List PoolEntry)) (e : PoolEntry) → is_some o ≡ false → o ≡ with_entry o e
-unnoted None e unkept = refl
-unnoted (Some es) e unkept = cc
+-- where the trail is kept, the place that is told of an entry is that in the history
+pub place_kept : (k : Bool) (o : Option (List PoolEntry)) (run : List PoolEntry) (place : ℕ)
+    → is_some o ≡ k → IsTrailOf run o → ((es : List PoolEntry) → o ≡ Some es → place ≡ length es) → k ≡ true → place ≡ length run
+place_kept k None run place kept is at on = absurd (let no = kept in cc)
+place_kept k (Some es) run place kept is at on = at es refl ∙ ap length is
 
-pub unnoted_stays : (start : Pool) (o : Option (List PoolEntry)) (left : Option ℕ) (extra : ℕ) (p : Pool) (e : PoolEntry) (q : Pool) → IsCore start o left extra p → IsPoolStep p e q →
-    IsReady q → (IsSettled q → IsSettledPool q) → is_some o ≡ false → left ≡ None → IsCore start o left extra q
-unnoted_stays start o left extra p e q core step ready law unkept uncounted =
-    entry_noted start o o left left extra extra p e q core (unnoted o e unkept) (uncounted ∙ sym (ap one_less uncounted)) refl step ready law
-    (ap (λ (l : Option ℕ). has_room false l extra) uncounted)
+-- what a door's seat had and has, by the door's view
+pub went_by : (kept : Bool) (v d : DoorView) (t : Option Asked) (w : List Held) → v ≡ d → IsEntered kept v.mine t w → IsEntered kept d.mine t w
+went_by kept v d t w is went = subst (λ (x : DoorView). IsEntered kept x.mine t w) is went

@@ -1,5 +1,5 @@
 -- What a part under a lock tells of an event.
-use Rattle.std.specs.Prelude.{◌≡◌, Ok, Err, Option, None, Some, List, is_some, true}
+use Rattle.std.specs.Prelude.{◌≡◌, ◌++◌, [], ◌∷◌, Ok, Err, Option, None, Some, List, is_some, true}
 use Rattle.hp_model.specs.declared.answer.Answer.TheVariants as answer
 use Rattle.hp_model.specs.declared.entry.Part.{Part}
 use Rattle.hp_model.specs.declared.entry.PoolEntry.TheVariants.{OfPool}
@@ -30,4 +30,5 @@ IsReceipt entries part e reply (Some r) =
 -- an event of the pool changed its numbers, with this reply, and added its entry
 pub record IsPoolEventDone (old new : CoreView) (e : PoolEvent) (reply : Reply) : Type 0 where
   pub changes : pool_event old.pool e ≡ (reply, new.pool)
+  pub run : new.run ≡ old.run ++ OfPool e reply ∷ []
   pub entries : new.entries ≡ with_entry old.entries (OfPool e reply)

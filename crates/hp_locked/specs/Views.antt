@@ -1,5 +1,5 @@
 -- What the pool under its lock is to a contract.
-use Rattle.std.specs.Prelude.{[], ◌∷◌, ◌≡◌, ℕ, ◌+◌, ◌*◌, ◌<◌, ◌≤◌, Option, None, Some, List, length, nat_lt}
+use Rattle.std.specs.Prelude.{[], ◌∷◌, ◌++◌, ◌≡◌, ℕ, ◌+◌, ◌*◌, ◌<◌, ◌≤◌, Option, None, Some, List, length, nat_lt}
 use Rattle.std.specs.Bool.{MatchBool}
 use Rattle.std.specs.List.{filter, sum}
 use Rattle.hp_model.specs.declared.entry.Asked.{Asked}
@@ -16,15 +16,19 @@ use Rattle.hp_model.specs.threads.Closing.{to_return}
 use Rattle.hp_model.specs.threads.PoolRun.{IsPoolRun}
 use Rattle.hp_mount_door.specs.Door.{IsReady}
 use Rattle.hp_subpool.specs.Subpool.{Subpool, rise, with_reserves}
+use Rattle.atomic_table.specs.Seated.{TableId}
+use Rattle.hp_history.specs.declared.held.Held.{Held}
+use Rattle.hp_history.specs.Sections.{pool_in, pool_view}
 use Rattle.hp_trail.specs.Keeping.{with_entry}
 
 -- the frames of each node that a machine has: of its four names of nodes those with some
 abbrev pub frames_list : (ℕ → ℕ) → List ℕ
 frames_list frames = filter (λ n. nat_lt 0 n) (frames 0 ∷ frames 1 ∷ frames 2 ∷ frames 3 ∷ [])
 
--- the pool's numbers, with its trail if that is kept and the places left there
+-- the pool's numbers, its trail as the history has it, and as it is kept, if it is, with the places left there
 pub record CoreView : Type 0 where
   pub pool : Pool
+  pub run : List PoolEntry
   pub entries : Option (List PoolEntry)
   pub left : Option ℕ
   pub extra : ℕ
@@ -48,6 +52,18 @@ pub record IsCore (start : Pool) (entries : Option (List PoolEntry)) (left : Opt
   pub enough : 2 * frames_of start.nodes.rows ≤ extra
   pub places : HasPlaces left (to_return p)
 
+-- where the trail is kept it is this one
+abbrev pub IsTrailOf : {E : Type 0} → List E → Option (List E) → Type 0
+IsTrailOf run None = Unit {0}
+IsTrailOf run (Some es) = es ≡ run
+
+-- the pool's seat in the history has its trail, which is a run of it from the start to these numbers
+pub record IsSeated (history : TableId) (start : Pool) (id : TableId) (views : List (List Held)) (entries : Option (List PoolEntry)) (p : Pool) : Type 0 where
+  pub named : id ≡ history
+  pub one : views ≡ pool_view views ∷ []
+  pub run : IsPoolRun start (pool_in views) p
+  pub kept : IsTrailOf (pool_in views) entries
+
 -- what is told of the place of an entry
 abbrev pub IsPlace : {E : Type 0} → Option (List E) → ℕ → Type 0
 IsPlace None n = n ≡ 0
@@ -56,6 +72,7 @@ IsPlace (Some es) n = n ≡ length es
 -- a section added its entry, changed the numbers by it, and gave its answer and its place
 pub record IsSection (old new : CoreView) (asked : Asked) : Type 0 where
   pub changes : section old.pool asked.section ≡ (asked.answer, new.pool)
+  pub run : new.run ≡ old.run ++ OfSlot asked.section asked.answer ∷ []
   pub entries : new.entries ≡ with_entry old.entries (OfSlot asked.section asked.answer)
   pub place : IsPlace old.entries asked.place
 
@@ -74,6 +91,11 @@ abbrev pub IsGiven : (puts : List ℕ) → (commitments : ℕ) → (old new : Co
 IsGiven puts commitments old new None = (new ≡ old) × (sum puts + commitments ≡ 0)
 IsGiven puts commitments old new (Some a) =
     IsSection old new a × (a.section ≡ GiveBack puts commitments) × (a.answer ≡ granted_at 0) × (0 < sum puts + commitments)
+
+-- the section that an event entered, and what its seat has of the history
+pub record DoorView : Type 0 where
+  pub asked : Option Asked
+  pub mine : List Held
 
 -- this section, so answered, at some place
 abbrev pub Asks : Option Asked → Section → PoolAnswer → Type 0

@@ -1,5 +1,7 @@
 //! A session's door to the pool under its lock.
-ghost use Rattle.std.specs.Prelude.{◌≡◌, ◌<◌, ℕ, None, Option, true, []};
+ghost use Rattle.std.specs.Prelude.{◌≡◌, ◌<◌, ℕ, Bool, List, None, Option, Some, true, []};
+ghost use Rattle.hp_history.specs.declared.held.Held.{Held};
+ghost use Rattle.hp_history.specs.Sections.{IsEntered, IsFree};
 ghost use Rattle.hp_model.specs.declared.entry.Asked.{Asked as AskedValue};
 ghost use Rattle.hp_model.specs.declared.section.PoolAnswer.{PoolAnswer};
 ghost use Rattle.hp_model.specs.declared.section.Section.{Section};
@@ -10,6 +12,7 @@ ghost use Rattle.hp_locked.specs.Views.{Asks};
 use crate::gate::Gate;
 use crate::nodes::NodeLocks;
 use crate::pool_core::Core;
+use hp_history::{History, Places, Token};
 use hp_model::entry::{Asked, PoolEntry};
 use hp_model::limits::Limits;
 use hp_model::naming::Naming;
@@ -19,33 +22,73 @@ use hp_nodes::Page;
 use hp_store::{PageBatch, PageStore};
 use hp_subpool::Subpool;
 use hp_trail::trail::Trail;
+use std::marker::Model;
 use std::sync::{Mutex, Wait};
 
-/// The pool and the frames behind their locks, and the section that this event entered.
+/// The pool and the frames behind their locks, and the section that this event entered; and the seat that has its slot and its
+/// session in the history.
 ///
 /// Each call holds the pool's lock once, for its section. The page of a claim comes from under its node's lock, once the
 /// pool's is free again; pages that go back are given to their nodes before it is taken. So no two of these are held at once.
 #[derive(Drop)]
-pub struct Door<'a, N: Naming, R: Wait, G: Gate, T: Trail<PoolEntry>> {
+pub struct Door<'a, N: Naming + Places, R: Wait, G: Gate, T: Trail<PoolEntry>> {
     rt: &'a R,
     gate: &'a G,
     core: &'a Mutex<Core<N, T>>,
     nodes: &'a NodeLocks<N>,
+    history: &'a History<N>,
+    mine: Token,
     asked: Option<Asked>,
 }
 
-impl<'a, N: Naming, R: Wait, G: Gate, T: Trail<PoolEntry>> Door<'a, N, R, G, T> {
+impl<'a, N: Naming + Places, R: Wait, G: Gate, T: Trail<PoolEntry>> Model for Door<'a, N, R, G, T> {
+    ghost use Rattle.std.specs.Prelude.{◌≡◌, None, []};
+    ghost use Rattle.hp_history.specs.Sections.{IsFree};
+    ghost use Rattle.hp_locked.specs.Views.{DoorView};
+
+    ghost Value = { DoorView };
+
+    ghost view = { λ d. record { asked = d.asked; mine = d.mine.me.0 } };
+
+    ghost invariant = { λ d. (d.mine.table_id ≡ N.history) × (d.mine.me.1 ≡ [])
+        × (d.asked ≡ None → IsFree d.mine.me.0) };
+}
+
+impl<'a, N: Naming + Places, R: Wait, G: Gate, T: Trail<PoolEntry>> Door<'a, N, R, G, T> {
     /// A door that was not used.
-    pub fn new(rt: &'a R, gate: &'a G, core: &'a Mutex<Core<N, T>>, nodes: &'a NodeLocks<N>) -> Self
-        ensures { result.asked ≡ None }
+    #[inline(always)]
+    pub fn new(
+        rt: &'a R,
+        gate: &'a G,
+        core: &'a Mutex<Core<N, T>>,
+        nodes: &'a NodeLocks<N>,
+        history: &'a History<N>,
+        mine: Token,
+    ) -> Self
+        requires named { mine.table_id ≡ N.history }
+        requires free { IsFree mine.me.0 }
+        requires alone { mine.me.1 ≡ [] }
+        ensures { result ≡ record { asked = None; mine = mine.me.0 } }
     {
         Door {
             rt,
             gate,
             core,
             nodes,
+            history,
+            mine,
             asked: None,
         }
+    }
+
+    /// The seat that has the slot and the session.
+    #[inline(always)]
+    pub fn into_mine(self) -> Token
+        ensures named { result.table_id ≡ N.history }
+        ensures mine { result.me ≡ (self.entry.mine, []) }
+    {
+        let Door { mine, .. } = self;
+        mine
     }
 
     // The section of a mount, as `SessionDoor::open` has it.
@@ -56,11 +99,16 @@ impl<'a, N: Naming, R: Wait, G: Gate, T: Trail<PoolEntry>> Door<'a, N, R, G, T> 
     ) -> Result<(Subpool<N>, Limits), Refusal>
         requires ready { self.old.asked ≡ None }
         requires bytes { 0 < page_bytes }
-        ensures { IsOpenedAt (λ d s a e. Asks e.asked s a)
+        ensures { IsOpenedAt (λ d s a e. Asks e.asked s a
+            × IsEntered T.keeps d.mine e.asked e.mine)
             (λ d. (d.asked ≡ None) × (T.keeps ≡ true)) page_bytes options.now
             self.old self.new (shown (λ s. s) result) }
     {
-        let opened = self.core.lock(self.rt).open(options, page_bytes);
+        let mine = &mut self.mine;
+        let opened = self
+            .core
+            .lock(self.rt)
+            .open(self.history, mine, options, page_bytes);
         match opened {
             Err(_full) => Err(Refusal::TraceFull),
             Ok((share, asked)) => {
@@ -78,7 +126,8 @@ impl<'a, N: Naming, R: Wait, G: Gate, T: Trail<PoolEntry>> Door<'a, N, R, G, T> 
     }
 }
 
-impl<'a, N: Naming, R: Wait, G: Gate, T: Trail<PoolEntry>> PoolDoor for Door<'a, N, R, G, T> {
+impl<'a, N: Naming + Places, R: Wait, G: Gate, T: Trail<PoolEntry>> PoolDoor
+    for Door<'a, N, R, G, T> {
     type Share = Subpool<N>;
 
     type Page = Page<N>;
@@ -101,7 +150,7 @@ impl<'a, N: Naming, R: Wait, G: Gate, T: Trail<PoolEntry>> PoolDoor for Door<'a,
 
     ghost is_ready = { λ d. d.asked ≡ None };
 
-    ghost took = { λ d s a e. Asks e.asked s a };
+    ghost took = { λ d s a e. Asks e.asked s a × IsEntered T.keeps d.mine e.asked e.mine };
 
     ghost is_full = { λ d. (d.asked ≡ None) × (T.keeps ≡ true) };
 
@@ -110,7 +159,12 @@ impl<'a, N: Naming, R: Wait, G: Gate, T: Trail<PoolEntry>> PoolDoor for Door<'a,
     ghost stays = { λ d ready. tt };
 
     fn get(&mut self, share: &mut Subpool<N>, home: usize, k: u64) -> Result<(), Refusal> {
-        match self.core.lock(self.rt).get(share, home, k) {
+        let mine = &mut self.mine;
+        match self
+            .core
+            .lock(self.rt)
+            .get(self.history, mine, share, home, k)
+        {
             Err(_full) => Err(Refusal::TraceFull),
             Ok(None) => Ok(()),
             Ok(Some(asked)) => {
@@ -125,21 +179,32 @@ impl<'a, N: Naming, R: Wait, G: Gate, T: Trail<PoolEntry>> PoolDoor for Door<'a,
     }
 
     fn get_page(&mut self, share: &mut Subpool<N>, home: usize) -> Result<Page<N>, Refusal> {
-        let got = self.core.lock(self.rt).get_page(share, home);
+        let mine = &mut self.mine;
+        let got = self
+            .core
+            .lock(self.rt)
+            .get_page(self.history, mine, share, home);
         match got {
             Err(_full) => Err(Refusal::TraceFull),
-            Ok((claim, asked)) => {
-                self.asked = Some(asked);
-                match claim {
-                    Some(claim) => Ok(self.nodes.redeem(self.rt, self.gate, claim)),
-                    None => Err(Refusal::NoPages),
+            Ok((claim, asked)) => match claim {
+                None => {
+                    self.asked = Some(asked);
+                    Err(Refusal::NoPages)
                 }
-            }
+                Some(claim) => {
+                    self.asked = Some(asked);
+                    Ok(self.nodes.redeem(self.rt, self.gate, claim))
+                }
+            },
         }
     }
 
     fn take_page(&mut self, share: &mut Subpool<N>, home: usize) -> Result<Page<N>, Refusal> {
-        let got = self.core.lock(self.rt).take_page(share, home);
+        let mine = &mut self.mine;
+        let got = self
+            .core
+            .lock(self.rt)
+            .take_page(self.history, mine, share, home);
         match got {
             Err(_full) => Err(Refusal::TraceFull),
             Ok((claim, asked)) => {
@@ -156,19 +221,24 @@ impl<'a, N: Naming, R: Wait, G: Gate, T: Trail<PoolEntry>> PoolDoor for Door<'a,
         count: u64,
         batch: &mut PageBatch<N>,
     ) -> Result<(), Refusal> {
-        let got = self.core.lock(self.rt).fill(share, k, count);
+        let mine = &mut self.mine;
+        let got = self
+            .core
+            .lock(self.rt)
+            .fill(self.history, mine, share, k, count);
         match got {
             Err(_full) => Err(Refusal::TraceFull),
-            Ok((parcel, asked)) => {
-                self.asked = Some(asked);
-                match parcel {
-                    Some(parcel) => {
-                        self.nodes.add_pages(self.rt, self.gate, parcel, batch);
-                        Ok(())
-                    }
-                    None => Err(Refusal::NoPages),
+            Ok((parcel, asked)) => match parcel {
+                None => {
+                    self.asked = Some(asked);
+                    Err(Refusal::NoPages)
                 }
-            }
+                Some(parcel) => {
+                    self.asked = Some(asked);
+                    self.nodes.add_pages(self.rt, self.gate, parcel, batch);
+                    Ok(())
+                }
+            },
         }
     }
 
@@ -176,7 +246,7 @@ impl<'a, N: Naming, R: Wait, G: Gate, T: Trail<PoolEntry>> PoolDoor for Door<'a,
         let parcel = self.nodes.gather(self.rt, self.gate, going);
         let mut value = self.core.lock(self.rt);
         let core: &mut Core<N, T> = &mut value;
-        self.asked = core.put(share, parcel, reserves);
+        self.asked = core.put(self.history, &mut self.mine, share, parcel, reserves);
     }
 
     fn limits(
@@ -185,7 +255,11 @@ impl<'a, N: Naming, R: Wait, G: Gate, T: Trail<PoolEntry>> PoolDoor for Door<'a,
         page_bytes: u64,
         options: &[u8],
     ) -> Result<Option<u64>, Refusal> {
-        let set = self.core.lock(self.rt).limits(share, page_bytes, options);
+        let mine = &mut self.mine;
+        let set = self
+            .core
+            .lock(self.rt)
+            .limits(self.history, mine, share, page_bytes, options);
         match set {
             Err(_full) => Err(Refusal::TraceFull),
             Ok((files, asked)) => {
@@ -201,13 +275,19 @@ impl<'a, N: Naming, R: Wait, G: Gate, T: Trail<PoolEntry>> PoolDoor for Door<'a,
         spent.close();
         let mut value = self.core.lock(self.rt);
         let core: &mut Core<N, T> = &mut value;
-        self.asked = core.close(share, parcel);
+        self.asked = core.close(self.history, &mut self.mine, share, parcel);
     }
 }
 
 /// A door that tells the section that was entered through it.
 pub trait SessionDoor: PoolDoor {
     ghost asked: { Self → Option AskedValue };
+
+    // what the seat has of the history
+    ghost mine: { Self → List Held };
+
+    // whether trails are kept
+    ghost keeps: { Bool };
 
     /// The section that was entered.
     fn asked(&self) -> Option<Asked>
@@ -224,12 +304,19 @@ pub trait SessionDoor: PoolDoor {
     // a door that is ready was not used
     ghost begins: { (d : Self) → Self.PoolDoor.is_ready d → asked d ≡ None };
 
+    // its seat is then busy with the section
     ghost tells: { (d : Self) (s : Section) (a : PoolAnswer) (e : Self) →
-        Self.PoolDoor.took d s a e → Asks (asked e) s a };
+        Self.PoolDoor.took d s a e
+        → Asks (asked e) s a × IsEntered keeps (mine d) (asked e) (mine e) };
 }
 
-impl<'a, N: Naming, R: Wait, G: Gate, T: Trail<PoolEntry>> SessionDoor for Door<'a, N, R, G, T> {
+impl<'a, N: Naming + Places, R: Wait, G: Gate, T: Trail<PoolEntry>> SessionDoor
+    for Door<'a, N, R, G, T> {
     ghost asked = { λ d. d.asked };
+
+    ghost mine = { λ d. d.mine };
+
+    ghost keeps = { T.keeps };
 
     ghost begins = { λ d ready. ready };
 

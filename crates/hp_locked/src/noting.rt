@@ -1,25 +1,40 @@
 //! Entries of the pool's trail.
-ghost use Rattle.std.specs.Prelude.{◌≡◌, true, is_some};
+ghost use Rattle.std.specs.Prelude.{◌≡◌, ◌∷◌, [], length, true, is_some, Some};
+ghost use Rattle.hp_history.specs.History.{IsSession};
+ghost use Rattle.hp_history.specs.Sections.{IsEntered, IsFree, pool_in, pool_next, pool_receipt, pool_view, pool_with, told_more};
 ghost use Rattle.hp_model.specs.declared.entry.Part.TheVariants.{Pool as AtPool};
 ghost use Rattle.hp_model.specs.declared.entry.PoolEntry.TheVariants.{OfPool, OfSlot};
 ghost use Rattle.hp_model.specs.declared.event.Event.TheVariants.{Pool as OnPool};
 ghost use Rattle.hp_trail.specs.Keeping.{has_room, one_less, with_entry};
 ghost use Rattle.hp_locked.specs.Told.{IsReceipt, pool_reply};
-ghost use Rattle.hp_locked.specs.Views.{IsPlace};
+ghost use Rattle.hp_locked.specs.Views.{IsPlace, IsTrailOf};
 
 use crate::pool_told::PoolTold;
+use atomic_table::Badge;
+use hp_history::{History, Places, Token, View};
 use hp_model::entry::{Asked, Part, PoolEntry, Receipt};
 use hp_model::event::{Event, PoolEvent};
 use hp_model::section::{PoolAnswer, Section};
 use hp_trail::trail::Trail;
+use std::marker::Brand;
 
-// Notes a section with the pool's answer, and tells where.
-pub(crate) fn note<T: Trail<PoolEntry>>(
+// Notes a section with the pool's answer, and tells where. In the history the event of the slot that entered it stands there.
+#[inline(always)]
+pub(crate) fn note<N: Places, T: Trail<PoolEntry>>(
     trail: &mut T,
+    seat: &mut Badge<View>,
+    history: &History<N>,
+    mine: &mut Token,
     section: Section,
     answer: PoolAnswer,
 ) -> Asked
-    requires { has_room true (T.left trail.old) (T.extra trail.old) ≡ true }
+    requires room { has_room true (T.left trail.old) (T.extra trail.old) ≡ true }
+    requires pool { seat.old.table_id ≡ N.history }
+    requires one { seat.old.views ≡ pool_view seat.old.views ∷ [] }
+    requires kept { IsTrailOf (pool_in seat.old.views) (T.entries trail.old) }
+    requires named { mine.old.table_id ≡ N.history }
+    requires free { IsFree mine.old.me.0 }
+    requires alone { mine.old.me.1 ≡ [] }
     ensures entries { T.entries trail.new
         ≡ with_entry (T.entries trail.old) (OfSlot section answer) }
     ensures left { T.left trail.new ≡ one_less (T.left trail.old) }
@@ -27,23 +42,39 @@ pub(crate) fn note<T: Trail<PoolEntry>>(
     ensures place { IsPlace (T.entries trail.old) result.place }
     ensures section { result.section ≡ section }
     ensures answer { result.answer ≡ answer }
+    ensures pool { seat.new.table_id ≡ N.history }
+    ensures run { seat.new.views ≡ (pool_next result (pool_in seat.old.views) ∷ []) ∷ [] }
+    ensures named { mine.new.table_id ≡ N.history }
+    ensures entered { IsEntered T.keeps mine.old.me.0 (Some result) mine.new.me.0 }
+    ensures alone { mine.new.me.1 ≡ [] }
 {
     let place = trail.place();
     trail.push(PoolEntry::OfSlot { section, answer });
-    Asked {
+    let asked = Asked {
         place,
         section,
         answer,
-    }
+    };
+    history.enter(seat, mine, asked);
+    asked
 }
 
-// Notes an event of the pool with its answer, and makes its receipt where entries are kept.
-pub(crate) fn note_event<T: Trail<PoolEntry>>(
+// Notes an event of the pool with its answer, and makes its receipt where entries are kept. The history has both.
+#[inline(always)]
+pub(crate) fn note_event<N: Places, T: Trail<PoolEntry>>(
     trail: &mut T,
+    seat: &mut Badge<View>,
+    history: &History<N>,
+    mine: &mut Token,
     event: PoolEvent,
     told: PoolTold,
 ) -> Option<Receipt>
-    requires { has_room true (T.left trail.old) (T.extra trail.old) ≡ true }
+    requires room { has_room true (T.left trail.old) (T.extra trail.old) ≡ true }
+    requires pool { seat.old.table_id ≡ N.history }
+    requires one { seat.old.views ≡ pool_view seat.old.views ∷ [] }
+    requires named { mine.old.table_id ≡ N.history }
+    requires session { IsSession mine.old.me.0 }
+    requires alone { mine.old.me.1 ≡ [] }
     ensures entries { T.entries trail.new ≡ with_entry (T.entries trail.old)
         (OfPool event (pool_reply told)) }
     ensures left { T.left trail.new ≡ one_less (T.left trail.old) }
@@ -51,16 +82,26 @@ pub(crate) fn note_event<T: Trail<PoolEntry>>(
     ensures receipt { IsReceipt (T.entries trail.old) AtPool (OnPool event) (pool_reply told)
         result }
     ensures given { is_some result ≡ T.keeps }
+    ensures pool { seat.new.table_id ≡ N.history }
+    ensures run { seat.new.views
+        ≡ (pool_with event (pool_reply told) (pool_in seat.old.views) ∷ []) ∷ [] }
+    ensures named { mine.new.table_id ≡ N.history }
+    ensures told { mine.new.me ≡ (
+      told_more mine.old.me.0
+          (pool_receipt event (pool_reply told) (length (pool_in seat.old.views))) ∷ [],
+      [],
+    ) }
 {
-    let receipt = pool_receipt(trail, event, told);
+    let receipt = receipt_of(trail, event, told);
     trail.push(PoolEntry::OfPool {
         event,
         reply: told.reply(),
     });
+    history.answer_pool::<Brand, _>(seat, mine, (event, told));
     receipt
 }
 
-fn pool_receipt<T: Trail<PoolEntry>>(trail: &T, event: PoolEvent, told: PoolTold) -> Option<Receipt>
+fn receipt_of<T: Trail<PoolEntry>>(trail: &T, event: PoolEvent, told: PoolTold) -> Option<Receipt>
     ensures receipt { IsReceipt (T.entries trail.now) AtPool (OnPool event) (pool_reply told)
         result }
     ensures given { is_some result ≡ T.keeps }

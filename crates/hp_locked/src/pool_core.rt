@@ -1,5 +1,9 @@
 //! The pool under its lock.
-ghost use Rattle.std.specs.Prelude.{◌≡◌, ◌*◌, ◌≤◌, length, true, false, is_some, IfOk, OnErr};
+ghost use Rattle.std.specs.Prelude.{◌≡◌, ◌*◌, ◌≤◌, ◌∷◌, [], length, true, false, is_some, IfOk, IfSome, OnErr};
+ghost use Rattle.hp_history.specs.declared.held.Held.TheVariants.{Pool as PoolPart};
+ghost use Rattle.hp_history.specs.History.{IsSession};
+ghost use Rattle.hp_history.specs.Sections.{pool_receipt, told_more};
+ghost use Rattle.hp_model.specs.threads.PoolRun.{IsPoolRun};
 ghost use Rattle.hp_model.specs.pool.NodeRows.{frames_of};
 ghost use Rattle.hp_model.specs.pool.Pool.{granted_at, no_pages};
 ghost use Rattle.hp_model.specs.declared.entry.Part.TheVariants.{Pool as AtPool};
@@ -11,7 +15,7 @@ ghost use Rattle.hp_pool.specs.Sums.{idle_pool};
 ghost use Rattle.hp_subpool.specs.Subpool.{committed_of};
 ghost use Rattle.hp_trail.specs.Keeping.{has_room};
 ghost use Rattle.hp_locked.specs.Told.{IsPoolEventDone, IsReceipt, pool_reply};
-ghost use Rattle.hp_locked.specs.Views.{IsFresh, IsPoolTrail, frames_list};
+ghost use Rattle.hp_locked.specs.Views.{IsFresh, IsPoolTrail, IsTrailOf, frames_list};
 
 mod giving;
 mod opening;
@@ -19,6 +23,8 @@ mod taking;
 
 use crate::noting::note_event;
 use crate::pool_told::PoolTold;
+use atomic_table::Badge;
+use hp_history::{History, Places, Token, View};
 use hp_model::answer::NodeCount;
 use hp_model::entry::{PoolEntry, Receipt};
 use hp_model::event::PoolEvent;
@@ -36,95 +42,117 @@ pub struct Full {}
 
 /// The pool with its trail.
 ///
-/// Whenever its lock is free, the trail is a run of the pool that ends in the pool's numbers, and there is a place in it for
-/// each section that may yet give back: so giving back is never refused. By the pool's own invariant Rsvd is the sum of all
-/// permits that are out, and the pages in use are the claims that are not in the pool, whoever holds them.
-pub struct Core<N: Naming, T: Trail<PoolEntry>> {
+/// Whenever its lock is free, its trail in the history is a run of the pool that ends in the pool's numbers. Where the trail is
+/// kept, there is a place in it for each section that may yet give back: so giving back is never refused. By the pool's own
+/// invariant Rsvd is the sum of all permits that are out, and the pages in use are the claims that are not in the pool, whoever
+/// holds them.
+pub struct Core<N: Naming + Places, T: Trail<PoolEntry>> {
     pool: Pool<N>,
     trail: T,
+    seat: Badge<View>,
 }
 
-impl<N: Naming, T: Trail<PoolEntry>> Model for Core<N, T> {
+impl<N: Naming + Places, T: Trail<PoolEntry>> Model for Core<N, T> {
+    ghost use Rattle.hp_history.specs.Sections.{pool_in};
     ghost use Rattle.hp_pool.specs.Sums.{idle_pool};
-    ghost use Rattle.hp_locked.specs.Views.{CoreView, IsCore, frames_list};
+    ghost use Rattle.hp_locked.specs.Views.{CoreView, IsCore, IsSeated, frames_list};
 
     ghost Value = { CoreView };
 
     ghost view = { λ c. record {
       pool = c.pool;
+      run = pool_in c.seat.views;
       entries = T.entries c.trail;
       left = T.left c.trail;
       extra = T.extra c.trail;
     } };
 
     ghost invariant = { λ c. IsCore (idle_pool (frames_list N.frames)) (T.entries c.trail)
-        (T.left c.trail) (T.extra c.trail) c.pool };
+        (T.left c.trail) (T.extra c.trail) c.pool
+        × IsSeated N.history (idle_pool (frames_list N.frames)) c.seat.table_id c.seat.views
+        (T.entries c.trail) c.pool };
 }
 
-impl<N: Naming, T: Trail<PoolEntry>> Core<N, T> {
+impl<N: Naming + Places, T: Trail<PoolEntry>> Core<N, T> {
     /// A pool as it starts, with a trail that has nothing in it yet.
     #[tactic(auto, using(crate::proofs::Added::fresh_core))]
-    pub fn new(pool: Pool<N>, trail: T) -> Self
+    pub fn new(pool: Pool<N>, trail: T, seat: Token) -> Self
         requires start { pool ≡ idle_pool (frames_list N.frames) }
         requires ready { IsReady pool }
         requires fresh { IsFresh (T.entries trail) }
         requires enough { 2 * frames_of (idle_pool (frames_list N.frames)).nodes.rows
             ≤ T.extra trail }
+        requires named { seat.table_id ≡ N.history }
+        requires seat { seat.me ≡ (PoolPart [] ∷ [], []) }
         ensures { result ≡ record {
           pool = pool;
+          run = [];
           entries = T.entries trail;
           left = T.left trail;
           extra = T.extra trail;
         } }
     {
         pool.law();
-        Core { pool, trail }
+        Core {
+            pool,
+            trail,
+            seat: seat.into_badge(),
+        }
     }
 
-    /// The pool and its trail.
-    pub fn into_parts(self) -> (Pool<N>, T)
+    /// The pool, its trail and its seat in the history.
+    pub fn into_parts(self) -> (Pool<N>, T, Token)
         ensures pool { result.0 ≡ self.pool }
         ensures entries { T.entries result.1 ≡ self.entries }
         ensures run { IsPoolTrail (idle_pool (frames_list N.frames)) self.entries self.pool }
         ensures ready { IsReady self.pool }
+        ensures named { result.2.table_id ≡ N.history }
+        ensures seat { result.2.me ≡ (PoolPart self.run ∷ [], []) }
+        ensures history { IsPoolRun (idle_pool (frames_list N.frames)) self.run self.pool }
+        ensures kept { IsTrailOf self.run self.entries }
     {
-        let Core { pool, trail } = self;
-        (pool, trail)
+        let Core { pool, trail, seat } = self;
+        (pool, trail, seat.into_seat())
     }
 
-    /// An event of the pool alone: its answer, and its receipt where entries are kept. At `Err` the trail is full, and
-    /// nothing changed.
-    pub fn event(&mut self, event: PoolEvent) -> Result<(PoolTold, Option<Receipt>), Full>
+    /// An event of the pool alone: its answer, and its receipt where entries are kept. The session that asks is told of it in
+    /// the history. At `Err` the trail is full, and nothing changed.
+    #[inline(always)]
+    pub fn event(
+        &mut self,
+        history: &History<N>,
+        mine: &mut Token,
+        event: PoolEvent,
+    ) -> Result<(PoolTold, Option<Receipt>), Full>
+        requires named { mine.old.table_id ≡ N.history }
+        requires session { IsSession mine.old.me.0 }
+        requires alone { mine.old.me.1 ≡ [] }
         ensures done { IfOk result (λ r. IsPoolEventDone self.old self.new event (pool_reply r.0)) }
         ensures receipt { IfOk result (λ r. IsReceipt self.old.entries AtPool (OfPool event)
             (pool_reply r.0) r.1) }
         ensures given { IfOk result (λ r. is_some r.1 ≡ T.keeps) }
+        ensures told { IfOk result (λ r. mine.new.me ≡ (
+          told_more mine.old.me.0
+              (pool_receipt event (pool_reply r.0) (length self.old.run)) ∷ [],
+          [],
+        )) }
+        ensures kept { IfOk result (λ r. IfSome r.1 (λ receipt.
+            receipt ≡ pool_receipt event (pool_reply r.0) (length self.old.run))) }
         ensures limits { IfOk result (λ r. IsWithinLimits (pool_reply r.0)) }
         ensures full { OnErr result (has_room false self.old.left self.old.extra ≡ false) }
         ensures keeps { OnErr result (T.keeps ≡ true) }
         ensures same { OnErr result (self.new ≡ self.old) }
+        ensures untold { OnErr result (mine.new.me ≡ mine.old.me) }
+        ensures named { mine.new.table_id ≡ N.history }
     {
-        let Core { pool, trail } = self;
+        let Core { pool, trail, seat } = self;
         if !trail.has_room(false) {
             return Err(Full {});
         }
         let told = answered(pool, event);
         pool.law();
-        let receipt = note_event(trail, event, told);
+        let receipt = note_event(trail, seat, history, mine, event, told);
         Ok((told, receipt))
-    }
-
-    /// An event of the pool alone where no entries are kept: its answer. There is no receipt.
-    #[inline(always)]
-    pub fn event_unnoted(&mut self, event: PoolEvent) -> PoolTold
-        requires unkept { T.keeps ≡ false }
-        ensures done { IsPoolEventDone self.old self.new event (pool_reply result) }
-        ensures limits { IsWithinLimits (pool_reply result) }
-    {
-        let Core { pool, trail: _ } = self;
-        let told = answered(pool, event);
-        pool.law();
-        told
     }
 }
 

@@ -1,5 +1,5 @@
 -- What a plan always comes to, an event that went came to.
-use Rattle.std.proofs.Common.{◌≡◌, Option, None, Some}
+use Rattle.std.proofs.Common.{Option, None, Some}
 use Rattle.hp_model.specs.declared.entry.Asked.{Asked}
 use Rattle.hp_model.specs.machine.Plan.{Ask, Finish, Outcome, Plan, Reply, Slot}
 use Rattle.hp_model.specs.threads.LocalRun.{Gives, Goes}

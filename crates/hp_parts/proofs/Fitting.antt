@@ -1,5 +1,5 @@
 -- What a load and a store are answered.
-use Rattle.std.proofs.Common.{◌≡◌, ℕ, Bool, List, Option, None, Some, Ok, Err, refl, sym, subst, length}
+use Rattle.std.proofs.Common.{◌≡◌, ℕ, Bool, List, None, Some, Ok, Err, refl, sym, subst, length}
 use Rattle.std.specs.Prelude.{IfOk, Result}
 use Rattle.hp_model.specs.declared.answer.Answer.{Answer}
 use Rattle.hp_model.specs.declared.answer.Answer.TheVariants.{Done}
@@ -92,10 +92,10 @@ fits size k (slot.Store task home number i offset bytes) a (old, asked, new, wen
 fits size k other a can = tt
 
 -- what was handed back fits
-pub handed_fits : (kept : Bool) (size k : ℕ) (e : SlotEvent) (a : Answer) (receipt : Option Receipt) → IsHanded kept size (OnSlot k e) (Ok a) receipt → HasAnswerOf e a
-handed_fits kept size k e a receipt handed = fits size k e a handed.0
+pub handed_fits : (kept : Bool) (size k : ℕ) (e : SlotEvent) (a : Answer) (was now : List Receipt) → IsHanded kept size (OnSlot k e) (Ok a) was now → HasAnswerOf e a
+handed_fits kept size k e a was now handed = fits size k e a handed.0
 
-pub fits_result : (kept : Bool) (size k : ℕ) (e : SlotEvent) (r : Result Told Refusal) (receipt : Option Receipt) → IsHanded kept size (OnSlot k e) (told_reply r) receipt →
+pub fits_result : (kept : Bool) (size k : ℕ) (e : SlotEvent) (r : Result Told Refusal) (was now : List Receipt) → IsHanded kept size (OnSlot k e) (told_reply r) was now →
     IfOk r (λ t. HasAnswerOf e (told_answer t))
-fits_result kept size k e (Ok t) receipt h = handed_fits kept size k e (told_answer t) receipt h
-fits_result kept size k e (Err x) receipt h = tt
+fits_result kept size k e (Ok t) was now h = handed_fits kept size k e (told_answer t) was now h
+fits_result kept size k e (Err x) was now h = tt

@@ -1,5 +1,5 @@
 -- How an event of a part can be answered, and what is told of it.
-use Rattle.std.specs.Prelude.{◌≡◌, ℕ, Bool, true, false, Option, None, Some}
+use Rattle.std.specs.Prelude.{◌≡◌, ℕ, Bool, true, false, Option, ◌<◌, List, [], ◌∷◌, ◌++◌, length}
 use Rattle.std.specs.Bool.{MatchBool}
 use Rattle.hp_model.specs.declared.entry.Asked.{Asked}
 use Rattle.hp_model.specs.declared.entry.Receipt.{Receipt}
@@ -26,13 +26,16 @@ CanAnswer size (OnTasks e) reply = (nodes : ℕ) × (old : Table) × (new : Tabl
 CanAnswer size (OnSlot k e) reply = (old : Slot) × (asked : Option Asked) × (new : Slot) × Went size k old e reply asked new
 CanAnswer size (OnPool e) reply = (old : Pool) × (new : Pool) × (pool_event old e ≡ (reply, new))
 
--- where entries are kept there is a receipt of the event with its reply, and else none
-abbrev pub IsToldOf : (kept : Bool) → Event → Reply → Option Receipt → Type 0
-IsToldOf true e reply None = ⊥
-IsToldOf true e reply (Some r) = told_of r ≡ (e, reply)
-IsToldOf false e reply receipt = receipt ≡ None
+-- there is room for a receipt more, where entries are kept
+abbrev pub HasPlace : (kept : Bool) → List Receipt → (room : ℕ) → Type 0
+HasPlace kept told room = kept ≡ true → length told < room
 
--- what a part under its lock hands back of an event; TraceFull where entries are kept and there was no place for one
-abbrev pub IsHanded : (kept : Bool) (size : ℕ) → Event → Reply → Option Receipt → Type 0
-IsHanded kept size e reply receipt =
-    MatchBool (is_trace_full reply) ((kept ≡ true) × (has_place e ≡ false) × (receipt ≡ None)) (CanAnswer size e reply × IsToldOf kept e reply receipt)
+-- there is one receipt more: of this event, with its reply
+abbrev pub IsToldOf : Event → Reply → (was now : List Receipt) → Type 0
+IsToldOf e reply was now = (r : Receipt) × (now ≡ was ++ r ∷ []) × (told_of r ≡ (e, reply))
+
+-- what a part under its lock answers to an event, and what was told before and after; TraceFull where entries are kept and there
+-- was no place for one, and then nothing was told
+abbrev pub IsHanded : (kept : Bool) (size : ℕ) → Event → Reply → (was now : List Receipt) → Type 0
+IsHanded kept size e reply was now =
+    MatchBool (is_trace_full reply) ((kept ≡ true) × (has_place e ≡ false) × (now ≡ was)) (CanAnswer size e reply × IsToldOf e reply was now)

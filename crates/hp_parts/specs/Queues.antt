@@ -1,7 +1,8 @@
 -- Loads and stores of one slot, done one after another.
-use Rattle.std.specs.Prelude.{◌≡◌, ℕ, ◌≤◌, false, List, [], ◌∷◌, length, take, drop, None, Ok}
+use Rattle.std.specs.Prelude.{◌≡◌, ℕ, ◌≤◌, false, List, [], ◌∷◌, length, take, drop, Ok}
 use Rattle.hp_model.specs.beside.Queue.{QueuedView}
 use Rattle.hp_model.specs.declared.answer.Answer.TheVariants.{Home}
+use Rattle.hp_model.specs.declared.entry.Receipt.{Receipt}
 use Rattle.hp_model.specs.declared.event.Event.TheVariants.{Tasks as OnTasks, Slot as OnSlot}
 use Rattle.hp_model.specs.declared.event.SlotEvent.{SlotEvent}
 use Rattle.hp_model.specs.declared.event.SlotEvent.TheVariants as slot
@@ -12,26 +13,29 @@ use Rattle.hp_model.specs.machine.Plan.{Reply}
 use Rattle.hp_parts.specs.Answered.{IsHanded}
 
 -- the task is found, and then the event of its slot is answered so
-abbrev pub IsFoundAndHanded : (size at task : ℕ) → (ℕ → SlotEvent) → Reply → Type 0
-IsFoundAndHanded size at task event reply =
-    (home : ℕ) × IsHanded false size (OnTasks (Find task)) (Ok (Home home)) None × IsHanded false size (OnSlot at (event home)) reply None
+pub record IsFoundAndHanded (size at task : ℕ) (event : ℕ → SlotEvent) (reply : Reply) (was now : List Receipt) : Type 0 where
+  pub home : ℕ
+  pub between : List Receipt
+  pub found : IsHanded false size (OnTasks (Find task)) (Ok (Home home)) was between
+  pub handed : IsHanded false size (OnSlot at (event home)) reply between now
 
 -- a load or a store of this slot is answered so
-abbrev pub IsAccessHanded : (size at : ℕ) → Step → Reply → Type 0
-IsAccessHanded size at (Load task k number i offset count) reply =
-    (k ≡ at) × IsFoundAndHanded size at task (λ home. slot.Load task home number i offset count) reply
-IsAccessHanded size at (Store task k number i offset bytes) reply =
-    (k ≡ at) × IsFoundAndHanded size at task (λ home. slot.Store task home number i offset bytes) reply
-IsAccessHanded size at step reply = ⊥
+abbrev pub IsAccessHanded : (size at : ℕ) → Step → Reply → (was now : List Receipt) → Type 0
+IsAccessHanded size at (Load task k number i offset count) reply was now =
+    (k ≡ at) × IsFoundAndHanded size at task (λ home. slot.Load task home number i offset count) reply was now
+IsAccessHanded size at (Store task k number i offset bytes) reply was now =
+    (k ≡ at) × IsFoundAndHanded size at task (λ home. slot.Store task home number i offset bytes) reply was now
+IsAccessHanded size at step reply was now = ⊥
 
 -- each of these is answered as is noted
-abbrev pub AreAccessesHanded : (size at : ℕ) → (before after : List QueuedView) → Type 0
-AreAccessesHanded size at [] [] = Unit {0}
-AreAccessesHanded size at (b ∷ bs) (a ∷ rest) = IsAccessHanded size at b.step a.reply × AreAccessesHanded size at bs rest
-AreAccessesHanded size at before after = ⊥
+abbrev pub AreAccessesHanded : (size at : ℕ) → (before after : List QueuedView) → (was now : List Receipt) → Type 0
+AreAccessesHanded size at [] [] was now = now ≡ was
+AreAccessesHanded size at (b ∷ bs) (a ∷ rest) was now =
+    (between : List Receipt) × IsAccessHanded size at b.step a.reply was between × AreAccessesHanded size at bs rest between now
+AreAccessesHanded size at before after was now = ⊥
 
 -- the first n of a queue are answered so, and the others are as they were
-pub record AreFirstHanded (size at n : ℕ) (before after : List QueuedView) : Type 0 where
+pub record AreFirstHanded (size at n : ℕ) (before after : List QueuedView) (was now : List Receipt) : Type 0 where
   pub few : n ≤ length before
-  pub handed : AreAccessesHanded size at (take n before) (take n after)
+  pub handed : AreAccessesHanded size at (take n before) (take n after) was now
   pub left : drop n after ≡ drop n before

@@ -1,5 +1,5 @@
 -- A run of the program.
-use Rattle.std.specs.Prelude.{◌≡◌, ◌≤◌, ◌++◌, ℕ, nat_lt, List, [], Option, Some, None, is_some, true, Result, Ok, Err, IfErr, IfSome, IsSomeAnd, MatchOption, codes}
+use Rattle.std.specs.Prelude.{◌≡◌, ◌≢◌, ◌≤◌, ◌++◌, ℕ, nat_lt, List, [], Option, Some, None, is_some, false, true, Result, Ok, Err, IfErr, IfSome, IsSomeAnd, MatchOption, codes}
 use Rattle.std.specs.Io.KnownBytes.{Appends, Consumes}
 use Rattle.clap.specs.Faults.{fault_of}
 use Rattle.clap.specs.Kinds.{IsAmong}
@@ -21,6 +21,7 @@ use Rattle.hp_sessions.specs.Calls.{IsCallAnswered, SessionView}
 use Rattle.hp_serving.specs.declared.host.Closed.{Closed}
 use Rattle.hp_serving.specs.declared.sessions.Ended.{Ended}
 use Rattle.hp_closing.specs.Joined.{WasJoined}
+use Rattle.hp_closing.specs.OneRun.{WasOneRun}
 use Rattle.hp_words.specs.Asked.{AsksForScript, AsksToServe, IsRefusedFor, hugetlbd}
 use Rattle.hp_words.specs.Config.{IsMachineWithin, IsServing, MachineChoice, chosen}
 use Rattle.hp_words.specs.declared.config.TheConstants.{HELP, VERSION}
@@ -122,12 +123,13 @@ IsToldOn c s receipts =
     IsOfConnection {S = SessionView} (λ session. session.receipts ≡ []) (λ session told. told ≡ session.receipts) (IsCallAnswered (nat_lt 0 s.room) c.page)
     (λ session. c.page) receipts
 
--- What may be left of the machine that was asked for, once it is closed with what its sessions were told. It was audited just
--- where there was room for entries; and where the audit was right, these sessions' events were one run of it, at whose end all its
--- pages are free.
+-- What may be left of the machine that was asked for, once it is closed with what its sessions were told. Unless sessions were found
+-- to be missing, their events were one run of it, with the replies that they were told, at whose end all its pages are free. Just
+-- where there was room for entries it was audited as well.
 pub record MayBeLeft (c : MachineChoice) (s : Serving) (told : List (List Receipt)) (closed : Closed) : Type 0 where
   pub page : closed.page ≡ c.page
-  pub audited : is_some closed.audit ≡ nat_lt 0 s.room
+  pub audited : closed.audit ≢ Some false → is_some closed.audit ≡ nat_lt 0 s.room
+  pub run : closed.audit ≢ Some false → WasOneRun (chosen c) told closed.counts
   pub joined : closed.audit ≡ Some true → WasJoined (chosen c) told closed.counts
 
 -- how the serving of all sessions ended, what these were told and what is left then, what was printed and said, and the status

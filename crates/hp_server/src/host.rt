@@ -2,19 +2,18 @@
 ghost use Rattle.std.specs.Prelude.{◌≡◌, []};
 
 use hp_entrance::Entrance;
-use hp_homes::Noted;
+use hp_history::Places;
 use hp_locked::Gate;
-use hp_model::entry::Receipt;
 use hp_model::naming::Naming;
 use hp_serving::Host;
 use hp_sessions::Session;
-use hp_shared::Shared;
+use hp_shared::{Finished, Shared};
 use std::alloc::{AllocError, Global};
 use std::sync::Wait;
 
 /// A machine that threads share, with what a session on it waits by and the room for its receipts.
 #[derive(Drop)]
-pub struct Waiting<'a, N: Naming + Noted, R: Wait, G: Gate, const K: usize> {
+pub struct Waiting<'a, N: Naming + Places, R: Wait, G: Gate, const K: usize> {
     pub rt: &'a R,
     pub shared: &'a Shared<N, K>,
     pub gate: &'a G,
@@ -22,26 +21,23 @@ pub struct Waiting<'a, N: Naming + Noted, R: Wait, G: Gate, const K: usize> {
 }
 
 // Behind a reference, so that it is known that the machine lives as long as the session.
-impl<'a, N: Naming + Noted, R: Wait, G: Gate, const K: usize> Host for &'a Waiting<'a, N, R, G, K> {
+impl<'a, N: Naming + Places + Send + Sync, R: Wait, G: Gate, const K: usize> Host
+    for &'a Waiting<'a, N, R, G, K> {
     type Session = Session<Entrance<'a, N, R, G, K>>;
 
-    /// The receipts, in order.
-    type Told = Vec<Receipt>;
+    /// What the session leaves: its number, and what it was told.
+    type Told = Finished<N, K>;
 
     ghost is_opened = { λ session. session.receipts ≡ [] };
 
-    ghost was_told = { λ session told. told.items ≡ session.receipts };
+    ghost was_told = { λ session told. told.receipts ≡ session.receipts };
 
-    fn open(&self, alloc: Global) -> Result<Session<Entrance<'a, N, R, G, K>>, AllocError> {
-        let entrance = Entrance {
-            rt: self.rt,
-            shared: self.shared,
-            gate: self.gate,
-        };
-        Session::open(alloc, entrance, self.room)
+    fn open(&self, _alloc: Global) -> Result<Session<Entrance<'a, N, R, G, K>>, AllocError> {
+        let entrance = Entrance::open(self.rt, self.shared, self.gate, self.room)?;
+        Ok(Session::open(entrance))
     }
 
-    fn finish(session: Session<Entrance<'a, N, R, G, K>>) -> Vec<Receipt> {
-        session.finish()
+    fn finish(session: Session<Entrance<'a, N, R, G, K>>) -> Finished<N, K> {
+        session.finish().into_finished()
     }
 }

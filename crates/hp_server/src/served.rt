@@ -1,34 +1,33 @@
 //! The machine that is served, with what its sessions are told.
 ghost use Rattle.std.specs.Prelude.{◌≡◌, ◌==◌, [], IfOk};
+ghost use Rattle.hp_closing.specs.OneRun.{all_told};
 ghost use Rattle.hp_locked.specs.Views.{frames_list};
 ghost use Rattle.hp_model.specs.machine.Machine.{start};
 ghost use Rattle.hp_server.specs.Left.{MayLeave};
 ghost use Rattle.hp_serving.specs.Ended.{IsOfMachine};
 ghost use Rattle.hp_sessions.specs.Calls.{IsCallAnswered, SessionView};
-ghost use Rattle.hp_trail.specs.Walk.{lists};
 
 use crate::host::Waiting;
 use hp_closing::{close, into_system};
-use hp_homes::Noted;
+use hp_history::Places;
 use hp_locked::Gate;
-use hp_model::entry::Receipt;
 use hp_model::naming::Naming;
 use hp_serving::{Closed, Machine, serve_session};
-use hp_shared::Shared;
+use hp_shared::{Finished, Shared};
 use hp_wire::ends::{Sink, Source};
 use std::alloc::{AllocError, Global};
 use std::sync::Wait;
 
 /// A machine that threads share, with who watches its locks, and the room of each of its sessions.
-pub struct Served<N: Naming + Noted, G: Gate + Drop, const K: usize> {
+pub struct Served<N: Naming + Places, G: Gate + Drop, const K: usize> {
     pub shared: Shared<N, K>,
     pub gate: G,
     pub room: usize,
 }
 
-impl<N: Naming + Noted, G: Gate + Drop, const K: usize> Machine for Served<N, G, K> {
-    /// The receipts of a session, in order.
-    type Told = Vec<Receipt>;
+impl<N: Naming + Places + Send + Sync, G: Gate + Drop, const K: usize> Machine for Served<N, G, K> {
+    /// What a session leaves: its number, and what it was told.
+    type Told = Finished<N, K>;
 
     ghost Session = { SessionView };
 
@@ -38,10 +37,10 @@ impl<N: Naming + Noted, G: Gate + Drop, const K: usize> Machine for Served<N, G,
 
     ghost is_opened = { λ session. session.receipts ≡ [] };
 
-    ghost was_told = { λ session told. told.items ≡ session.receipts };
+    ghost was_told = { λ session told. told.receipts ≡ session.receipts };
 
     ghost may_leave = { λ machine told closed. MayLeave K (start (frames_list N.frames)
-        machine.shared.page_size machine.shared.slots) (lists told) closed };
+        machine.shared.page_size machine.shared.slots) (all_told told) closed };
 
     fn serve_one<R: Wait, A: Source, B: Sink>(
         &self,
@@ -49,7 +48,7 @@ impl<N: Naming + Noted, G: Gate + Drop, const K: usize> Machine for Served<N, G,
         alloc: Global,
         reader: &mut A,
         writer: &mut B,
-    ) -> Result<Vec<Receipt>, AllocError> {
+    ) -> Result<Finished<N, K>, AllocError> {
         let host = Waiting {
             rt,
             shared: &self.shared,
@@ -59,9 +58,14 @@ impl<N: Naming + Noted, G: Gate + Drop, const K: usize> Machine for Served<N, G,
         serve_session(alloc, &&host, reader, writer)
     }
 
-    fn close(self, alloc: Global, told: Vec<Vec<Receipt>>) -> Result<Closed, AllocError>
+    fn number(told: &Finished<N, K>) -> usize {
+        told.number() as usize
+    }
+
+    /// Where sessions are missing, or the machine's slots were not in order, the audit says that they differ.
+    fn close(self, alloc: Global, told: Vec<Finished<N, K>>) -> Result<Closed, AllocError>
         ensures leaves { IfOk result (MayLeave K (start (frames_list N.frames)
-            self.shared.page_size self.shared.slots) (lists told.items)) }
+            self.shared.page_size self.shared.slots) (all_told told.items)) }
         ensures limits { IfOk result IsOfMachine }
     {
         let Served {
@@ -70,8 +74,13 @@ impl<N: Naming + Noted, G: Gate + Drop, const K: usize> Machine for Served<N, G,
             room: _,
         } = self;
         let closed = close(alloc, shared, told)?;
+        let audit = if closed.is_whole {
+            closed.audit
+        } else {
+            Some(false)
+        };
         Ok(Closed {
-            audit: closed.audit,
+            audit,
             counts: closed.counts,
             page: closed.page,
         })
@@ -83,7 +92,7 @@ impl<N: Naming + Noted, G: Gate + Drop, const K: usize> Machine for Served<N, G,
             gate: _,
             room: _,
         } = self;
-        let (system, _trails) = into_system(shared);
+        let (system, _trails, _ended) = into_system(shared);
         system.close();
     }
 }

@@ -1,11 +1,12 @@
 //! Full trails and a full room, over TCP.
-ghost use Rattle.std.specs.Prelude.{◌≡◌, ◌≤◌, ◌∷◌, []};
+ghost use Rattle.std.specs.Prelude.{◌≡◌, ◌≤◌, ◌∷◌, [], false};
 ghost use Rattle.hp_nodes.specs.Ledgers.{AreFrames};
 ghost use Rattle.hp_pool.specs.Ledgers.{AreLedgers};
 
+use crate::histories::history;
 use crate::over_tcp::asks;
 use crate::same::same;
-use hp_homes::{Blank, Noted};
+use hp_history::{Opened, Places};
 use hp_model::naming::Naming;
 use hp_pool::Blanks;
 use hp_server::{Open, Served};
@@ -60,24 +61,26 @@ fn client<R: Net<Stream = TcpStream> + Abort>(
 }
 
 // Serves it on a machine whose trails have so many places, with room for so many receipts: the status.
-fn serves<N: Naming + Noted + Send + Sync, R: Threads + Wait + Abort + Sync, C: Connections>(
+fn serves<N: Naming + Places + Send + Sync, R: Threads + Wait + Abort + Sync, C: Connections>(
     rt: &R,
     alloc: Global,
     blanks: Blanks,
-    words: Blank,
+    history: Opened,
     places: usize,
     room: usize,
     connections: &mut C,
     output: &mut Vec<u8>,
 ) -> u8
     requires ledgers { AreLedgers N.Naming blanks }
-    requires words { words.words.shared.table_id ≡ N.words }
+    requires history { history.table.shared.table_id ≡ N.history }
+    requires shaped { history.shape ≡ N.shape }
+    requires shape { N.shape ≡ record { slots = 4; nodes = 2; looks = false } }
     requires frames { AreFrames N.frames (4 ∷ 4 ∷ []) }
     requires bytes { N.page_bytes ≡ 1024 }
     requires places { places ≤ 16777216 }
 {
     let machine = Served {
-        shared: Shared::<N, 1>::new(alloc, &[4, 4], 1024, 4, places, blanks, words).expect(
+        shared: Shared::<N, 1>::new(alloc, &[4, 4], 1024, 4, places, blanks, history).expect(
             rt, "memory",
         ),
         gate: Open,
@@ -89,20 +92,22 @@ fn serves<N: Naming + Noted + Send + Sync, R: Threads + Wait + Abort + Sync, C: 
 
 // What the machine is at its end begins so.
 fn row<
-    N: Naming + Noted + Send + Sync,
+    N: Naming + Places + Send + Sync,
     R: Threads + Wait + Abort + Clock + Net<Stream = TcpStream, Listener = TcpListener> + Sync,
 >(
     rt: &R,
     alloc: Global,
     blanks: Blanks,
-    words: Blank,
+    history: Opened,
     places: usize,
     room: usize,
     asked: &[Asked<'_>],
     at_the_end: &[u8],
 )
     requires ledgers { AreLedgers N.Naming blanks }
-    requires words { words.words.shared.table_id ≡ N.words }
+    requires history { history.table.shared.table_id ≡ N.history }
+    requires shaped { history.shape ≡ N.shape }
+    requires shape { N.shape ≡ record { slots = 4; nodes = 2; looks = false } }
     requires frames { AreFrames N.frames (4 ∷ 4 ∷ []) }
     requires bytes { N.page_bytes ≡ 1024 }
     requires places { places ≤ 16777216 }
@@ -113,7 +118,9 @@ fn row<
     let mut output = Vec::new(alloc);
     let serving = ||
         requires ledgers { AreLedgers N.Naming blanks }
-        requires words { words.words.shared.table_id ≡ N.words }
+        requires history { history.table.shared.table_id ≡ N.history }
+        requires shaped { history.shape ≡ N.shape }
+        requires shape { N.shape ≡ record { slots = 4; nodes = 2; looks = false } }
         requires frames { AreFrames N.frames (4 ∷ 4 ∷ []) }
         requires bytes { N.page_bytes ≡ 1024 }
         requires places { places ≤ 16777216 }
@@ -122,7 +129,7 @@ fn row<
             rt,
             alloc,
             blanks,
-            words,
+            history,
             places,
             room,
             &mut connections,
@@ -138,12 +145,12 @@ fn row<
 #[test]
 fn full_trails_refuse_all_but_what_gives_back(rt: HostRuntime) {
     let blanks = Blanks::new(rt.alloc(), &[4, 4], 1024).expect(&rt, "memory");
-    let words = Blank::new(rt.alloc()).expect(&rt, "memory");
+    let history = history(&rt, rt.alloc());
     row::<Brand, HostRuntime>(
         &rt,
         rt.alloc(),
         blanks,
-        words,
+        history,
         2,
         16,
         &FULL_TRAILS,
@@ -154,12 +161,12 @@ fn full_trails_refuse_all_but_what_gives_back(rt: HostRuntime) {
 #[test]
 fn a_full_room_refuses_a_step_with_no_event(rt: HostRuntime) {
     let blanks = Blanks::new(rt.alloc(), &[4, 4], 1024).expect(&rt, "memory");
-    let words = Blank::new(rt.alloc()).expect(&rt, "memory");
+    let history = history(&rt, rt.alloc());
     row::<Brand, HostRuntime>(
         &rt,
         rt.alloc(),
         blanks,
-        words,
+        history,
         16,
         1,
         &FULL_ROOM,

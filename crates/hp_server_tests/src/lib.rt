@@ -6,8 +6,12 @@ mod full;
 #[cfg(test)]
 mod gate;
 #[cfg(test)]
+mod histories;
+#[cfg(test)]
 mod lines;
 #[cfg(test)]
 mod over_tcp;
 #[cfg(test)]
 mod same;
+#[cfg(test)]
+mod whole;

@@ -1,31 +1,31 @@
 //! One session's lines: where trails or its room are full, and with maps on several slots.
-ghost use Rattle.std.specs.Prelude.{◌≡◌, ◌≤◌, ◌∷◌, []};
+ghost use Rattle.std.specs.Prelude.{◌≡◌, ◌≤◌, ◌∷◌, [], false};
 ghost use Rattle.hp_nodes.specs.Ledgers.{AreFrames};
 ghost use Rattle.hp_pool.specs.Ledgers.{AreLedgers};
 
+use crate::histories::history;
 use crate::same::same;
 use hp_closing::{Closed, close, into_system};
-use hp_homes::{Blank, Noted};
-use hp_model::entry::Receipt;
+use hp_history::{Opened, Places};
 use hp_model::naming::Naming;
 use hp_pool::Blanks;
 use hp_server::{Open, Waiting};
 use hp_serving::serve_session;
-use hp_shared::Shared;
+use hp_shared::{Finished, Shared};
 use std::alloc::Global;
 use std::marker::Brand;
 use std::process::Abort;
 use std::sync::Wait;
 
-// The receipts that a session has of these lines, with room for so many, and whether it was answered so.
-fn answered<N: Naming + Noted, R: Wait + Abort, const K: usize>(
+// What a session leaves that is answered so to these lines, with room for so many receipts.
+fn answered<N: Naming + Places + Send + Sync, R: Wait + Abort, const K: usize>(
     rt: &R,
     alloc: Global,
     shared: &Shared<N, K>,
     room: usize,
     lines: &[u8],
     replies: &[u8],
-) -> Vec<Receipt> {
+) -> Finished<N, K> {
     let host = Waiting {
         rt,
         shared,
@@ -39,53 +39,61 @@ fn answered<N: Naming + Noted, R: Wait + Abort, const K: usize>(
     told
 }
 
-// A session that is answered so on a machine whose trails have so many places each: how many receipts it has, and what is left.
-fn closed<N: Naming + Noted, R: Wait + Abort>(
+// What is left of a machine whose trails have so many places each, with the one session that is answered so.
+fn closed<N: Naming + Places + Send + Sync, R: Wait + Abort>(
     rt: &R,
     alloc: Global,
     blanks: Blanks,
-    words: Blank,
+    history: Opened,
     places: usize,
     lines: &[u8],
     replies: &[u8],
-) -> (usize, Closed)
+) -> Closed
     requires ledgers { AreLedgers N.Naming blanks }
-    requires words { words.words.shared.table_id ≡ N.words }
+    requires history { history.table.shared.table_id ≡ N.history }
+    requires shaped { history.shape ≡ N.shape }
+    requires shape { N.shape ≡ record { slots = 4; nodes = 2; looks = false } }
     requires frames { AreFrames N.frames (4 ∷ 4 ∷ []) }
     requires bytes { N.page_bytes ≡ 1024 }
     requires places { places ≤ 16777216 }
 {
-    let shared = Shared::<N, 1>::new(alloc, &[4, 4], 1024, 4, places, blanks, words).expect(
+    let shared = Shared::<N, 1>::new(alloc, &[4, 4], 1024, 4, places, blanks, history).expect(
         rt, "memory",
     );
     let told = answered(rt, alloc, &shared, 100, lines, replies);
-    let count = told.len();
     let mut all = Vec::with_capacity(alloc, 1).expect(rt, "memory");
     all.push_reserved(told);
-    (count, close(alloc, shared, all).expect(rt, "memory"))
+    let closed = close(alloc, shared, all).expect(rt, "memory");
+    assert!(rt; closed.is_whole, "not all sessions");
+    closed
 }
 
 // Where a session has room for two receipts: how many entries the task table has.
-fn full_room<N: Naming + Noted, R: Wait + Abort>(
+fn full_room<N: Naming + Places + Send + Sync, R: Wait + Abort>(
     rt: &R,
     alloc: Global,
     blanks: Blanks,
-    words: Blank,
+    history: Opened,
 ) -> usize
     requires ledgers { AreLedgers N.Naming blanks }
-    requires words { words.words.shared.table_id ≡ N.words }
+    requires history { history.table.shared.table_id ≡ N.history }
+    requires shaped { history.shape ≡ N.shape }
+    requires shape { N.shape ≡ record { slots = 4; nodes = 2; looks = false } }
     requires frames { AreFrames N.frames (4 ∷ 4 ∷ []) }
     requires bytes { N.page_bytes ≡ 1024 }
 {
-    let shared = Shared::<N, 1>::new(alloc, &[4, 4], 1024, 4, 16, blanks, words).expect(
+    let shared = Shared::<N, 1>::new(alloc, &[4, 4], 1024, 4, 16, blanks, history).expect(
         rt, "memory",
     );
     let lines = b"connect 1 0\nload 1 0 1 0 0 1\nattach 1\nconnect 2 0\n";
     let replies = b"ok\nerror 23 TraceFull\nok 0\nerror 23 TraceFull\n";
     let told = answered(rt, alloc, &shared, 2, lines, replies);
-    same!(rt; told.len(), 2);
-    let (system, trails) = into_system(shared);
+    let (receipts, _seat) = told.into_parts();
+    same!(rt; receipts.len(), 2);
+    let (system, trails, ended) = into_system(shared);
     system.close();
+    assert!(rt; ended.in_order, "slots out of order");
+    same!(rt; ended.sessions, 1);
     let Some(trails) = trails else {
         panic!(rt; "no trails");
     };
@@ -95,18 +103,17 @@ fn full_room<N: Naming + Noted, R: Wait + Abort>(
 #[test]
 fn full_trails_of_tasks_and_of_the_pool(rt: HostRuntime) {
     let blanks = Blanks::new(rt.alloc(), &[4, 4], 1024).expect(&rt, "memory");
-    let words = Blank::new(rt.alloc()).expect(&rt, "memory");
-    let (receipts, left) = closed::<Brand, HostRuntime>(
+    let history = history(&rt, rt.alloc());
+    let left = closed::<Brand, HostRuntime>(
         &rt,
         rt.alloc(),
         blanks,
-        words,
+        history,
         2,
         b"connect 1 0\nconnect 2 0\nconnect 3 0\nnr 4\nnr 5\nnr 6\nmeminfo\nattach 2\nexit 1\nexit 1\n",
         b"ok\nok\nerror 23 TraceFull\nok 4\nok 5\nerror 23 TraceFull\nerror 23 TraceFull\nerror 23 TraceFull\n\
 ok\nerror 23 TraceFull\n",
     );
-    same!(rt; receipts, 5);
     same!(rt; left.audit, Some(true));
     same!(rt; left.counts.free, 5);
 }
@@ -114,19 +121,18 @@ ok\nerror 23 TraceFull\n",
 #[test]
 fn full_trails_do_not_keep_a_page(rt: HostRuntime) {
     let blanks = Blanks::new(rt.alloc(), &[4, 4], 1024).expect(&rt, "memory");
-    let words = Blank::new(rt.alloc()).expect(&rt, "memory");
-    let (receipts, left) = closed::<Brand, HostRuntime>(
+    let history = history(&rt, rt.alloc());
+    let left = closed::<Brand, HostRuntime>(
         &rt,
         rt.alloc(),
         blanks,
-        words,
+        history,
         3,
         b"connect 1 0\nnr 2\ncreate 0 a\nmap 1 0 a 0 1 private\nstore 1 0 1 0 0 ff\nload 1 0 1 0 0 1\nls 0\n\
 unlink 0 a\nmeminfo\nexit 1\n",
         b"ok\nok 2\nok\nok 1\nok\nerror 23 TraceFull\nerror 23 TraceFull\n\
 error 23 TraceFull\nerror 23 TraceFull\nok\n",
     );
-    same!(rt; receipts, 9);
     same!(rt; left.audit, Some(true));
     same!(rt; [left.counts.total, left.counts.free, left.counts.rsvd], [2, 2, 0]);
 }
@@ -134,19 +140,19 @@ error 23 TraceFull\nerror 23 TraceFull\nok\n",
 #[test]
 fn a_full_room_refuses_before_the_first_event(rt: HostRuntime) {
     let blanks = Blanks::new(rt.alloc(), &[4, 4], 1024).expect(&rt, "memory");
-    let words = Blank::new(rt.alloc()).expect(&rt, "memory");
-    same!(rt; full_room::<Brand, HostRuntime>(&rt, rt.alloc(), blanks, words), 2);
+    let history = history(&rt, rt.alloc());
+    same!(rt; full_room::<Brand, HostRuntime>(&rt, rt.alloc(), blanks, history), 2);
 }
 
 #[test]
 fn a_fork_and_an_exit_pass_all_slots(rt: HostRuntime) {
     let blanks = Blanks::new(rt.alloc(), &[4, 4], 1024).expect(&rt, "memory");
-    let words = Blank::new(rt.alloc()).expect(&rt, "memory");
-    let (_receipts, left) = closed::<Brand, HostRuntime>(
+    let history = history(&rt, rt.alloc());
+    let left = closed::<Brand, HostRuntime>(
         &rt,
         rt.alloc(),
         blanks,
-        words,
+        history,
         100,
         b"nr 8\nconnect 1 0\nmount 1 -\nmount 3 -\ncreate 0 a\ncreate 1 a\ncreate 3 a\n\
 map 1 0 a 0 1 private\nmap 1 1 a 0 1 private\nmap 1 3 a 0 1 private\n\

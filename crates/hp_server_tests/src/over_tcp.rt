@@ -1,11 +1,12 @@
 //! Sessions over TCP, of which one is held under a lock while another goes on.
-ghost use Rattle.std.specs.Prelude.{◌≡◌, ◌∷◌, []};
+ghost use Rattle.std.specs.Prelude.{◌≡◌, ◌∷◌, [], false};
 ghost use Rattle.hp_nodes.specs.Ledgers.{AreFrames};
 ghost use Rattle.hp_pool.specs.Ledgers.{AreLedgers};
 
 use crate::gate::{Held, Hold, Place};
+use crate::histories::history;
 use crate::same::same;
-use hp_homes::{Blank, Noted};
+use hp_history::{Opened, Places};
 use hp_model::naming::Naming;
 use hp_pool::Blanks;
 use hp_server::Served;
@@ -92,41 +93,60 @@ fn clients<R: Net<Stream = TcpStream> + Abort + Clock>(
 
 // Serves three sessions on two workers, on a machine with this gate: the status.
 fn serves<
-    N: Naming + Noted + Send + Sync,
+    N: Naming + Places + Send + Sync,
     R: Threads + Wait + Abort + Clock + Sync,
     C: Connections,
 >(
     rt: &R,
     alloc: Global,
     blanks: Blanks,
-    words: Blank,
+    history: Opened,
     hold: &Hold<'_, R>,
     connections: &mut C,
     output: &mut Vec<u8>,
 ) -> u8
     requires ledgers { AreLedgers N.Naming blanks }
-    requires words { words.words.shared.table_id ≡ N.words }
+    requires history { history.table.shared.table_id ≡ N.history }
+    requires shaped { history.shape ≡ N.shape }
+    requires shape { N.shape ≡ record { slots = 4; nodes = 2; looks = false } }
     requires frames { AreFrames N.frames (4 ∷ 4 ∷ []) }
     requires bytes { N.page_bytes ≡ 1024 }
 {
     let machine = Served {
-        shared: Shared::<N, 1>::new(alloc, &[4, 4], 1024, 4, ROOM, blanks, words).expect(
+        shared: Shared::<N, 1>::new(alloc, &[4, 4], 1024, 4, ROOM, blanks, history).expect(
             rt, "memory",
         ),
         gate: Held { hold },
         room: ROOM,
     };
+    serves_on(rt, alloc, machine, connections, output)
+}
+
+// On this machine.
+fn serves_on<
+    N: Naming + Places + Send + Sync,
+    R: Threads + Wait + Abort + Clock + Sync,
+    C: Connections,
+>(
+    rt: &R,
+    alloc: Global,
+    machine: Served<N, Held<'_, R>, 1>,
+    connections: &mut C,
+    output: &mut Vec<u8>,
+) -> u8 {
     let mut faults = Vec::new(alloc);
     serve_sessions(rt, alloc, machine, connections, 3, 2, output, &mut faults)
 }
 
 // One session is held at a place while another finishes, which is told this.
 fn row<
-    N: Naming + Noted + Send + Sync,
+    N: Naming + Places + Send + Sync,
     R: Threads + Wait + Abort + Clock + Net<Stream = TcpStream, Listener = TcpListener> + Sync,
->(rt: &R, alloc: Global, blanks: Blanks, words: Blank, place: Place, meanwhile: &[u8])
+>(rt: &R, alloc: Global, blanks: Blanks, history: Opened, place: Place, meanwhile: &[u8])
     requires ledgers { AreLedgers N.Naming blanks }
-    requires words { words.words.shared.table_id ≡ N.words }
+    requires history { history.table.shared.table_id ≡ N.history }
+    requires shaped { history.shape ≡ N.shape }
+    requires shape { N.shape ≡ record { slots = 4; nodes = 2; looks = false } }
     requires frames { AreFrames N.frames (4 ∷ 4 ∷ []) }
     requires bytes { N.page_bytes ≡ 1024 }
 {
@@ -137,7 +157,9 @@ fn row<
     let mut output = Vec::new(alloc);
     let serving = ||
         requires ledgers { AreLedgers N.Naming blanks }
-        requires words { words.words.shared.table_id ≡ N.words }
+        requires history { history.table.shared.table_id ≡ N.history }
+        requires shaped { history.shape ≡ N.shape }
+        requires shape { N.shape ≡ record { slots = 4; nodes = 2; looks = false } }
         requires frames { AreFrames N.frames (4 ∷ 4 ∷ []) }
         requires bytes { N.page_bytes ≡ 1024 }
     {
@@ -145,7 +167,7 @@ fn row<
             rt,
             alloc,
             blanks,
-            words,
+            history,
             &hold,
             &mut connections,
             &mut output,
@@ -161,12 +183,12 @@ fn row<
 #[test]
 fn a_session_held_at_a_slot_holds_no_other(rt: HostRuntime) {
     let blanks = Blanks::new(rt.alloc(), &[4, 4], 1024).expect(&rt, "memory");
-    let words = Blank::new(rt.alloc()).expect(&rt, "memory");
+    let history = history(&rt, rt.alloc());
     row::<Brand, HostRuntime>(
         &rt,
         rt.alloc(),
         blanks,
-        words,
+        history,
         Place::Slot(1),
         HELD_AT_THE_SLOT,
     );
@@ -175,12 +197,12 @@ fn a_session_held_at_a_slot_holds_no_other(rt: HostRuntime) {
 #[test]
 fn a_session_held_at_a_node_holds_no_other(rt: HostRuntime) {
     let blanks = Blanks::new(rt.alloc(), &[4, 4], 1024).expect(&rt, "memory");
-    let words = Blank::new(rt.alloc()).expect(&rt, "memory");
+    let history = history(&rt, rt.alloc());
     row::<Brand, HostRuntime>(
         &rt,
         rt.alloc(),
         blanks,
-        words,
+        history,
         Place::Node(0),
         HELD_AT_THE_NODE,
     );

@@ -3,7 +3,7 @@ ghost use Rattle.std.specs.Prelude.{◌≡◌, [], All};
 ghost use Rattle.hp_serving.specs.Session.{IsOfConnection};
 
 use crate::host::Machine;
-use std::sync::OnceLock;
+use std::sync::Mutex;
 
 /// What a session was told, on which a connection was served.
 #[derive(Drop)]
@@ -13,7 +13,10 @@ pub struct Filed<M: Machine> {
 }
 
 /// What the sessions were told, in the order of the cells. The list has room for all.
-pub fn all_told<M: Machine>(filed: Vec<OnceLock<Filed<M>>>, mut told: Vec<M::Told>) -> Vec<M::Told>
+pub fn all_told<M: Machine>(
+    filed: Vec<Mutex<Option<Filed<M>>>>,
+    mut told: Vec<M::Told>,
+) -> Vec<M::Told>
     requires { told.items ≡ [] }
     ensures { All (IsOfConnection M.is_opened M.was_told M.may_answer M.page) result.items }
 {

@@ -52,7 +52,7 @@ pub struct Closed {
 /// A machine that sessions are served on, and that is closed after them.
 pub trait Machine {
     /// What a session was told, once it is finished.
-    type Told: Drop + Send + Sync;
+    type Told: Drop + Send;
 
     /// What is seen of a session.
     ghost Session: { Type 0 };
@@ -86,8 +86,11 @@ pub trait Machine {
         ensures unread { OnErr result (reader.new ≡ reader.old) }
         ensures unwritten { OnErr result (writer.new ≡ writer.old) };
 
-    /// Closes the machine once all its sessions are finished, and compares what these were told with its trails,
-    /// where it keeps them. Refused is only the comparison, for want of memory; then it is closed too.
+    /// The number that the session got when it was opened: the first got 0, and each the next.
+    fn number(told: &Self::Told) -> usize;
+
+    /// Closes the machine once all its sessions are finished, given what these were told in the order of their
+    /// numbers, and finds out whether that is all. Refused is only that, for want of memory; then it is closed too.
     fn close(self, alloc: Global, told: Vec<Self::Told>) -> Result<Closed, AllocError>
         ensures leaves { IfOk result (may_leave self told.items) }
         ensures limits { IfOk result IsOfMachine };

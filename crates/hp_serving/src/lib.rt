@@ -11,7 +11,7 @@ mod session;
 mod sessions;
 mod tcp;
 
-pub use connections::{Accepted, Connections};
+pub use connections::Connections;
 pub use fault::ServeFault;
 pub use filed::Filed;
 pub use host::{Closed, Host, Machine};

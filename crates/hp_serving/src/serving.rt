@@ -2,19 +2,19 @@
 ghost use Rattle.std.specs.Prelude.{◌≡◌, ◌≤◌, IfOk, OnErr};
 ghost use Rattle.hp_serving.specs.Session.{IsServed};
 
-use crate::connections::{Accepted, Connections, numbered};
+use crate::connections::Connections;
 use crate::fault::ServeFault;
 use crate::filed::Filed;
 use crate::host::Machine;
 use crossbeam_channel::{Receiver, Sender};
 use hp_wire::ends::{Sink, Source};
 use std::alloc::{AllocError, Global};
-use std::sync::{OnceLock, Wait};
+use std::sync::{Mutex, Wait};
 use std::thread;
 use std::thread::{Scope, Threads};
 
-/// Serves as many sessions as there are cells, on so many workers, and files what each was told in the cell of its
-/// number. A worker that can't be started is left out. The connections are announced once one runs.
+/// Serves as many sessions as there are cells, on so many workers, and files what each was told in the cell of the
+/// number that it got. A worker that can't be started is left out. The connections are announced once one runs.
 ///
 /// It returns when all sessions that were handed out have ended, however these ended. `Memory` says that no worker
 /// could be started or no queue made, and `Write` that the connections could not be announced: then no session was
@@ -25,7 +25,7 @@ pub fn serve<R: Threads + Wait + Sync, M: Machine + Sync, C: Connections>(
     machine: &M,
     connections: &mut C,
     workers: usize,
-    filed: &[OnceLock<Filed<M>>],
+    filed: &[Mutex<Option<Filed<M>>>],
 ) -> Result<(), ServeFault> {
     let Ok((to, from)) = crossbeam_channel::bounded(alloc, workers.max(1)) else {
         return Err(ServeFault::Memory);
@@ -39,9 +39,9 @@ fn run<'x, R: Threads + Wait + Sync, M: Machine + Sync, C: Connections>(
     machine: &'x M,
     connections: &mut C,
     workers: usize,
-    filed: &'x [OnceLock<Filed<M>>],
-    jobs: &'x Receiver<Accepted<C::Reader, C::Writer>, Global>,
-    to: Sender<Accepted<C::Reader, C::Writer>, Global>,
+    filed: &'x [Mutex<Option<Filed<M>>>],
+    jobs: &'x Receiver<(C::Reader, C::Writer), Global>,
+    to: Sender<(C::Reader, C::Writer), Global>,
 ) -> Result<(), ServeFault> {
     thread::scope(thread::scope_env(), rt, |scope| {
         if start_workers(scope, rt, alloc, machine, workers, jobs, filed) {
@@ -66,8 +66,8 @@ fn start_workers<
     alloc: Global,
     machine: &'x M,
     workers: usize,
-    jobs: &'x Receiver<Accepted<A, B>, Global>,
-    filed: &'x [OnceLock<Filed<M>>],
+    jobs: &'x Receiver<(A, B), Global>,
+    filed: &'x [Mutex<Option<Filed<M>>>],
 ) -> bool {
     let mut started = false;
     for _ in 0..workers {
@@ -85,7 +85,7 @@ fn start_workers<
 fn hand_out_all<R: Wait, C: Connections>(
     rt: &R,
     connections: &mut C,
-    to: Sender<Accepted<C::Reader, C::Writer>, Global>,
+    to: Sender<(C::Reader, C::Writer), Global>,
     count: usize,
 ) -> Result<(), ServeFault> {
     if connections.announce().is_err() {
@@ -101,18 +101,15 @@ fn hand_out_all<R: Wait, C: Connections>(
 fn hand_out<R: Wait, C: Connections>(
     rt: &R,
     connections: &mut C,
-    to: Sender<Accepted<C::Reader, C::Writer>, Global>,
+    to: Sender<(C::Reader, C::Writer), Global>,
     count: usize,
 ) -> usize
     ensures { result ≤ count }
 {
     for number in 0..count {
         match connections.next() {
-            Ok(Some((reader, writer))) => {
-                if to
-                    .send(rt, numbered(number, count, reader, writer))
-                    .is_err()
-                {
+            Ok(Some(connection)) => {
+                if to.send(rt, connection).is_err() {
                     return number;
                 }
             }
@@ -128,21 +125,15 @@ fn work<R: Wait, M: Machine, A: Source + Drop, B: Sink + Drop>(
     rt: &R,
     alloc: Global,
     machine: &M,
-    jobs: &Receiver<Accepted<A, B>, Global>,
-    filed: &[OnceLock<Filed<M>>],
+    jobs: &Receiver<(A, B), Global>,
+    filed: &[Mutex<Option<Filed<M>>>],
 ) {
     for _ in rt.forever() {
-        let Ok(job) = jobs.recv(rt) else {
+        let Ok((mut reader, mut writer)) = jobs.recv(rt) else {
             return;
         };
-        let Accepted {
-            number,
-            count: _,
-            mut reader,
-            mut writer,
-        } = job;
         match serve_one(rt, alloc, machine, &mut reader, &mut writer) {
-            Ok(one) => file(rt, number, one, filed),
+            Ok(one) => file(rt, one, filed),
             Err(AllocError) => answer_no_session(&mut reader, &mut writer),
         }
     }
@@ -178,9 +169,9 @@ fn serve_one<R: Wait, M: Machine, A: Source, B: Sink>(
     Ok(Filed { told })
 }
 
-// Files it in the cell of its connection's number.
-fn file<R: Wait, M: Machine>(rt: &R, number: usize, one: Filed<M>, filed: &[OnceLock<Filed<M>>]) {
-    if let Some(cell) = filed.get(number) {
-        let _kept = cell.set(rt, one);
+// Files it in the cell of its session's number. What has no cell is lost, and the machine finds that out when it is closed.
+fn file<R: Wait, M: Machine>(rt: &R, one: Filed<M>, filed: &[Mutex<Option<Filed<M>>>]) {
+    if let Some(cell) = filed.get(M::number(&one.told)) {
+        *cell.lock(rt) = Some(one);
     }
 }

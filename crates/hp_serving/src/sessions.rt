@@ -15,7 +15,7 @@ use hp_wire::ends::{Sink, write_whole};
 use hp_wire::fault::RunFault;
 use std::alloc::{AllocError, Global};
 use std::io::Write;
-use std::sync::{OnceLock, Wait};
+use std::sync::{Mutex, Wait};
 use std::thread::Threads;
 
 /// How the serving of all sessions ended.
@@ -65,7 +65,7 @@ pub fn serve_sessions<
 fn rooms<M: Machine>(
     alloc: Global,
     sessions: usize,
-) -> Result<(Vec<OnceLock<Filed<M>>>, Vec<M::Told>, Vec<u8>), AllocError>
+) -> Result<(Vec<Mutex<Option<Filed<M>>>>, Vec<M::Told>, Vec<u8>), AllocError>
     ensures { IfOk result (λ rooms. (rooms.1.items ≡ [])
         × (rooms.2.items ≡ []) × (256 ≤ vec_capacity rooms.2)) }
 {
@@ -75,10 +75,10 @@ fn rooms<M: Machine>(
     Ok((filed, told, text))
 }
 
-fn cells<T: Drop>(alloc: Global, sessions: usize) -> Result<Vec<OnceLock<T>>, AllocError> {
+fn cells<T: Drop>(alloc: Global, sessions: usize) -> Result<Vec<Mutex<Option<T>>>, AllocError> {
     let mut cells = Vec::new(alloc);
     for _ in 0..sessions {
-        cells.push(OnceLock::new())?;
+        cells.push(Mutex::new(None))?;
     }
     Ok(cells)
 }

@@ -15,10 +15,12 @@ use std::alloc::{AllocError, Global};
 use std::marker::Model;
 use std::sync::{Mutex, Wait};
 
-/// What all sessions share: how many calls there were, how many sessions may yet open, and what the audit answers.
+/// What all sessions share: how many calls there were, how many sessions may open in all and yet, and what the audit
+/// answers of what they were told, if that comes in the order of their numbers.
 #[derive(Drop)]
 pub struct Small {
     pub calls: Mutex<u64>,
+    pub most: u64,
     pub opens: Mutex<u64>,
     pub audit: Option<bool>,
 }
@@ -27,6 +29,7 @@ impl Small {
     pub fn new(opens: u64, audit: Option<bool>) -> Small {
         Small {
             calls: Mutex::new(0),
+            most: opens,
             opens: Mutex::new(opens),
             audit,
         }
@@ -45,6 +48,7 @@ pub struct Waiting<'x, R> {
 pub struct Session<'x, R> {
     rt: &'x R,
     machine: &'x Small,
+    number: usize,
     made: u64,
 }
 
@@ -52,6 +56,13 @@ impl<'x, R> Model for Session<'x, R> {
     ghost Value = { ℕ };
 
     ghost view = { λ session. session.made };
+}
+
+/// How many calls the session of this number made.
+#[derive(Clone, Copy, Drop, PartialEq, Eq, Debug)]
+pub struct Calls {
+    pub number: usize,
+    pub made: u64,
 }
 
 impl<'x, R: Wait> Session<'x, R> {
@@ -122,11 +133,11 @@ impl<'x, R: Wait> Service for Session<'x, R> {
 impl<'x, R: Wait> Host for Waiting<'x, R> {
     type Session = Session<'x, R>;
 
-    type Told = u64;
+    type Told = Calls;
 
     ghost is_opened = { λ made. made ≡ 0 };
 
-    ghost was_told = { λ made told. told ≡ made };
+    ghost was_told = { λ made told. told.made ≡ made };
 
     fn open(&self, _alloc: Global) -> Result<Session<'x, R>, AllocError> {
         let mut value = self.machine.opens.lock(self.rt);
@@ -134,21 +145,38 @@ impl<'x, R: Wait> Host for Waiting<'x, R> {
         if *opens == 0 {
             return Err(AllocError);
         }
+        let number = self.machine.most.saturating_sub(*opens) as usize;
         *opens -= 1;
         Ok(Session {
             rt: self.rt,
             machine: self.machine,
+            number,
             made: 0,
         })
     }
 
-    fn finish(session: Session<'x, R>) -> u64 {
-        session.made
+    fn finish(session: Session<'x, R>) -> Calls {
+        Calls {
+            number: session.number,
+            made: session.made,
+        }
     }
 }
 
+// Whether they begin at 0, and each has the next number.
+fn are_in_order(told: &[Calls]) -> bool {
+    let mut next = 0usize;
+    for one in told.iter() {
+        if one.number != next {
+            return false;
+        }
+        next = next.saturating_add(1);
+    }
+    true
+}
+
 impl Machine for Small {
-    type Told = u64;
+    type Told = Calls;
 
     ghost Session = { ℕ };
 
@@ -158,7 +186,7 @@ impl Machine for Small {
 
     ghost is_opened = { λ made. made ≡ 0 };
 
-    ghost was_told = { λ made told. told ≡ made };
+    ghost was_told = { λ made told. told.made ≡ made };
 
     ghost may_leave = { λ machine told closed. closed.counts.free ≡ length told };
 
@@ -168,22 +196,31 @@ impl Machine for Small {
         alloc: Global,
         reader: &mut A,
         writer: &mut B,
-    ) -> Result<u64, AllocError> {
+    ) -> Result<Calls, AllocError> {
         let host = Waiting { rt, machine: self };
         serve_session(alloc, &host, reader, writer)
     }
 
+    fn number(told: &Calls) -> usize {
+        told.number
+    }
+
     /// Its counts tell how many sessions were told how much.
-    fn close(self, _alloc: Global, told: Vec<u64>) -> Result<Closed, AllocError>
+    fn close(self, _alloc: Global, told: Vec<Calls>) -> Result<Closed, AllocError>
         ensures leaves { IfOk result (λ closed. closed.counts.free ≡ length told.items) }
         ensures limits { IfOk result IsOfMachine }
     {
+        let audit = if are_in_order(told.as_slice()) {
+            self.audit
+        } else {
+            Some(false)
+        };
         let mut sum = 0u64;
         for one in told.iter() {
-            sum = sum.saturating_add(*one);
+            sum = sum.saturating_add(one.made);
         }
         Ok(Closed {
-            audit: self.audit,
+            audit,
             counts: Counts {
                 total: sum.min(262_144),
                 free: told.len() as u64,

@@ -79,6 +79,55 @@ fn served<R: Threads + Wait + Clock + Net<Stream = TcpStream, Listener = TcpList
     Some((bad, ok, status, said.len()))
 }
 
+// Two sessions, of which the first to open ends once the other has.
+fn outlasts<R: Net<Stream = TcpStream>>(rt: &R, at: SocketAddr) -> io::Result<()> {
+    let mut replies = [0u8; 5];
+    let first = TcpStream::connect(rt, at)?;
+    (&first).write_all(b"nr 4\n")?;
+    (&first).read_exact(&mut replies)?;
+    let second = TcpStream::connect(rt, at)?;
+    (&second).write_all(b"nr 4\n")?;
+    second.shutdown(Shutdown::Write)?;
+    (&second).read_exact(&mut replies)?;
+    let _end = (&second).read(&mut replies)?;
+    first.shutdown(Shutdown::Write)
+}
+
+// The status that a server of these ends with.
+fn outlasted<R: Threads + Wait + Clock + Net<Stream = TcpStream, Listener = TcpListener> + Sync>(
+    rt: &R,
+    alloc: Global,
+) -> Option<u8> {
+    let listener = TcpListener::bind(rt, "127.0.0.1:0").ok()?;
+    let at = listener.local_addr().ok()?;
+    let mut connections = Listening::new(rt, alloc, listener, Vec::new(alloc));
+    let mut output = Vec::new(alloc);
+    let mut faults = Vec::new(alloc);
+    let (told, status) = join(
+        rt,
+        || outlasts(rt, at),
+        || {
+            serve_sessions(
+                rt,
+                alloc,
+                Small::new(9, Some(true)),
+                &mut connections,
+                2,
+                2,
+                &mut output,
+                &mut faults,
+            )
+        },
+    );
+    told.ok()?;
+    Some(status)
+}
+
+#[test]
+fn what_sessions_were_told_is_in_the_order_of_their_numbers(rt: HostRuntime) {
+    same!(rt; outlasted(&rt, rt.alloc()), Some(0));
+}
+
 #[test]
 fn sessions_over_tcp(rt: HostRuntime) -> Result<(), Fail> {
     let Some((bad, ok, status, said)) = served(&rt, rt.alloc()) else {

@@ -55,7 +55,7 @@ fn answers_each_prefix_of_the_stored_run(rt: HostRuntime) -> Result<(), Fail> {
         let unended = len > 0 && !input.ends_with(b"\n");
         let wanted = replies_to(alloc, ended, unended)?;
         same!(rt; text.as_slice(), wanted.as_slice(), "at {len}");
-        same!(rt; told, ended as u64, "at {len}");
+        same!(rt; told.made, ended as u64, "at {len}");
     }
     Ok(())
 }
@@ -96,7 +96,7 @@ fn answers_what_ended_before_a_read_fails(rt: HostRuntime) -> Result<(), Fail> {
         let ended = ended_lines(&SCRIPT[..read]);
         let wanted = replies_to(alloc, ended, false)?;
         same!(rt; text.as_slice(), wanted.as_slice(), "at {reads}");
-        same!(rt; told, ended as u64, "at {reads}");
+        same!(rt; told.made, ended as u64, "at {reads}");
     }
     Ok(())
 }
@@ -120,7 +120,7 @@ fn writes_a_front_before_a_write_fails(rt: HostRuntime) -> Result<(), Fail> {
         let told = serve_session(alloc, &host, &mut rest, &mut writer)?;
         let len = (5 * writes as usize).min(all.len());
         same!(rt; writer.text.as_slice(), &all.as_slice()[..len], "at {writes}");
-        same!(rt; told, 8, "at {writes}");
+        same!(rt; told.made, 8, "at {writes}");
     }
     Ok(())
 }
@@ -139,6 +139,6 @@ fn a_long_line_is_refused_once(rt: HostRuntime) -> Result<(), Fail> {
     let mut text = Vec::new(alloc);
     let told = serve_session(alloc, &host, &mut rest, &mut text)?;
     same!(rt; text.as_slice(), b"error 22 LineTooLong\nok 7\n".as_slice());
-    same!(rt; told, 1);
+    same!(rt; told.made, 1);
     Ok(())
 }

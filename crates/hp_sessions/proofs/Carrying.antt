@@ -1,7 +1,7 @@
 -- A step's script, carried out event by event.
-use Rattle.std.proofs.Common.{if◌then◌else◌, ◌≡◌, ℕ, ◌+◌, ◌<◌, ◌≤◌, Bool, true, false, List, [], ◌∷◌, ◌++◌, Option, None, Some, Ok, Err, inl, inr, length, map, refl, sym, ap, subst, ◌∙◌, arith}
+use Rattle.std.proofs.Common.{if◌then◌else◌, ◌≡◌, ℕ, ◌+◌, ◌<◌, ◌≤◌, Bool, true, false, List, [], ◌∷◌, ◌++◌, Ok, Err, inl, inr, map, refl, sym, ap, subst, ◌∙◌, arith}
 use Rattle.std.specs.Bool.{MatchBool}
-use Rattle.std.proofs.lemmas.List.{append-nil, append_assoc, length-append, map-append}
+use Rattle.std.proofs.lemmas.List.{append-nil, append_assoc, map-append}
 use Rattle.std.proofs.lemmas.Bool.{le-ltb, lt-ltb}
 use Rattle.std.proofs.lemmas.List.Elements.{All-cons, All-nil}
 use Rattle.hp_model.specs.declared.answer.Answer.TheVariants.{Home}
@@ -15,11 +15,10 @@ use Rattle.hp_model.specs.declared.refusal.Refusal.TheVariants.{NoSuchSlot, Trac
 use Rattle.hp_model.specs.declared.step.Step.{Step}
 use Rattle.hp_model.specs.machine.Plan.{Reply}
 use Rattle.hp_model.specs.machine.Step.{Answer_with, Do, Script, Where_mapped, finding, home_in, on_slot, only, script}
-use Rattle.hp_model.specs.threads.JointRun.{option_cons}
 use Rattle.hp_model.specs.threads.Telling.{Tells, TellsFront, TellsStep, has_place, told_of}
 use Rattle.hp_parts.specs.Replies.{is_trace_full}
 use Rattle.hp_parts.specs.Answered.{CanAnswer, IsHanded, IsToldOf}
-use Rattle.hp_sessions.specs.Calls.{AreAdded, AreAnswers, Carries, Grows, HasRoomFor, IsCallAnswered, IsMade, IsRefusedFirst}
+use Rattle.hp_sessions.specs.Calls.{AreAdded, AreAnswers, Carries, Grows, HasRoomFor, IsCallAnswered, IsMade, IsRefusedFirst, IsToldByReceipts}
 use Rattle.hp_sessions.specs.Calls.{Leads, SessionView, TellsOrStops, noted}
 
 -- ---- cases of a test
@@ -51,23 +50,24 @@ is_full (Err other) e = cc
 
 -- ---- receipts
 
+abbrev pub with_receipts : SessionView → List Receipt → SessionView
+with_receipts s rs = record { slots = s.slots; receipts = rs; room = s.room }
+
 noted_none : (s : SessionView) → s ≡ noted s []
-noted_none s = ap (λ (rs : List Receipt). record { slots = s.slots; receipts = rs; room = s.room }) (sym (append-nil s.receipts))
+noted_none s = ap (with_receipts s) (sym (append-nil s.receipts))
 
 noted_then : (s : SessionView) (a b : List Receipt) → noted (noted s a) b ≡ noted s (a ++ b)
-noted_then s a b = ap (λ (rs : List Receipt). record { slots = s.slots; receipts = rs; room = s.room }) (append_assoc s.receipts a b)
+noted_then s a b = ap (with_receipts s) (append_assoc s.receipts a b)
 
-added_none : (kept : Bool) (s : SessionView) → AreAdded kept s [] s
-added_none true s = ([], noted_none s, refl)
-added_none false s = refl
+added_none : (s : SessionView) → AreAdded s [] s
+added_none s = ([], noted_none s, refl)
 
-added_then : (kept : Bool) (s t u : SessionView) (xs ys : List (Event × Reply)) → AreAdded kept s xs t → AreAdded kept t ys u → AreAdded kept s (xs ++ ys) u
-added_then true s t u xs ys a b = (
+added_then : (s t u : SessionView) (xs ys : List (Event × Reply)) → AreAdded s xs t → AreAdded t ys u → AreAdded s (xs ++ ys) u
+added_then s t u xs ys a b = (
   a.0 ++ b.0,
   b.1 ∙ ap (λ (v : SessionView). noted v b.0) a.1 ∙ noted_then s a.0 b.0,
   map-append told_of a.0 b.0 ∙ ap (λ zs. zs ++ map told_of b.0) a.2 ∙ ap (λ zs. xs ++ zs) b.2,
 )
-added_then false s t u xs ys a b = b ∙ a
 
 abbrev Can : ℕ → Event × Reply → Type 0
 Can size x = CanAnswer size x.0 x.1
@@ -88,7 +88,7 @@ module _ (kept : Bool) (size : ℕ) where
   pub ends : (s : SessionView) (r : Reply) → is_trace_full r ≡ false → Carries kept size s (Answer_with r) r s
   ends s r is = record {
     events = [];
-    added = added_none kept s;
+    added = added_none s;
     answers = All-nil (Can size);
     tells = tells_done (Answer_with r) [] r is refl;
   }
@@ -98,7 +98,7 @@ module _ (kept : Bool) (size : ℕ) where
     FullOnes = (kept ≡ true) × (has_place e ≡ false) × (t ≡ s)
 
     abbrev MadeOnes : Type 0
-    MadeOnes = CanAnswer size e r × AreAdded kept s ((e, r) ∷ []) t
+    MadeOnes = CanAnswer size e r × AreAdded s ((e, r) ∷ []) t
 
     -- an event with its reply, and what follows
     pub goes_on : (next : Reply → Script) (reply : Reply) (u : SessionView) → is_trace_full r ≡ false → Carries kept size t (next r) reply u → Carries kept size s (Do e next) reply u
@@ -106,7 +106,7 @@ module _ (kept : Bool) (size : ℕ) where
         let done = done_in (is_trace_full r) FullOnes MadeOnes is made in
         record {
           events = (e, r) ∷ rest.events;
-          added = added_then kept s t u ((e, r) ∷ []) rest.events done.1 rest.added;
+          added = added_then s t u ((e, r) ∷ []) rest.events done.1 rest.added;
           answers = All-cons (Can size) (e, r) rest.events done.0 rest.answers;
           tells = tells_by (next r) (Do e next) rest.events ((e, r) ∷ rest.events) reply (λ h. (refl, h)) (λ h. (refl, h)) rest.tells;
         }
@@ -117,7 +117,7 @@ module _ (kept : Bool) (size : ℕ) where
         let full = full_in (is_trace_full r) FullOnes MadeOnes is made in
         record {
           events = [];
-          added = subst (λ (v : SessionView). AreAdded kept s [] v) (sym full.2) (added_none kept s);
+          added = subst (λ (v : SessionView). AreAdded s [] v) (sym full.2) (added_none s);
           answers = All-nil (Can size);
           tells = tells_full (Do e next) [] r is full.0 full.1;
         }
@@ -188,63 +188,51 @@ never_full : (b : Bool) (A B : Type 0) → MatchBool b ((false ≡ true) × A) B
 never_full true A B h = cc
 never_full false A B h = (refl, h)
 
+told_by : (kept : Bool) (size : ℕ) (s t : SessionView) (step : Step) (reply : Reply) → Carries kept size s (script s.slots step) reply t → IsToldByReceipts size s step reply t
+told_by kept size s t step reply c = record {
+  added = c.added.0;
+  noted = c.added.1;
+  answers = subst (λ xs. AreAnswers size xs) (sym c.added.2) c.answers;
+  tells = subst (λ xs. TellsStep s.slots step xs reply) (sym c.added.2) (tells_step s.slots step c.events reply kept c.tells);
+}
+
 -- carried out, the step is answered
 pub answered : (kept : Bool) (size : ℕ) (s t : SessionView) (step : Step) (reply : Reply) → (kept ≡ true → HasRoomFor s step) →
     Carries kept size s (script s.slots step) reply t → IsCallAnswered kept size s step reply t
-answered true size s t step reply room c =
-    inl (
-      room refl,
-      record {
-        added = c.added.0;
-        noted = c.added.1;
-        answers = subst (λ xs. AreAnswers size xs) (sym c.added.2) c.answers;
-        tells = subst (λ xs. TellsStep s.slots step xs reply) (sym c.added.2) (tells_step s.slots step c.events reply true c.tells);
-      },
-    )
+answered true size s t step reply room c = inl (room refl, told_by true size s t step reply c)
 answered false size s t step reply room c =
-    let told = never_full (is_trace_full reply) (TellsFront (script s.slots step) c.events) (Tells (script s.slots step) c.events reply) c.tells in (c.added, told.0, (c.events, c.answers, told.1))
+    ((never_full (is_trace_full reply) (TellsFront (script s.slots step) c.events) (Tells (script s.slots step) c.events reply) c.tells).0, told_by false size s t step reply c)
 
 pub refused_first : (size : ℕ) (s : SessionView) (step : Step) (reply : Reply) → IsRefusedFirst s step reply → IsCallAnswered true size s step reply s
 refused_first size s step reply h = inr (refl, h)
 
--- ---- a receipt
+-- ---- an event
 
--- what a part handed back, with its receipt added
-pub made_of : (kept : Bool) (size : ℕ) (s : SessionView) (e : Event) (reply : Reply) (receipt : Option Receipt) (added : List Receipt) → IsHanded kept size e reply receipt →
-    (receipt ≡ None → added ≡ []) → ((r : Receipt) → receipt ≡ Some r → added ≡ r ∷ []) → IsMade kept size s e reply (noted s added)
-made_of kept size s e reply receipt added handed none some =
-    map_match (is_trace_full reply) ((kept ≡ true) × (has_place e ≡ false) × (receipt ≡ None)) (CanAnswer size e reply × IsToldOf kept e reply receipt)
-    ((kept ≡ true) × (has_place e ≡ false) × (noted s added ≡ s)) (CanAnswer size e reply × AreAdded kept s ((e, reply) ∷ []) (noted s added))
-    (λ h. (h.0, h.1, ap (noted s) (none h.2) ∙ sym (noted_none s)))
-    (λ h. (h.0, by kept receipt refl h.1)) handed
-  where
-    by : (k : Bool) (o : Option Receipt) → receipt ≡ o → IsToldOf k e reply o → AreAdded k s ((e, reply) ∷ []) (noted s added)
-    by true None is h = absurd h
-    by true (Some r) is h = (added, refl, ap (map told_of) (some r is) ∙ ap (λ x. x ∷ []) h)
-    by false o is h = ap (noted s) (none (is ∙ h)) ∙ sym (noted_none s)
+-- a session whose parts have these receipts
+module _ (s t : SessionView) (slots : t.slots ≡ s.slots) (room : t.room ≡ s.room) where
+  pub view_is : t ≡ with_receipts s t.receipts
+  view_is =
+      ap (λ n. record { slots = n; receipts = t.receipts; room = t.room }) slots ∙ ap (λ n. record { slots = s.slots; receipts = t.receipts; room = n }) room
 
-pub made_added : (kept : Bool) (size : ℕ) (s t : SessionView) (e : Event) (reply : Reply) (receipt : Option Receipt) → IsHanded kept size e reply receipt →
-    t ≡ noted s (option_cons receipt []) → IsMade kept size s e reply t
-made_added kept size s t e reply receipt handed is =
-    subst (λ (v : SessionView). IsMade kept size s e reply v) (sym is)
-    (made_of kept size s e reply receipt (option_cons receipt []) handed (λ none. ap (λ o. option_cons o []) none) (λ r some. ap (λ o. option_cons o []) some))
+  noted_by : (added : List Receipt) → t.receipts ≡ s.receipts ++ added → t ≡ noted s added
+  noted_by added is = view_is ∙ ap (with_receipts s) is
 
--- without a receipt nothing is added
-pub made_unnoted : (kept : Bool) (size : ℕ) (s : SessionView) (e : Event) (reply : Reply) → IsHanded kept size e reply None → IsMade kept size s e reply s
-made_unnoted kept size s e reply handed =
-    subst (λ (v : SessionView). IsMade kept size s e reply v) (sym (noted_none s)) (made_of kept size s e reply None [] handed (λ none. refl) (λ r some. cc))
+  -- nothing was told
+  pub same_as : t.receipts ≡ s.receipts → t ≡ s
+  same_as is = noted_by [] (is ∙ sym (append-nil s.receipts)) ∙ sym (noted_none s)
 
--- one receipt, or none
-pub grows_one : (s t : SessionView) (receipt : Option Receipt) → t ≡ noted s (option_cons receipt []) → Grows 1 s t
-grows_one s t receipt is = record {
-  slots = ap (λ (v : SessionView). v.slots) is;
-  room = ap (λ (v : SessionView). v.room) is;
-  few = (let same = ap (λ (v : SessionView). length v.receipts) is in let one = at_most receipt in let all = length-append s.receipts (option_cons receipt []) in omega (arith, same, one, all));
-}
-  where
-    at_most : (o : Option Receipt) → length (option_cons o []) ≤ 1
-    at_most None = omega arith
-    at_most (Some r) = omega arith
+  -- what a part answered, and what was told
+  pub made : (kept : Bool) (size : ℕ) (e : Event) (reply : Reply) → IsHanded kept size e reply s.receipts t.receipts → IsMade kept size s e reply t
+  made kept size e reply handed =
+      map_match (is_trace_full reply) ((kept ≡ true) × (has_place e ≡ false) × (t.receipts ≡ s.receipts)) (CanAnswer size e reply × IsToldOf e reply s.receipts t.receipts)
+      ((kept ≡ true) × (has_place e ≡ false) × (t ≡ s)) (CanAnswer size e reply × AreAdded s ((e, reply) ∷ []) t)
+      (λ h. (h.0, h.1, same_as h.2))
+      (λ h. (h.0, (h.1.0 ∷ [], noted_by (h.1.0 ∷ []) h.1.1, ap (λ x. x ∷ []) h.1.2))) handed
+
+-- the same of what a session is seen as
+pub made_by : {v : SessionView} (s t : SessionView) → v ≡ s → t.slots ≡ v.slots → t.room ≡ v.room → (kept : Bool) (size : ℕ) (e : Event) (reply : Reply) →
+    IsHanded kept size e reply v.receipts t.receipts → IsMade kept size s e reply t
+made_by {v} s t is slots room kept size e reply handed = subst (λ w. IsMade kept size w e reply t) is (made v t slots room kept size e reply handed)
 
 -- ---- how many receipts came
 

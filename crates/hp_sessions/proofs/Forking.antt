@@ -18,12 +18,10 @@ use Rattle.hp_model.specs.machine.Table.{Table, added, home_of, is_crowded, is_k
 use Rattle.hp_parts.specs.Replies.{is_trace_full, table_reply}
 use Rattle.hp_parts.specs.declared.table_told.TableTold.{TableTold}
 use Rattle.hp_parts.specs.declared.table_told.TableTold.TheVariants as told
-use Rattle.hp_model.specs.declared.entry.Receipt.{Receipt}
-use Rattle.hp_model.specs.threads.JointRun.{option_cons}
 use Rattle.hp_parts.specs.Answered.{IsHanded}
-use Rattle.hp_sessions.specs.Calls.{Carries, IsMade, Leads, SessionView, noted}
+use Rattle.hp_sessions.specs.Calls.{Carries, IsMade, Leads, SessionView}
 use Rattle.hp_sessions.specs.Forks.{IsForked, marked_below}
-use Rattle.hp_sessions.proofs.Carrying.{ends, goes_on, is_full, made_added, refused_made, stops, where_mapped, where_other}
+use Rattle.hp_sessions.proofs.Carrying.{ends, goes_on, is_full, made_by, refused_made, same_as, stops, where_mapped, where_other}
 
 range_more : (a n : ℕ) → range_with_len a (suc n) ≡ range_with_len a n ++ (a + n) ∷ []
 range_more a zero = ap (λ k. k ∷ []) {x = a} {y = a + 0} (omega arith)
@@ -101,10 +99,12 @@ module _ (kept : Bool) (size : ℕ) where
   exit_none s t k task same next reply u c =
       where_other kept size s u k task (Do (OnSlot k (ExitMaps task)) (λ r. next)) next reply (subst (λ v. Carries kept size v next reply u) same c)
 
-  -- what the slot handed back
-  pub exit_leads : (s t : SessionView) (k task : ℕ) (receipt : Option Receipt) → IsHanded kept size (OnSlot k (ExitMaps task)) (Ok Done) receipt →
-      t ≡ noted s (option_cons receipt []) → (next : Script) → Leads kept size s (exit_slot k task next) t next
-  exit_leads s t k task receipt h is = exit_made s t k task (made_added kept size s t (OnSlot k (ExitMaps task)) (Ok Done) receipt h is)
+  -- what was answered of a task's maps on a slot
+  pub exit_leads : {v : SessionView} (s t : SessionView) → v ≡ s → t.slots ≡ v.slots → t.room ≡ v.room → (k task : ℕ) (any : Bool) →
+      MatchBool any (IsHanded kept size (OnSlot k (ExitMaps task)) (Ok Done) v.receipts t.receipts) (t.receipts ≡ v.receipts) →
+      (next : Script) → Leads kept size s (exit_slot k task next) t next
+  exit_leads s t is slots room k task true h = exit_made s t k task (made_by s t is slots room kept size (OnSlot k (ExitMaps task)) (Ok Done) h)
+  exit_leads {v} s t is slots room k task false h = exit_none s t k task (same_as v t slots room h ∙ is)
 
   -- ---- the table's event before
 

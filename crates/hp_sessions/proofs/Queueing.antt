@@ -1,13 +1,14 @@
 -- Loads and stores that their slot takes together.
-use Rattle.std.proofs.Common.{◌≡◌, ℕ, ◌+◌, ◌-◌, ◌<◌, ◌≤◌, Bool, true, false, List, [], ◌∷◌, ◌++◌, None, Ok, length, take, drop, refl, sym, ap, subst, ◌∙◌, arith}
+use Rattle.std.proofs.Common.{◌≡◌, ℕ, ◌+◌, ◌-◌, ◌<◌, ◌≤◌, Bool, false, List, [], ◌∷◌, ◌++◌, Ok, length, take, drop, refl, sym, ap, subst, ◌∙◌, arith}
 use Rattle.std.proofs.Common.{append-nil, length-drop, take-add, take_all}
 use Rattle.std.proofs.Math.ListN.{drop_of_length-le}
 use Rattle.std.proofs.Math.Seq.{drop-append-add, take-append-add}
 use Rattle.std.proofs.lemmas.List.{drop-drop, length-take-le}
 use borrow.Rule.Slice.PartMut.{put_mid}
-use Rattle.hp_model.proofs.Queues.{does_both, does_next, left_next}
-use Rattle.hp_model.specs.beside.Queue.{DoesAll, DoesOne, QueuedView}
+use Rattle.hp_model.proofs.Queues.{does_both}
+use Rattle.hp_model.specs.beside.Queue.{DoesAll, QueuedView}
 use Rattle.hp_model.specs.declared.answer.Answer.TheVariants.{Home}
+use Rattle.hp_model.specs.declared.entry.Receipt.{Receipt}
 use Rattle.hp_model.specs.declared.event.Event.TheVariants.{Tasks as OnTasks, Slot as OnSlot}
 use Rattle.hp_model.specs.declared.event.SlotEvent.{SlotEvent}
 use Rattle.hp_model.specs.declared.event.SlotEvent.TheVariants as slot
@@ -15,44 +16,57 @@ use Rattle.hp_model.specs.declared.event.TableEvent.TheVariants.{Find}
 use Rattle.hp_model.specs.declared.step.Step.{Step}
 use Rattle.hp_model.specs.declared.step.Step.TheVariants.{Load, Store}
 use Rattle.hp_model.specs.machine.Plan.{Reply}
-use Rattle.hp_model.specs.machine.Step.{finding, on_slot, script}
+use Rattle.hp_model.specs.machine.Step.{finding, on_slot}
 use Rattle.hp_parts.specs.Queues.{AreAccessesHanded, AreFirstHanded, IsAccessHanded, IsFoundAndHanded}
 use Rattle.hp_sessions.specs.Calls.{Carries, IsCallAnswered, SessionView}
-use Rattle.hp_sessions.proofs.Carrying.{answered, found, made_unnoted, on_slot_made}
+use Rattle.hp_sessions.proofs.Carrying.{answered, found, made, on_slot_made, view_is, with_receipts}
 
 abbrev pub Called : Bool → ℕ → SessionView → Step → Reply → SessionView → Type 0
 Called kept size s step reply t = IsCallAnswered kept size s step reply t
 
-module _ (size : ℕ) (s : SessionView) (at : ℕ) (within : at < s.slots) where
-  -- the task is found, and its slot answers
-  found_and_answered : (task : ℕ) (event : ℕ → SlotEvent) (reply : Reply) → IsFoundAndHanded size at task event reply
-      → Carries false size s (finding task (λ home. on_slot s.slots at (event home))) reply s
-  found_and_answered task event reply h =
-      found false size s s task h.0 (made_unnoted false size s (OnTasks (Find task)) (Ok (Home h.0)) h.1) (λ home. on_slot s.slots at (event home)) reply s
-      (on_slot_made false size s s at (event h.0) reply within (made_unnoted false size s (OnSlot at (event h.0)) reply h.2))
+module _ (size slots room at : ℕ) (within : at < slots) where
+  abbrev Told : List Receipt → SessionView
+  Told rs = record { slots = slots; receipts = rs; room = room }
 
-  access_answered : (step : Step) (reply : Reply) → IsAccessHanded size at step reply → Called false size s step reply s
-  access_answered (Load task k number i offset count) reply h =
-      answered false size s s (Load task k number i offset count) reply (λ k. cc)
-      (subst (λ n. Carries false size s (finding task (λ home. on_slot s.slots n (slot.Load task home number i offset count))) reply s) (sym h.0)
-      (found_and_answered task (λ home. slot.Load task home number i offset count) reply h.1))
-  access_answered (Store task k number i offset bytes) reply h =
-      answered false size s s (Store task k number i offset bytes) reply (λ k. cc)
-      (subst (λ n. Carries false size s (finding task (λ home. on_slot s.slots n (slot.Store task home number i offset bytes))) reply s) (sym h.0)
-      (found_and_answered task (λ home. slot.Store task home number i offset bytes) reply h.1))
-  access_answered other reply h = absurd h
+  -- the task is found, and its slot answers
+  found_and_answered : (task : ℕ) (event : ℕ → SlotEvent) (reply : Reply) (was now : List Receipt) → IsFoundAndHanded size at task event reply was now
+      → Carries false size (Told was) (finding task (λ home. on_slot slots at (event home))) reply (Told now)
+  found_and_answered task event reply was now h =
+      found false size (Told was) (Told h.between) task h.home (made (Told was) (Told h.between) refl refl false size (OnTasks (Find task)) (Ok (Home h.home)) h.found)
+      (λ home. on_slot slots at (event home)) reply (Told now)
+      (on_slot_made false size (Told h.between) (Told now) at (event h.home) reply within
+      (made (Told h.between) (Told now) refl refl false size (OnSlot at (event h.home)) reply h.handed))
+
+  access_answered : (step : Step) (reply : Reply) (was now : List Receipt) → IsAccessHanded size at step reply was now → Called false size (Told was) step reply (Told now)
+  access_answered (Load task k number i offset count) reply was now h =
+      answered false size (Told was) (Told now) (Load task k number i offset count) reply (λ k. cc)
+      (subst (λ n. Carries false size (Told was) (finding task (λ home. on_slot slots n (slot.Load task home number i offset count))) reply (Told now)) (sym h.0)
+      (found_and_answered task (λ home. slot.Load task home number i offset count) reply was now h.1))
+  access_answered (Store task k number i offset bytes) reply was now h =
+      answered false size (Told was) (Told now) (Store task k number i offset bytes) reply (λ k. cc)
+      (subst (λ n. Carries false size (Told was) (finding task (λ home. on_slot slots n (slot.Store task home number i offset bytes))) reply (Told now)) (sym h.0)
+      (found_and_answered task (λ home. slot.Store task home number i offset bytes) reply was now h.1))
+  access_answered other reply was now h = absurd h
 
   -- each is answered
-  all_answered : (before after : List QueuedView) → AreAccessesHanded size at before after → DoesAll (Called false size) s before after s
-  all_answered [] [] h = refl
-  all_answered [] (a ∷ rest) h = absurd h
-  all_answered (b ∷ bs) [] h = absurd h
-  all_answered (b ∷ bs) (a ∷ rest) h = (s, access_answered b.step a.reply h.0, all_answered bs rest h.1)
+  all_answered : (before after : List QueuedView) (was now : List Receipt) → AreAccessesHanded size at before after was now → DoesAll (Called false size) (Told was) before after (Told now)
+  all_answered [] [] was now h = ap Told (sym h)
+  all_answered [] (a ∷ rest) was now h = absurd h
+  all_answered (b ∷ bs) [] was now h = absurd h
+  all_answered (b ∷ bs) (a ∷ rest) was now h = (Told h.0, access_answered b.step a.reply was h.0 h.1, all_answered bs rest h.0 now h.2)
 
-  pub together : (kept : Bool) (n : ℕ) (before after : List QueuedView) → kept ≡ false → AreFirstHanded size at n before after
-      → DoesAll (Called kept size) s (take n before) (take n after) s
-  together kept n before after unkept h =
-      subst (λ k. DoesAll (Called k size) s (take n before) (take n after) s) (sym unkept) (all_answered (take n before) (take n after) h.handed)
+module _ (kept : Bool) (size at n : ℕ) (before after : List QueuedView) (unkept : kept ≡ false) where
+  all_together : (s t : SessionView) → at < s.slots → t.slots ≡ s.slots → t.room ≡ s.room → AreFirstHanded size at n before after s.receipts t.receipts
+      → DoesAll (Called kept size) s (take n before) (take n after) t
+  all_together s t within slots room h =
+      subst (λ (w : SessionView). DoesAll (Called kept size) s (take n before) (take n after) w) (sym (view_is s t slots room))
+      (subst (λ k. DoesAll (Called k size) s (take n before) (take n after) (with_receipts s t.receipts)) (sym unkept)
+      (all_answered size s.slots s.room at within (take n before) (take n after) s.receipts t.receipts h.handed))
+
+  pub together : {v : SessionView} (s t : SessionView) → v ≡ s → at < v.slots → t.slots ≡ v.slots → t.room ≡ v.room → AreFirstHanded size at n before after v.receipts t.receipts
+      → DoesAll (Called kept size) s (take n before) (take n after) t
+  together {v} s t is within slots room h =
+      subst (λ (w : SessionView). DoesAll (Called kept size) w (take n before) (take n after) t) is (all_together v t within slots room h)
 
 -- ---- a queue, of which the first are done
 
@@ -79,12 +93,12 @@ left_behind at n now made within =
 module _ (kept : Bool) (size : ℕ) (s t : SessionView) (before now : List QueuedView) (at : ℕ) (within : at ≤ length now) (left : drop at now ≡ drop at before)
     (all : DoesAll (Called kept size) s (take at before) (take at now) t) where
   -- some more are done together
-  pub several_more : (n : ℕ) (made : List QueuedView) → DoesAll (Called kept size) t (take n (take (length now - at) (drop at now))) (take n made) t
-      → DoesAll (Called kept size) s (take (at + n) before) (take (at + n) (Behind at now made)) t
-  several_more n made more =
+  pub several_more : (u : SessionView) (n : ℕ) (made : List QueuedView) → DoesAll (Called kept size) t (take n (take (length now - at) (drop at now))) (take n made) u
+      → DoesAll (Called kept size) s (take (at + n) before) (take (at + n) (Behind at now made)) u
+  several_more u n made more =
       rw (take-add at n before, first_taken at n now made within)
-      (does_both (Called kept size) s t t (take at before) (take at now) (take n (drop at before)) (take n made) all
-      (subst (λ xs. DoesAll (Called kept size) t (take n xs) (take n made) t) (lent_is at now ∙ left) more))
+      (does_both (Called kept size) s t u (take at before) (take at now) (take n (drop at before)) (take n made) all
+      (subst (λ xs. DoesAll (Called kept size) t (take n xs) (take n made) u) (lent_is at now ∙ left) more))
 
   pub several_left : (n : ℕ) (made : List QueuedView) → drop n made ≡ drop n (take (length now - at) (drop at now)) → drop (at + n) (Behind at now made) ≡ drop (at + n) before
   several_left n made same = left_behind at n now made within ∙ same ∙ ap (drop n) (lent_is at now ∙ left) ∙ drop-drop n at before

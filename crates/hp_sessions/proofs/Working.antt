@@ -1,20 +1,19 @@
 -- A step, by what it asks of which part.
-use Rattle.std.proofs.Common.{◌≡◌, ℕ, Bool, true, false, inl, inr, refl, sym, subst, ◌∙◌, arith}
-use Rattle.hp_model.specs.declared.event.Event.{Event}
+use Rattle.std.proofs.Common.{◌≡◌, ℕ, Bool, true, inl, inr, refl, sym, subst, ◌∙◌, arith}
 use Rattle.hp_model.specs.declared.step.Intent.{Intent}
 use Rattle.hp_model.specs.declared.step.Step.{Step}
 use Rattle.hp_model.specs.declared.step.Step.TheVariants.{Fault}
 use Rattle.hp_events.specs.declared.event.MountEvent.TheVariants as m
 use Rattle.hp_model.specs.machine.Plan.{Reply}
-use Rattle.hp_model.specs.machine.Step.{on_slot, only, script}
+use Rattle.hp_model.specs.machine.Step.{on_slot}
 use Rattle.hp_events.specs.declared.work.Work.{Work}
 use Rattle.hp_events.specs.declared.work.Work.TheVariants.{OfTask}
-use Rattle.hp_sessions.specs.Calls.{Carries, HasReceiptRoom, IsCallAnswered, IsMade, IsRefusedFirst, SessionView}
+use Rattle.hp_sessions.specs.Calls.{Carries, HasReceiptRoom, IsCallAnswered, IsRefusedFirst, SessionView}
 use Rattle.hp_events.specs.Works.{IsWork, work_carries, work_receipts, work_script}
 use Rattle.hp_parts.specs.SlotWork.{asked_event, carries}
 use Rattle.hp_parts.specs.declared.slot_work.SlotWork.{SlotWork}
 use Rattle.hp_sessions.specs.Works.{IsAsked, IsRefusedWork, IsWorked}
-use Rattle.hp_sessions.proofs.Carrying.{answered, only_made, refused_first}
+use Rattle.hp_sessions.proofs.Carrying.{answered, refused_first}
 
 -- what was done of the work is what was done of the step
 pub step_answered : (kept : Bool) (size : ℕ) (s t : SessionView) (step : Step) (w : Work) (reply : Reply) → IsWork step w → IsWorked kept size s w reply t → IsCallAnswered kept size s step reply t
@@ -41,15 +40,10 @@ pub asked_worked : (kept : Bool) (size : ℕ) (s t : SessionView) (k : ℕ) (ask
 asked_worked kept size s t k asked w reply script same room (inl done) = inl (room, subst (λ c. Carries kept size s c reply t) (sym script) done)
 asked_worked kept size s t k asked w reply script same room (inr refused) = inr (refused.0, refused.1, inr (refused.2, same ∙ refused.3))
 
--- ---- a fault, and an event alone where no entries are kept
+-- ---- a fault
 
 pub fault_worked : (kept : Bool) (size : ℕ) (s t : SessionView) (task k number index : ℕ) (intent : Intent) (reply : Reply) →
     IsWorked kept size s (OfTask task k (m.Fault task number index intent)) reply t → IsCallAnswered kept size s (Fault task k number index intent) reply t
 fault_worked kept size s t task k number index intent reply done =
     step_answered kept size s t (Fault task k number index intent) (OfTask task k (m.Fault task number index intent)) reply
     (record { script = λ n. refl; receipts = λ n. refl; carries = refl; apart = refl; usage = refl; memory = λ state. refl }) done
-
-pub alone_answered : (kept : Bool) (size : ℕ) (s t : SessionView) (step : Step) (e : Event) (reply : Reply) → kept ≡ false → script s.slots step ≡ only e → IsMade kept size s e reply t →
-    IsCallAnswered kept size s step reply t
-alone_answered kept size s t step e reply unkept is made =
-    answered kept size s t step reply (λ k. (let none = sym k ∙ unkept in cc)) (subst (λ c. Carries kept size s c reply t) (sym is) (only_made kept size s t e reply made))

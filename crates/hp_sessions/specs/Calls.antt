@@ -7,14 +7,14 @@ use Rattle.hp_model.specs.declared.event.Event.{Event}
 use Rattle.hp_model.specs.declared.refusal.Refusal.TheVariants.{OutOfMemory, TraceFull}
 use Rattle.hp_model.specs.declared.step.Step.{Step}
 use Rattle.hp_model.specs.machine.Plan.{Reply}
-use Rattle.hp_model.specs.machine.Step.{Script, script}
+use Rattle.hp_model.specs.machine.Step.{Script}
 use Rattle.hp_model.specs.threads.Telling.{ReceiptsTell, Tells, TellsFront, carries_bytes, has_place, most_receipts, told_of}
 use Rattle.hp_parts.specs.Answered.{CanAnswer}
 use Rattle.hp_parts.specs.Replies.{is_trace_full}
 
 -- ---- a session
 
--- the slots of its machine, the receipts so far, and for how many there is room
+-- the slots of its machine, the receipts so far, and for how many there is room, where entries are kept
 pub record SessionView : Type 0 where
   pub slots : ℕ
   pub receipts : List Receipt
@@ -45,25 +45,22 @@ IsRefusedFirst s step reply =
     ((reply ≡ Err TraceFull) × (s.room < length s.receipts + most_receipts s.slots step))
     ⊎ ((reply ≡ Err OutOfMemory) × (carries_bytes step ≡ true))
 
--- what a call answers and leaves. Where entries are kept, the receipts of the step's events are added, in order; or none, as it
--- is refused before the first. Where none are kept, the reply is the step's by some events that could be answered so, and it
--- is never TraceFull
+-- What a call answers and leaves: the receipts of the step's events are added, in order, and the reply is the step's by them.
+-- Where entries are kept, it may be refused before the first instead; where none are kept, it is never TraceFull.
 abbrev pub IsCallAnswered : (kept : Bool) (size : ℕ) → SessionView → Step → Reply → SessionView → Type 0
 IsCallAnswered true size s step reply t = (HasRoomFor s step × IsToldByReceipts size s step reply t) ⊎ ((t ≡ s) × IsRefusedFirst s step reply)
-IsCallAnswered false size s step reply t =
-    (t ≡ s) × (is_trace_full reply ≡ false) × ((xs : List (Event × Reply)) × AreAnswers size xs × Tells (script s.slots step) xs reply)
+IsCallAnswered false size s step reply t = (is_trace_full reply ≡ false) × IsToldByReceipts size s step reply t
 
 -- ---- a part of a step
 
--- the receipts of these came, where entries are kept
-abbrev pub AreAdded : (kept : Bool) → SessionView → List (Event × Reply) → SessionView → Type 0
-AreAdded true s xs t = (added : List Receipt) × (t ≡ noted s added) × (map told_of added ≡ xs)
-AreAdded false s xs t = t ≡ s
+-- the receipts of these came
+abbrev pub AreAdded : SessionView → List (Event × Reply) → SessionView → Type 0
+AreAdded s xs t = (added : List Receipt) × (t ≡ noted s added) × (map told_of added ≡ xs)
 
 -- the event was answered so and its receipt added; or there was no place for it
 abbrev pub IsMade : (kept : Bool) (size : ℕ) → SessionView → Event → Reply → SessionView → Type 0
 IsMade kept size s e reply t =
-    MatchBool (is_trace_full reply) ((kept ≡ true) × (has_place e ≡ false) × (t ≡ s)) (CanAnswer size e reply × AreAdded kept s ((e, reply) ∷ []) t)
+    MatchBool (is_trace_full reply) ((kept ≡ true) × (has_place e ≡ false) × (t ≡ s)) (CanAnswer size e reply × AreAdded s ((e, reply) ∷ []) t)
 
 -- the script's events, up to its reply; or up to an event for which there was no place
 abbrev pub TellsOrStops : (kept : Bool) → Script → List (Event × Reply) → Reply → Type 0
@@ -72,7 +69,7 @@ TellsOrStops kept c xs reply = MatchBool (is_trace_full reply) ((kept ≡ true) 
 -- the script was carried out, up to its reply or to an event for which there was no place
 pub record Carries (kept : Bool) (size : ℕ) (s : SessionView) (c : Script) (reply : Reply) (t : SessionView) : Type 0 where
   pub events : List (Event × Reply)
-  pub added : AreAdded kept s events t
+  pub added : AreAdded s events t
   pub answers : AreAnswers size events
   pub tells : TellsOrStops kept c events reply
 

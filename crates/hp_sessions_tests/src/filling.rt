@@ -1,23 +1,22 @@
 //! Pages of a range, which are filled when their node's lock is let go.
-ghost use Rattle.std.specs.Prelude.{◌≡◌, ◌∷◌, []};
+ghost use Rattle.std.specs.Prelude.{◌≡◌, ◌∷◌, [], false};
 ghost use Rattle.hp_nodes.specs.Ledgers.{AreFrames};
 ghost use Rattle.hp_pool.specs.Ledgers.{AreLedgers};
 
 use crate::gates::Free;
-use crate::rows::{ROOM, call, opened};
+use crate::rows::{ROOM, call, history_of, opened};
 use crate::same::same;
-use hp_closing::close;
-use hp_homes::{Blank, Noted};
+use crate::whole::close_whole;
+use hp_history::{Opened, Places};
 use hp_locked::Gate;
 use hp_model::answer::Answer;
-use hp_model::entry::Receipt;
 use hp_model::lent::Lent;
 use hp_model::naming::Naming;
 use hp_model::step::{Reserving, Sharing, Step};
 use hp_parts::Parts;
 use hp_pool::Blanks;
 use hp_sessions::Session;
-use hp_shared::Shared;
+use hp_shared::{Finished, Shared};
 use std::alloc::Global;
 use std::marker::Brand;
 use std::process::Abort;
@@ -82,13 +81,12 @@ fn start<R: Abort, P: Parts>(rt: &R, session: &mut Session<P>) {
     same!(rt; call(session, &map), Ok(Answer::MapNo(1)));
 }
 
-fn fills<N: Naming + Noted, R: Wait + Abort, const K: usize>(
+fn fills<N: Naming + Places, R: Wait + Abort, const K: usize>(
     rt: &R,
-    alloc: Global,
     shared: &Shared<N, K>,
     filling: &Filling,
-) -> Vec<Receipt> {
-    let mut session = opened(rt, alloc, shared, filling, ROOM);
+) -> Finished<N, K> {
+    let mut session = opened(rt, shared, filling, ROOM);
     let all = Step::Preallocate {
         slot: 1,
         name: Lent::new(b"a"),
@@ -97,19 +95,18 @@ fn fills<N: Naming + Noted, R: Wait + Abort, const K: usize>(
     };
     same!(rt; call(&mut session, &all), Ok(Answer::Done));
     filling.filled.store(1, Ordering::SeqCst);
-    session.finish()
+    session.finish().into_finished()
 }
 
 // Stores into a page of the same node, once the others are being drawn: whether these were filled by then.
-fn stores<N: Naming + Noted, R: Wait + Abort + Clock, const K: usize>(
+fn stores<N: Naming + Places, R: Wait + Abort + Clock, const K: usize>(
     rt: &R,
-    alloc: Global,
     shared: &Shared<N, K>,
     filling: &Filling,
-) -> (u64, Vec<Receipt>) {
+) -> (u64, Finished<N, K>) {
     filling.wait(rt);
     let free = Free {};
-    let mut session = opened(rt, alloc, shared, &free, ROOM);
+    let mut session = opened(rt, shared, &free, ROOM);
     let store = Step::Store {
         task: 2,
         slot: 2,
@@ -120,55 +117,52 @@ fn stores<N: Naming + Noted, R: Wait + Abort + Clock, const K: usize>(
     };
     same!(rt; call(&mut session, &store), Ok(Answer::Done));
     let filled = filling.filled.load(Ordering::SeqCst);
-    (filled, session.finish())
+    (filled, session.finish().into_finished())
 }
 
 fn beside<
-    N: Naming + Noted + Send + Sync,
+    N: Naming + Places + Send + Sync,
     R: Threads + Wait + Abort + Clock + Sync,
     const K: usize,
->(
-    rt: &R,
-    alloc: Global,
-    shared: &Shared<N, K>,
-    filling: &Filling,
-) -> (Vec<Receipt>, (u64, Vec<Receipt>)) {
+>(rt: &R, shared: &Shared<N, K>, filling: &Filling) -> (Finished<N, K>, (u64, Finished<N, K>)) {
     thread::join(
         rt,
-        move || fills(rt, alloc, shared, filling),
-        move || stores(rt, alloc, shared, filling),
+        move || fills(rt, shared, filling),
+        move || stores(rt, shared, filling),
     )
 }
 
-fn row<N: Naming + Noted + Send + Sync, R: Threads + Wait + Abort + Clock + Sync>(
+fn row<N: Naming + Places + Send + Sync, R: Threads + Wait + Abort + Clock + Sync>(
     rt: &R,
     alloc: Global,
     blanks: Blanks,
-    words: Blank,
+    history: Opened,
 )
     requires ledgers { AreLedgers N.Naming blanks }
-    requires words { words.words.shared.table_id ≡ N.words }
+    requires history { history.table.shared.table_id ≡ N.history }
+    requires shaped { history.shape ≡ N.shape }
+    requires shape { N.shape ≡ record { slots = 4; nodes = 1; looks = false } }
     requires frames { AreFrames N.frames (129 ∷ []) }
     requires bytes { N.page_bytes ≡ 2097152 }
 {
-    let shared = Shared::<N, 1>::new(alloc, &[129], PAGE_BYTES, 4, ROOM, blanks, words).expect(
+    let shared = Shared::<N, 1>::new(alloc, &[129], PAGE_BYTES, 4, ROOM, blanks, history).expect(
         rt, "memory",
     );
     let free = Free {};
-    let mut first = opened(rt, alloc, &shared, &free, ROOM);
+    let mut first = opened(rt, &shared, &free, ROOM);
     start(rt, &mut first);
-    let told = first.finish();
+    let told = first.finish().into_finished();
     let filling = Filling {
         drawn: AtomicU64::new(0),
         filled: AtomicU64::new(0),
     };
-    let (one, (filled, two)) = beside(rt, alloc, &shared, &filling);
+    let (one, (filled, two)) = beside(rt, &shared, &filling);
     same!(rt; filled, 0);
     let mut all = Vec::with_capacity(alloc, 3).expect(rt, "memory");
     all.push_reserved(told);
     all.push_reserved(one);
     all.push_reserved(two);
-    let closed = close(alloc, shared, all).expect(rt, "memory");
+    let closed = close_whole(rt, alloc, shared, all);
     same!(rt; closed.audit, Some(true));
     same!(rt; [closed.counts.total, closed.counts.free, closed.counts.rsvd], [129, 129, 0]);
 }
@@ -176,6 +170,6 @@ fn row<N: Naming + Noted + Send + Sync, R: Threads + Wait + Abort + Clock + Sync
 #[test]
 fn a_range_is_filled_with_no_node_held(rt: HostRuntime) {
     let blanks = Blanks::new(rt.alloc(), &[129], PAGE_BYTES).expect(&rt, "memory");
-    let words = Blank::new(rt.alloc()).expect(&rt, "memory");
-    row::<Brand, HostRuntime>(&rt, rt.alloc(), blanks, words);
+    let history = history_of(&rt, rt.alloc(), 4, 1, false);
+    row::<Brand, HostRuntime>(&rt, rt.alloc(), blanks, history);
 }

@@ -1,15 +1,14 @@
 //! Full trails, a full room, and what a session left to others.
-ghost use Rattle.std.specs.Prelude.{◌≡◌, ◌≤◌, ◌∷◌, []};
+ghost use Rattle.std.specs.Prelude.{◌≡◌, ◌≤◌, ◌∷◌, [], false};
 ghost use Rattle.hp_nodes.specs.Ledgers.{AreFrames};
 ghost use Rattle.hp_pool.specs.Ledgers.{AreLedgers};
 
 use crate::gates::Free;
-use crate::rows::{call, counts, opened};
+use crate::rows::{call, counts, history_of, opened};
 use crate::same::same;
 use hp_closing::{audit, into_system};
-use hp_homes::{Blank, Noted};
+use hp_history::{Opened, Places};
 use hp_model::answer::{Answer, Reply};
-use hp_model::entry::Receipt;
 use hp_model::lent::Lent;
 use hp_model::naming::Naming;
 use hp_model::refusal::Refusal;
@@ -17,7 +16,7 @@ use hp_model::step::{Reserving, Sharing, Step};
 use hp_parts::Parts;
 use hp_pool::Blanks;
 use hp_sessions::Session;
-use hp_shared::Shared;
+use hp_shared::{Finished, Shared};
 use std::alloc::Global;
 use std::marker::Brand;
 use std::process::Abort;
@@ -27,25 +26,39 @@ fn connect<P: Parts>(session: &mut Session<P>, task: u64) -> Reply {
     call(session, &Step::Connect { task, home: 0 })
 }
 
-// What these sessions were told, and the trails, are one run: of how many events, and how many entries the task table has.
-fn joined<N: Naming + Noted, R: Abort>(
+// What these sessions were told, which are all, and the trails are one run: how many receipts they have, of how many events it
+// is, and how many entries the task table has.
+fn joined<N: Naming + Places, R: Abort>(
     rt: &R,
     alloc: Global,
     shared: Shared<N, 1>,
-    told: Vec<Vec<Receipt>>,
-) -> [usize; 2] {
-    let (system, trails) = into_system(shared);
+    sessions: Vec<Finished<N, 1>>,
+) -> [usize; 3] {
+    let (system, trails, ended) = into_system(shared);
     system.close();
+    assert!(rt; ended.in_order, "slots out of order");
+    same!(rt; ended.sessions, sessions.len() as u64);
     let Some(trails) = trails else {
         panic!(rt; "no trails");
     };
+    let mut told = Vec::with_capacity(alloc, sessions.len()).expect(rt, "memory");
+    let mut count = 0usize;
+    for session in sessions {
+        let (receipts, _seat) = session.into_parts();
+        count = count.saturating_add(receipts.len());
+        told.push(receipts).expect(rt, "memory");
+    }
     let events = audit(alloc, &trails, told).expect(rt, "trails that are joined");
-    [events.len(), trails.tasks.len()]
+    [count, events.len(), trails.tasks.len()]
 }
 
-fn alone<R: Abort>(rt: &R, alloc: Global, told: Vec<Receipt>) -> Vec<Vec<Receipt>> {
+fn alone<N: Naming + Places, R: Abort>(
+    rt: &R,
+    alloc: Global,
+    session: Finished<N, 1>,
+) -> Vec<Finished<N, 1>> {
     let mut all = Vec::with_capacity(alloc, 1).expect(rt, "memory");
-    all.push_reserved(told);
+    all.push_reserved(session);
     all
 }
 
@@ -63,52 +76,52 @@ fn two_places<R: Abort, P: Parts>(rt: &R, session: &mut Session<P>) {
     same!(rt; call(session, &Step::Exit { task: 1 }), Err(Refusal::TraceFull));
 }
 
-fn full_trails<N: Naming + Noted, R: Wait + Abort>(
+fn full_trails<N: Naming + Places, R: Wait + Abort>(
     rt: &R,
     alloc: Global,
     blanks: Blanks,
-    words: Blank,
+    history: Opened,
 )
     requires ledgers { AreLedgers N.Naming blanks }
-    requires words { words.words.shared.table_id ≡ N.words }
+    requires history { history.table.shared.table_id ≡ N.history }
+    requires shaped { history.shape ≡ N.shape }
+    requires shape { N.shape ≡ record { slots = 4; nodes = 2; looks = false } }
     requires frames { AreFrames N.frames (4 ∷ 4 ∷ []) }
     requires bytes { N.page_bytes ≡ 1024 }
 {
-    let shared = Shared::<N, 1>::new(alloc, &[4, 4], 1024, 4, 2, blanks, words).expect(
+    let shared = Shared::<N, 1>::new(alloc, &[4, 4], 1024, 4, 2, blanks, history).expect(
         rt, "memory",
     );
     let free = Free {};
-    let mut session = opened(rt, alloc, &shared, &free, 16);
+    let mut session = opened(rt, &shared, &free, 16);
     two_places(rt, &mut session);
-    let told = session.finish();
-    same!(rt; told.len(), 5);
-    let all = alone(rt, alloc, told);
-    same!(rt; joined(rt, alloc, shared, all), [5, 3]);
+    let all = alone(rt, alloc, session.finish().into_finished());
+    same!(rt; joined(rt, alloc, shared, all), [5, 5, 3]);
 }
 
 // With room for one receipt the second step is refused before its event.
-fn full_room<N: Naming + Noted, R: Wait + Abort>(
+fn full_room<N: Naming + Places, R: Wait + Abort>(
     rt: &R,
     alloc: Global,
     blanks: Blanks,
-    words: Blank,
+    history: Opened,
 )
     requires ledgers { AreLedgers N.Naming blanks }
-    requires words { words.words.shared.table_id ≡ N.words }
+    requires history { history.table.shared.table_id ≡ N.history }
+    requires shaped { history.shape ≡ N.shape }
+    requires shape { N.shape ≡ record { slots = 4; nodes = 2; looks = false } }
     requires frames { AreFrames N.frames (4 ∷ 4 ∷ []) }
     requires bytes { N.page_bytes ≡ 1024 }
 {
-    let shared = Shared::<N, 1>::new(alloc, &[4, 4], 1024, 4, 16, blanks, words).expect(
+    let shared = Shared::<N, 1>::new(alloc, &[4, 4], 1024, 4, 16, blanks, history).expect(
         rt, "memory",
     );
     let free = Free {};
-    let mut session = opened(rt, alloc, &shared, &free, 1);
+    let mut session = opened(rt, &shared, &free, 1);
     same!(rt; connect(&mut session, 1), Ok(Answer::Done));
     same!(rt; connect(&mut session, 2), Err(Refusal::TraceFull));
-    let told = session.finish();
-    same!(rt; told.len(), 1);
-    let all = alone(rt, alloc, told);
-    same!(rt; joined(rt, alloc, shared, all), [1, 1]);
+    let all = alone(rt, alloc, session.finish().into_finished());
+    same!(rt; joined(rt, alloc, shared, all), [1, 1, 1]);
 }
 
 // A task with a map and a page, which its session leaves.
@@ -151,44 +164,46 @@ fn finds<R: Abort, P: Parts>(rt: &R, session: &mut Session<P>) {
     same!(rt; counts(session), Some([4, 4, 0, 0]));
 }
 
-fn left<N: Naming + Noted, R: Wait + Abort>(rt: &R, alloc: Global, blanks: Blanks, words: Blank)
+fn left<N: Naming + Places, R: Wait + Abort>(rt: &R, alloc: Global, blanks: Blanks, history: Opened)
     requires ledgers { AreLedgers N.Naming blanks }
-    requires words { words.words.shared.table_id ≡ N.words }
+    requires history { history.table.shared.table_id ≡ N.history }
+    requires shaped { history.shape ≡ N.shape }
+    requires shape { N.shape ≡ record { slots = 4; nodes = 2; looks = false } }
     requires frames { AreFrames N.frames (4 ∷ 4 ∷ []) }
     requires bytes { N.page_bytes ≡ 1024 }
 {
-    let shared = Shared::<N, 1>::new(alloc, &[4, 4], 1024, 4, 16, blanks, words).expect(
+    let shared = Shared::<N, 1>::new(alloc, &[4, 4], 1024, 4, 16, blanks, history).expect(
         rt, "memory",
     );
     let free = Free {};
-    let mut first = opened(rt, alloc, &shared, &free, 16);
+    let mut first = opened(rt, &shared, &free, 16);
     leaves(rt, &mut first);
-    let mut second = opened(rt, alloc, &shared, &free, 16);
+    let mut second = opened(rt, &shared, &free, 16);
     finds(rt, &mut second);
     let mut all = Vec::with_capacity(alloc, 2).expect(rt, "memory");
-    all.push_reserved(first.finish());
-    all.push_reserved(second.finish());
-    let [_events, tasks] = joined(rt, alloc, shared, all);
+    all.push_reserved(first.finish().into_finished());
+    all.push_reserved(second.finish().into_finished());
+    let [_receipts, _events, tasks] = joined(rt, alloc, shared, all);
     same!(rt; tasks, 6);
 }
 
 #[test]
 fn full_trails_refuse_all_but_what_gives_back(rt: HostRuntime) {
     let blanks = Blanks::new(rt.alloc(), &[4, 4], 1024).expect(&rt, "memory");
-    let words = Blank::new(rt.alloc()).expect(&rt, "memory");
-    full_trails::<Brand, HostRuntime>(&rt, rt.alloc(), blanks, words);
+    let history = history_of(&rt, rt.alloc(), 4, 2, false);
+    full_trails::<Brand, HostRuntime>(&rt, rt.alloc(), blanks, history);
 }
 
 #[test]
 fn a_full_room_refuses_a_step_with_no_event(rt: HostRuntime) {
     let blanks = Blanks::new(rt.alloc(), &[4, 4], 1024).expect(&rt, "memory");
-    let words = Blank::new(rt.alloc()).expect(&rt, "memory");
-    full_room::<Brand, HostRuntime>(&rt, rt.alloc(), blanks, words);
+    let history = history_of(&rt, rt.alloc(), 4, 2, false);
+    full_room::<Brand, HostRuntime>(&rt, rt.alloc(), blanks, history);
 }
 
 #[test]
 fn what_a_session_left_is_there_for_another(rt: HostRuntime) {
     let blanks = Blanks::new(rt.alloc(), &[4, 4], 1024).expect(&rt, "memory");
-    let words = Blank::new(rt.alloc()).expect(&rt, "memory");
-    left::<Brand, HostRuntime>(&rt, rt.alloc(), blanks, words);
+    let history = history_of(&rt, rt.alloc(), 4, 2, false);
+    left::<Brand, HostRuntime>(&rt, rt.alloc(), blanks, history);
 }

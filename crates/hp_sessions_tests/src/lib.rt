@@ -23,3 +23,5 @@ mod same;
 mod steps;
 #[cfg(test)]
 mod stress;
+#[cfg(test)]
+mod whole;

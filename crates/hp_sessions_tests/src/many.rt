@@ -1,20 +1,19 @@
 //! Many short runs of three sessions at once.
-ghost use Rattle.std.specs.Prelude.{◌≡◌, ◌∷◌, []};
+ghost use Rattle.std.specs.Prelude.{◌≡◌, ◌∷◌, [], false};
 ghost use Rattle.hp_nodes.specs.Ledgers.{AreFrames};
 ghost use Rattle.hp_pool.specs.Ledgers.{AreLedgers};
 
 use crate::gates::{Free, Slow};
-use crate::rows::opened;
+use crate::rows::{history_of, opened};
 use crate::same::same;
 use crate::steps::{Dice, any_step};
-use hp_closing::close;
-use hp_homes::{Blank, Noted};
-use hp_model::entry::Receipt;
+use crate::whole::close_whole;
+use hp_history::{Opened, Places};
 use hp_model::lent::Lent;
 use hp_model::naming::Naming;
 use hp_model::step::{Reserving, Sharing, Step};
 use hp_pool::Blanks;
-use hp_shared::Shared;
+use hp_shared::{Finished, Shared};
 use std::alloc::Global;
 use std::marker::Brand;
 use std::process::Abort;
@@ -36,13 +35,12 @@ const ROOM: usize = 300;
 const PLACES: usize = 1000;
 
 // Three tasks, pages, and a file that two of the tasks have maps of.
-fn start<N: Naming + Noted, R: Wait + Abort, const K: usize>(
+fn start<N: Naming + Places, R: Wait + Abort, const K: usize>(
     rt: &R,
-    alloc: Global,
     shared: &Shared<N, K>,
-) -> Vec<Receipt> {
+) -> Finished<N, K> {
     let free = Free {};
-    let mut session = opened(rt, alloc, shared, &free, ROOM);
+    let mut session = opened(rt, shared, &free, ROOM);
     let name = Lent::new(b"a");
     let _pages = session.call(&Step::Nr { pages: 5 });
     let _file = session.call(&Step::Create { slot: 0, name });
@@ -65,60 +63,59 @@ fn start<N: Naming + Noted, R: Wait + Abort, const K: usize>(
             reserving: Reserving::Reserve,
         });
     }
-    session.finish()
+    session.finish().into_finished()
 }
 
-// A session that does random steps: its receipts.
-fn work<N: Naming + Noted, R: Wait + Abort + Clock, const K: usize>(
+// A session that does random steps.
+fn work<N: Naming + Places, R: Wait + Abort + Clock, const K: usize>(
     rt: &R,
-    alloc: Global,
     shared: &Shared<N, K>,
     seed: u64,
-) -> Vec<Receipt> {
+) -> Finished<N, K> {
     let slow = Slow::new(rt);
-    let mut session = opened(rt, alloc, shared, &slow, ROOM);
+    let mut session = opened(rt, shared, &slow, ROOM);
     let mut dice = Dice::new(seed, TASKS, SLOTS);
     for _step in 0..STEPS {
         let _reply = session.call(&any_step(&mut dice));
     }
-    session.finish()
+    session.finish().into_finished()
 }
 
-fn two<N: Naming + Noted + Send + Sync, R: Threads + Wait + Abort + Clock + Sync, const K: usize>(
+fn two<N: Naming + Places + Send + Sync, R: Threads + Wait + Abort + Clock + Sync, const K: usize>(
     rt: &R,
-    alloc: Global,
     shared: &Shared<N, K>,
     seed: u64,
-) -> (Vec<Receipt>, Vec<Receipt>) {
+) -> (Finished<N, K>, Finished<N, K>) {
     thread::join(
         rt,
-        move || work(rt, alloc, shared, seed),
-        move || work(rt, alloc, shared, seed.wrapping_add(1_000_000)),
+        move || work(rt, shared, seed),
+        move || work(rt, shared, seed.wrapping_add(1_000_000)),
     )
 }
 
-fn three<N: Naming + Noted + Send + Sync, R: Threads + Wait + Abort + Clock + Sync, const K: usize>(
-    rt: &R,
-    alloc: Global,
-    shared: &Shared<N, K>,
-    seed: u64,
-) -> (Vec<Receipt>, (Vec<Receipt>, Vec<Receipt>)) {
+fn three<
+    N: Naming + Places + Send + Sync,
+    R: Threads + Wait + Abort + Clock + Sync,
+    const K: usize,
+>(rt: &R, shared: &Shared<N, K>, seed: u64) -> (Finished<N, K>, (Finished<N, K>, Finished<N, K>)) {
     thread::join(
         rt,
-        move || work(rt, alloc, shared, seed),
-        move || two(rt, alloc, shared, seed.wrapping_add(2_000_000)),
+        move || work(rt, shared, seed),
+        move || two(rt, shared, seed.wrapping_add(2_000_000)),
     )
 }
 
-fn run<N: Naming + Noted + Send + Sync, R: Threads + Wait + Abort + Clock + Sync>(
+fn run<N: Naming + Places + Send + Sync, R: Threads + Wait + Abort + Clock + Sync>(
     rt: &R,
     alloc: Global,
     blanks: Blanks,
-    words: Blank,
+    history: Opened,
     seed: u64,
 )
     requires ledgers { AreLedgers N.Naming blanks }
-    requires words { words.words.shared.table_id ≡ N.words }
+    requires history { history.table.shared.table_id ≡ N.history }
+    requires shaped { history.shape ≡ N.shape }
+    requires shape { N.shape ≡ record { slots = 2; nodes = 2; looks = false } }
     requires frames { AreFrames N.frames (4 ∷ 4 ∷ []) }
     requires bytes { N.page_bytes ≡ 1024 }
 {
@@ -129,16 +126,17 @@ fn run<N: Naming + Noted + Send + Sync, R: Threads + Wait + Abort + Clock + Sync
         SLOTS as usize,
         PLACES,
         blanks,
-        words,
-    ).expect(rt, "memory");
-    let begun = start(rt, alloc, &shared);
-    let (one, (two, three)) = three(rt, alloc, &shared, seed);
-    let mut told = Vec::with_capacity(alloc, 4).expect(rt, "memory");
-    told.push_reserved(begun);
-    told.push_reserved(one);
-    told.push_reserved(two);
-    told.push_reserved(three);
-    let closed = close(alloc, shared, told).expect(rt, "memory");
+        history,
+    )
+    .expect(rt, "memory");
+    let begun = start(rt, &shared);
+    let (one, (two, three)) = three(rt, &shared, seed);
+    let mut all = Vec::with_capacity(alloc, 4).expect(rt, "memory");
+    all.push_reserved(begun);
+    all.push_reserved(one);
+    all.push_reserved(two);
+    all.push_reserved(three);
+    let closed = close_whole(rt, alloc, shared, all);
     same!(rt; closed.audit, Some(true));
     same!(rt; closed.counts.free, closed.counts.total);
     same!(rt; closed.counts.rsvd, 0);
@@ -148,7 +146,7 @@ fn run<N: Naming + Noted + Send + Sync, R: Threads + Wait + Abort + Clock + Sync
 fn a_thousand_short_runs(rt: HostRuntime) {
     for seed in 1..RUNS + 1 {
         let blanks = Blanks::new(rt.alloc(), &[4, 4], 1024).expect(&rt, "memory");
-        let words = Blank::new(rt.alloc()).expect(&rt, "memory");
-        run::<Brand, HostRuntime>(&rt, rt.alloc(), blanks, words, seed);
+        let history = history_of(&rt, rt.alloc(), SLOTS, 2, false);
+        run::<Brand, HostRuntime>(&rt, rt.alloc(), blanks, history, seed);
     }
 }

@@ -1,13 +1,13 @@
 //! Pages for a range at once, over a session.
-ghost use Rattle.std.specs.Prelude.{◌≡◌, ◌∷◌, []};
+ghost use Rattle.std.specs.Prelude.{◌≡◌, ◌∷◌, [], false};
 ghost use Rattle.hp_nodes.specs.Ledgers.{AreFrames};
 ghost use Rattle.hp_pool.specs.Ledgers.{AreLedgers};
 
 use crate::gates::Free;
 use crate::remounting::{PLACES, ended, mount};
-use crate::rows::{ROOM, call, counts, opened};
+use crate::rows::{ROOM, call, counts, history_of, opened};
 use crate::same::same;
-use hp_homes::{Blank, Noted};
+use hp_history::{Opened, Places};
 use hp_model::answer::{Answer, NodeCount, Reply};
 use hp_model::lent::Lent;
 use hp_model::naming::Naming;
@@ -140,60 +140,69 @@ fn refuses<R: Abort, P: Parts>(rt: &R, session: &mut Session<P>) {
     same!(rt; counts(session), Some([4, 0, 0, 0]));
 }
 
-fn filling<N: Naming + Noted, R: Wait + Abort>(rt: &R, alloc: Global, blanks: Blanks, words: Blank)
-    requires ledgers { AreLedgers N.Naming blanks }
-    requires words { words.words.shared.table_id ≡ N.words }
-    requires frames { AreFrames N.frames (4 ∷ 4 ∷ []) }
-    requires bytes { N.page_bytes ≡ 1024 }
-{
-    let shared = Shared::<N, 1>::new(alloc, &[4, 4], 1024, 4, PLACES, blanks, words).expect(
-        rt, "memory",
-    );
-    let free = Free {};
-    let mut session = opened(rt, alloc, &shared, &free, ROOM);
-    fills(rt, &mut session);
-    fills_again(rt, &mut session);
-    refuses(rt, &mut session);
-    let told = session.finish();
-    ended(rt, alloc, shared, told);
-}
-
-// The pool's trail has no place for the section, and no page is taken.
-fn pool_full<N: Naming + Noted, R: Wait + Abort>(
+fn filling<N: Naming + Places, R: Wait + Abort>(
     rt: &R,
     alloc: Global,
     blanks: Blanks,
-    words: Blank,
+    history: Opened,
 )
     requires ledgers { AreLedgers N.Naming blanks }
-    requires words { words.words.shared.table_id ≡ N.words }
+    requires history { history.table.shared.table_id ≡ N.history }
+    requires shaped { history.shape ≡ N.shape }
+    requires shape { N.shape ≡ record { slots = 4; nodes = 2; looks = false } }
     requires frames { AreFrames N.frames (4 ∷ 4 ∷ []) }
     requires bytes { N.page_bytes ≡ 1024 }
 {
-    let shared = Shared::<N, 1>::new(alloc, &[4, 4], 1024, 4, 2, blanks, words).expect(
+    let shared = Shared::<N, 1>::new(alloc, &[4, 4], 1024, 4, PLACES, blanks, history).expect(
         rt, "memory",
     );
     let free = Free {};
-    let mut session = opened(rt, alloc, &shared, &free, ROOM);
+    let mut session = opened(rt, &shared, &free, ROOM);
+    fills(rt, &mut session);
+    fills_again(rt, &mut session);
+    refuses(rt, &mut session);
+    let session = session.finish().into_finished();
+    ended(rt, alloc, shared, session);
+}
+
+// The pool's trail has no place for the section, and no page is taken.
+fn pool_full<N: Naming + Places, R: Wait + Abort>(
+    rt: &R,
+    alloc: Global,
+    blanks: Blanks,
+    history: Opened,
+)
+    requires ledgers { AreLedgers N.Naming blanks }
+    requires history { history.table.shared.table_id ≡ N.history }
+    requires shaped { history.shape ≡ N.shape }
+    requires shape { N.shape ≡ record { slots = 4; nodes = 2; looks = false } }
+    requires frames { AreFrames N.frames (4 ∷ 4 ∷ []) }
+    requires bytes { N.page_bytes ≡ 1024 }
+{
+    let shared = Shared::<N, 1>::new(alloc, &[4, 4], 1024, 4, 2, blanks, history).expect(
+        rt, "memory",
+    );
+    let free = Free {};
+    let mut session = opened(rt, &shared, &free, ROOM);
     same!(rt; call(&mut session, &Step::Nr { pages: 4 }), Ok(Answer::Number(4)));
     same!(rt; create(&mut session, 0), Ok(Answer::Done));
     same!(rt; counts(&mut session), Some([4, 4, 0, 0]));
     same!(rt; preallocate(&mut session, 0, 0, 2), Err(Refusal::TraceFull));
     same!(rt; stat(&mut session, 0), numbers(0, 0, 0, 0));
-    let told = session.finish();
-    ended(rt, alloc, shared, told);
+    let session = session.finish().into_finished();
+    ended(rt, alloc, shared, session);
 }
 
 #[test]
 fn a_range_gets_its_pages(rt: HostRuntime) {
     let blanks = Blanks::new(rt.alloc(), &[4, 4], 1024).expect(&rt, "memory");
-    let words = Blank::new(rt.alloc()).expect(&rt, "memory");
-    filling::<Brand, HostRuntime>(&rt, rt.alloc(), blanks, words);
+    let history = history_of(&rt, rt.alloc(), 4, 2, false);
+    filling::<Brand, HostRuntime>(&rt, rt.alloc(), blanks, history);
 }
 
 #[test]
 fn no_page_is_taken_where_the_pool_has_no_place(rt: HostRuntime) {
     let blanks = Blanks::new(rt.alloc(), &[4, 4], 1024).expect(&rt, "memory");
-    let words = Blank::new(rt.alloc()).expect(&rt, "memory");
-    pool_full::<Brand, HostRuntime>(&rt, rt.alloc(), blanks, words);
+    let history = history_of(&rt, rt.alloc(), 4, 2, false);
+    pool_full::<Brand, HostRuntime>(&rt, rt.alloc(), blanks, history);
 }

@@ -1,15 +1,14 @@
 //! Limits that are set anew over a session.
-ghost use Rattle.std.specs.Prelude.{◌≡◌, ◌∷◌, []};
+ghost use Rattle.std.specs.Prelude.{◌≡◌, ◌∷◌, [], false};
 ghost use Rattle.hp_nodes.specs.Ledgers.{AreFrames};
 ghost use Rattle.hp_pool.specs.Ledgers.{AreLedgers};
 
 use crate::gates::Free;
-use crate::rows::{ROOM, call, counts, opened};
+use crate::rows::{ROOM, call, counts, history_of, opened};
 use crate::same::same;
-use hp_closing::close;
-use hp_homes::{Blank, Noted};
+use crate::whole::close_whole;
+use hp_history::{Opened, Places};
 use hp_model::answer::{Answer, Reply};
-use hp_model::entry::Receipt;
 use hp_model::lent::Lent;
 use hp_model::naming::Naming;
 use hp_model::refusal::Refusal;
@@ -17,7 +16,7 @@ use hp_model::step::{Reserving, Sharing, Step};
 use hp_parts::Parts;
 use hp_pool::Blanks;
 use hp_sessions::Session;
-use hp_shared::Shared;
+use hp_shared::{Finished, Shared};
 use std::alloc::Global;
 use std::marker::Brand;
 use std::process::Abort;
@@ -101,107 +100,118 @@ fn minimum<R: Abort, P: Parts>(rt: &R, session: &mut Session<P>) {
     same!(rt; counts(session), Some([4, 4, 0, 0]));
 }
 
-// The machine is closed with what its session was told, and all is joined.
-pub(crate) fn ended<N: Naming + Noted, R: Abort>(
+// The machine is closed with its one session, and all is joined.
+pub(crate) fn ended<N: Naming + Places, R: Abort>(
     rt: &R,
     alloc: Global,
     shared: Shared<N, 1>,
-    told: Vec<Receipt>,
+    session: Finished<N, 1>,
 ) {
     let mut all = Vec::with_capacity(alloc, 1).expect(rt, "memory");
-    all.push_reserved(told);
-    let closed = close(alloc, shared, all).expect(rt, "memory");
+    all.push_reserved(session);
+    let closed = close_whole(rt, alloc, shared, all);
     same!(rt; closed.audit, Some(true));
     same!(rt; [closed.counts.total, closed.counts.free, closed.counts.rsvd], [4, 4, 0]);
 }
 
-fn limits<N: Naming + Noted, R: Wait + Abort>(rt: &R, alloc: Global, blanks: Blanks, words: Blank)
+fn limits<N: Naming + Places, R: Wait + Abort>(
+    rt: &R,
+    alloc: Global,
+    blanks: Blanks,
+    history: Opened,
+)
     requires ledgers { AreLedgers N.Naming blanks }
-    requires words { words.words.shared.table_id ≡ N.words }
+    requires history { history.table.shared.table_id ≡ N.history }
+    requires shaped { history.shape ≡ N.shape }
+    requires shape { N.shape ≡ record { slots = 4; nodes = 2; looks = false } }
     requires frames { AreFrames N.frames (4 ∷ 4 ∷ []) }
     requires bytes { N.page_bytes ≡ 1024 }
 {
-    let shared = Shared::<N, 1>::new(alloc, &[4, 4], 1024, 4, PLACES, blanks, words).expect(
+    let shared = Shared::<N, 1>::new(alloc, &[4, 4], 1024, 4, PLACES, blanks, history).expect(
         rt, "memory",
     );
     let free = Free {};
-    let mut session = opened(rt, alloc, &shared, &free, ROOM);
+    let mut session = opened(rt, &shared, &free, ROOM);
     below_usage(rt, &mut session);
     minimum(rt, &mut session);
-    let told = session.finish();
-    ended(rt, alloc, shared, told);
+    let session = session.finish().into_finished();
+    ended(rt, alloc, shared, session);
 }
 
 // The pool's trail has no place for the section.
-fn pool_full<N: Naming + Noted, R: Wait + Abort>(
+fn pool_full<N: Naming + Places, R: Wait + Abort>(
     rt: &R,
     alloc: Global,
     blanks: Blanks,
-    words: Blank,
+    history: Opened,
 )
     requires ledgers { AreLedgers N.Naming blanks }
-    requires words { words.words.shared.table_id ≡ N.words }
+    requires history { history.table.shared.table_id ≡ N.history }
+    requires shaped { history.shape ≡ N.shape }
+    requires shape { N.shape ≡ record { slots = 4; nodes = 2; looks = false } }
     requires frames { AreFrames N.frames (4 ∷ 4 ∷ []) }
     requires bytes { N.page_bytes ≡ 1024 }
 {
-    let shared = Shared::<N, 1>::new(alloc, &[4, 4], 1024, 4, 3, blanks, words).expect(
+    let shared = Shared::<N, 1>::new(alloc, &[4, 4], 1024, 4, 3, blanks, history).expect(
         rt, "memory",
     );
     let free = Free {};
-    let mut session = opened(rt, alloc, &shared, &free, ROOM);
+    let mut session = opened(rt, &shared, &free, ROOM);
     same!(rt; call(&mut session, &Step::Nr { pages: 4 }), Ok(Answer::Number(4)));
     same!(rt; mount(&mut session, b"min_size=1K"), Ok(Answer::Done));
     same!(rt; counts(&mut session), Some([4, 4, 1, 0]));
     same!(rt; remount(&mut session, 2, b"min_size=2K"), Err(Refusal::TraceFull));
     same!(rt; call(&mut session, &Step::Df { slot: 2 }), usage(None, 1, 0, 0));
-    let told = session.finish();
-    ended(rt, alloc, shared, told);
+    let session = session.finish().into_finished();
+    ended(rt, alloc, shared, session);
 }
 
 // The slot's trail has no place for the event.
-fn slot_full<N: Naming + Noted, R: Wait + Abort>(
+fn slot_full<N: Naming + Places, R: Wait + Abort>(
     rt: &R,
     alloc: Global,
     blanks: Blanks,
-    words: Blank,
+    history: Opened,
 )
     requires ledgers { AreLedgers N.Naming blanks }
-    requires words { words.words.shared.table_id ≡ N.words }
+    requires history { history.table.shared.table_id ≡ N.history }
+    requires shaped { history.shape ≡ N.shape }
+    requires shape { N.shape ≡ record { slots = 4; nodes = 2; looks = false } }
     requires frames { AreFrames N.frames (4 ∷ 4 ∷ []) }
     requires bytes { N.page_bytes ≡ 1024 }
 {
-    let shared = Shared::<N, 1>::new(alloc, &[4, 4], 1024, 4, 3, blanks, words).expect(
+    let shared = Shared::<N, 1>::new(alloc, &[4, 4], 1024, 4, 3, blanks, history).expect(
         rt, "memory",
     );
     let free = Free {};
-    let mut session = opened(rt, alloc, &shared, &free, ROOM);
+    let mut session = opened(rt, &shared, &free, ROOM);
     same!(rt; call(&mut session, &Step::Nr { pages: 4 }), Ok(Answer::Number(4)));
     same!(rt; mount(&mut session, b"min_size=1K"), Ok(Answer::Done));
     same!(rt; call(&mut session, &Step::Df { slot: 2 }), usage(None, 1, 0, 0));
     same!(rt; call(&mut session, &Step::Df { slot: 2 }), usage(None, 1, 0, 0));
     same!(rt; remount(&mut session, 2, b"min_size=2K"), Err(Refusal::TraceFull));
     same!(rt; counts(&mut session), Some([4, 4, 1, 0]));
-    let told = session.finish();
-    ended(rt, alloc, shared, told);
+    let session = session.finish().into_finished();
+    ended(rt, alloc, shared, session);
 }
 
 #[test]
 fn limits_are_set_anew(rt: HostRuntime) {
     let blanks = Blanks::new(rt.alloc(), &[4, 4], 1024).expect(&rt, "memory");
-    let words = Blank::new(rt.alloc()).expect(&rt, "memory");
-    limits::<Brand, HostRuntime>(&rt, rt.alloc(), blanks, words);
+    let history = history_of(&rt, rt.alloc(), 4, 2, false);
+    limits::<Brand, HostRuntime>(&rt, rt.alloc(), blanks, history);
 }
 
 #[test]
 fn no_limit_changes_where_the_pool_has_no_place(rt: HostRuntime) {
     let blanks = Blanks::new(rt.alloc(), &[4, 4], 1024).expect(&rt, "memory");
-    let words = Blank::new(rt.alloc()).expect(&rt, "memory");
-    pool_full::<Brand, HostRuntime>(&rt, rt.alloc(), blanks, words);
+    let history = history_of(&rt, rt.alloc(), 4, 2, false);
+    pool_full::<Brand, HostRuntime>(&rt, rt.alloc(), blanks, history);
 }
 
 #[test]
 fn no_limit_changes_where_the_slot_has_no_place(rt: HostRuntime) {
     let blanks = Blanks::new(rt.alloc(), &[4, 4], 1024).expect(&rt, "memory");
-    let words = Blank::new(rt.alloc()).expect(&rt, "memory");
-    slot_full::<Brand, HostRuntime>(&rt, rt.alloc(), blanks, words);
+    let history = history_of(&rt, rt.alloc(), 4, 2, false);
+    slot_full::<Brand, HostRuntime>(&rt, rt.alloc(), blanks, history);
 }

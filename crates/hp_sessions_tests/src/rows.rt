@@ -1,23 +1,22 @@
 //! Two sessions, of which one is held under a lock while the other goes on.
-ghost use Rattle.std.specs.Prelude.{◌≡◌, ◌∷◌, []};
+ghost use Rattle.std.specs.Prelude.{◌≡◌, ◌∷◌, [], false};
 ghost use Rattle.hp_nodes.specs.Ledgers.{AreFrames};
 ghost use Rattle.hp_pool.specs.Ledgers.{AreLedgers};
 
 use crate::gates::{Free, Hold, Place};
 use crate::same::same;
-use hp_closing::close;
+use crate::whole::close_whole;
 use hp_entrance::Entrance;
-use hp_homes::{Blank, Noted};
+use hp_history::{Opened, Places, Shape};
 use hp_locked::Gate;
 use hp_model::answer::{Answer, Reply};
-use hp_model::entry::Receipt;
 use hp_model::lent::Lent;
 use hp_model::naming::Naming;
 use hp_model::step::{Reserving, Sharing, Step};
 use hp_parts::Parts;
 use hp_pool::Blanks;
 use hp_sessions::Session;
-use hp_shared::Shared;
+use hp_shared::{Finished, Shared};
 use std::alloc::Global;
 use std::marker::Brand;
 use std::process::Abort;
@@ -33,15 +32,31 @@ pub(crate) fn call<P: Parts>(session: &mut Session<P>, step: &Step<'_>) -> Reply
     session.call(step)
 }
 
-pub(crate) fn opened<'a, N: Naming + Noted, R: Wait + Abort, G: Gate, const K: usize>(
+pub(crate) fn opened<'a, N: Naming + Places, R: Wait + Abort, G: Gate, const K: usize>(
     rt: &'a R,
-    alloc: Global,
     shared: &'a Shared<N, K>,
     gate: &'a G,
     room: usize,
 ) -> Session<Entrance<'a, N, R, G, K>> {
-    let parts = Entrance { rt, shared, gate };
-    Session::open(alloc, parts, room).expect(rt, "memory")
+    Session::open(Entrance::open(rt, shared, gate, room).expect(rt, "memory"))
+}
+
+// The history of a machine with so many slots and nodes, which looks homes up or not.
+pub(crate) fn history_of<R: Abort>(
+    rt: &R,
+    alloc: Global,
+    slots: u64,
+    nodes: u64,
+    looks: bool,
+) -> Opened
+    ensures { result.shape ≡ record { slots = slots; nodes = nodes; looks = looks } }
+{
+    let shape = Shape {
+        slots,
+        nodes,
+        looks,
+    };
+    Opened::new(alloc, shape).expect(rt, "memory")
 }
 
 fn map_of(task: u64, name: &[u8]) -> Step<'_> {
@@ -92,96 +107,109 @@ fn start<R: Abort, P: Parts>(rt: &R, session: &mut Session<P>) {
 }
 
 // Stores while a gate holds it, and then looks at the counts.
-fn held<N: Naming + Noted, R: Wait + Abort + Clock, const K: usize>(
+fn held<N: Naming + Places, R: Wait + Abort + Clock, const K: usize>(
     rt: &R,
-    alloc: Global,
     shared: &Shared<N, K>,
     hold: &Hold<'_, R>,
-) -> Vec<Receipt> {
-    let mut session = opened(rt, alloc, shared, hold, ROOM);
+) -> Finished<N, K> {
+    let mut session = opened(rt, shared, hold, ROOM);
     same!(rt; call(&mut session, &store_of(1, &[0x11])), Ok(Answer::Done));
     same!(rt; counts(&mut session), Some([4, 2, 0, 0]));
-    session.finish()
+    session.finish().into_finished()
 }
 
 // Once the other is held: stores, looks at the counts and lets it go.
-fn meanwhile<N: Naming + Noted, R: Wait + Abort + Clock, const K: usize>(
+fn meanwhile<N: Naming + Places, R: Wait + Abort + Clock, const K: usize>(
     rt: &R,
-    alloc: Global,
     shared: &Shared<N, K>,
     hold: &Hold<'_, R>,
     wanted: [u64; 4],
-) -> Vec<Receipt> {
+) -> Finished<N, K> {
     hold.wait();
     let free = Free {};
-    let mut session = opened(rt, alloc, shared, &free, ROOM);
+    let mut session = opened(rt, shared, &free, ROOM);
     same!(rt; call(&mut session, &store_of(2, &[0x22])), Ok(Answer::Done));
     same!(rt; counts(&mut session), Some(wanted));
     hold.open();
-    session.finish()
+    session.finish().into_finished()
 }
 
 // The first session is held at a place while the second finishes: these counts are told there.
-fn row<N: Naming + Noted + Send + Sync, R: Threads + Wait + Abort + Clock + Sync>(
+fn row<N: Naming + Places + Send + Sync, R: Threads + Wait + Abort + Clock + Sync>(
     rt: &R,
     alloc: Global,
     blanks: Blanks,
-    words: Blank,
+    history: Opened,
     place: Place,
     wanted: [u64; 4],
 )
     requires ledgers { AreLedgers N.Naming blanks }
-    requires words { words.words.shared.table_id ≡ N.words }
+    requires history { history.table.shared.table_id ≡ N.history }
+    requires shaped { history.shape ≡ N.shape }
+    requires shape { N.shape ≡ record { slots = 4; nodes = 2; looks = false } }
     requires frames { AreFrames N.frames (4 ∷ 4 ∷ []) }
     requires bytes { N.page_bytes ≡ 1024 }
 {
-    let shared = Shared::<N, 1>::new(alloc, &[4, 4], 1024, 4, ROOM, blanks, words).expect(
+    let shared = Shared::<N, 1>::new(alloc, &[4, 4], 1024, 4, ROOM, blanks, history).expect(
         rt, "memory",
     );
     let free = Free {};
-    let mut first = opened(rt, alloc, &shared, &free, ROOM);
+    let mut first = opened(rt, &shared, &free, ROOM);
     start(rt, &mut first);
-    let told = first.finish();
+    let told = first.finish().into_finished();
     let hold = Hold::new(rt, place);
-    let (one, two) = beside(rt, alloc, &shared, &hold, wanted);
+    let (one, two) = beside(rt, &shared, &hold, wanted);
     assert!(rt; hold.left() > 0, "the second session was held too");
     let mut all = Vec::with_capacity(alloc, 3).expect(rt, "memory");
     all.push_reserved(told);
     all.push_reserved(one);
     all.push_reserved(two);
-    let closed = close(alloc, shared, all).expect(rt, "memory");
+    let closed = close_whole(rt, alloc, shared, all);
     same!(rt; closed.audit, Some(true));
     same!(rt; [closed.counts.total, closed.counts.free, closed.counts.rsvd], [4, 4, 0]);
 }
 
 fn beside<
-    N: Naming + Noted + Send + Sync,
+    N: Naming + Places + Send + Sync,
     R: Threads + Wait + Abort + Clock + Sync,
     const K: usize,
 >(
     rt: &R,
-    alloc: Global,
     shared: &Shared<N, K>,
     hold: &Hold<'_, R>,
     wanted: [u64; 4],
-) -> (Vec<Receipt>, Vec<Receipt>) {
+) -> (Finished<N, K>, Finished<N, K>) {
     thread::join(
         rt,
-        move || held(rt, alloc, shared, hold),
-        move || meanwhile(rt, alloc, shared, hold, wanted),
+        move || held(rt, shared, hold),
+        move || meanwhile(rt, shared, hold, wanted),
     )
 }
 
 #[test]
 fn a_slot_that_is_held_holds_no_other(rt: HostRuntime) {
     let blanks = Blanks::new(rt.alloc(), &[4, 4], 1024).expect(&rt, "memory");
-    let words = Blank::new(rt.alloc()).expect(&rt, "memory");
-    row::<Brand, HostRuntime>(&rt, rt.alloc(), blanks, words, Place::Slot(1), [4, 3, 1, 0]);
+    let history = history_of(&rt, rt.alloc(), 4, 2, false);
+    row::<Brand, HostRuntime>(
+        &rt,
+        rt.alloc(),
+        blanks,
+        history,
+        Place::Slot(1),
+        [4, 3, 1, 0],
+    );
 }
 
 #[test]
 fn a_node_that_is_held_holds_no_other(rt: HostRuntime) {
     let blanks = Blanks::new(rt.alloc(), &[4, 4], 1024).expect(&rt, "memory");
-    let words = Blank::new(rt.alloc()).expect(&rt, "memory");
-    row::<Brand, HostRuntime>(&rt, rt.alloc(), blanks, words, Place::Node(0), [4, 2, 0, 0]);
+    let history = history_of(&rt, rt.alloc(), 4, 2, false);
+    row::<Brand, HostRuntime>(
+        &rt,
+        rt.alloc(),
+        blanks,
+        history,
+        Place::Node(0),
+        [4, 2, 0, 0],
+    );
 }

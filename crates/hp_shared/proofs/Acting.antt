@@ -1,5 +1,5 @@
 -- What went through a session's door is what went by what it asked.
-use Rattle.std.proofs.Common.{◌≡◌, ℕ, Bool, true, false, Option, None, Some, Ok, Err, refl, sym, ap, ◌∙◌, subst}
+use Rattle.std.proofs.Common.{◌≡◌, ℕ, Bool, true, false, Option, None, Some, Ok, Err, List, refl, sym, ap, ◌∙◌, subst}
 use Rattle.hp_model.specs.declared.answer.Answer.{Answer}
 use Rattle.hp_model.specs.declared.entry.Asked.{Asked}
 use Rattle.hp_model.specs.declared.event.SlotEvent.{SlotEvent}
@@ -17,6 +17,8 @@ use Rattle.hp_laws.specs.Balance.{Always, left_by}
 use Rattle.hp_laws.proofs.promises.Listing.{names_are_listed}
 use Rattle.hp_laws.proofs.steps.Outcomes.{reply_of}
 use Rattle.hp_laws.proofs.promises.SmallReplies.{Small, slot_small, tells_all}
+use Rattle.hp_history.specs.declared.held.Held.{Held}
+use Rattle.hp_history.specs.Sections.{IsEntered}
 use Rattle.hp_locked.specs.Views.{Asks}
 use Rattle.hp_events.specs.declared.event.MountEvent.{MountEvent}
 use Rattle.hp_events.specs.declared.event.MountEvent.TheVariants as m
@@ -27,6 +29,13 @@ use Rattle.hp_parts.specs.Answered.{Went}
 use Rattle.hp_parts.proofs.Came.{always_came}
 use Rattle.hp_shared.specs.Slots.{IsActedOr}
 
+-- a door that was not used has its seat as it was
+pub unused : {X : Type 0} (keeps : Bool) (asked : X → Option Asked) (mine : X → List Held) (d : X) → asked d ≡ None → IsEntered keeps (mine d) (asked d) (mine d)
+unused keeps asked mine d none = subst (λ (a : Option Asked). IsEntered keeps (mine d) a (mine d)) (sym none) refl
+
+pub stayed : {X : Type 0} (keeps : Bool) (asked : X → Option Asked) (mine : X → List Held) (d e : X) → asked d ≡ None → e ≡ d → IsEntered keeps (mine d) (asked e) (mine e)
+stayed keeps asked mine d e none is = subst (λ x. IsEntered keeps (mine d) (asked x) (mine x)) (sym is) (unused keeps asked mine d none)
+
 -- a door that was not used tells what it was asked
 goes_on : {X : Type 0} (asked : X → Option Asked) (p : Plan) (old : Slot) (d : X) (reply : Reply) (new : Slot) (e : X) → asked d ≡ None →
     ThroughDoor (λ d s a e. Asks (asked e) s a) p old d reply new e → Goes p (asked e) old reply new
@@ -34,12 +43,22 @@ goes_on asked (Finish o) old d reply new e none t = subst (λ (x : Option Asked)
 goes_on asked (Ask sec f) old d reply new e none (a, took, gives) =
     subst (λ (x : Option Asked). Goes (Ask sec f) x old reply new) (sym took.1) (refl, gives)
 
--- through any door that tells what it was asked
-module _ {X : Type 0} (asked : X → Option Asked) (took : X → Section → PoolAnswer → X → Type 0) (full : X → Type 0)
-    (tells : (d : X) (s : Section) (a : PoolAnswer) (e : X) → took d s a e → Asks (asked e) s a) where
+-- through any door that tells what it was asked, and how its seat went
+module _ {X : Type 0} (keeps : Bool) (asked : X → Option Asked) (mine : X → List Held) (took : X → Section → PoolAnswer → X → Type 0) (full : X → Type 0)
+    (tells : (d : X) (s : Section) (a : PoolAnswer) (e : X) → took d s a e → Asks (asked e) s a × IsEntered keeps (mine d) (asked e) (mine e)) where
+  pub plan_entered : (p : Plan) (old : Slot) (d : X) (reply : Reply) (new : Slot) (e : X) → asked d ≡ None → ThroughDoor took p old d reply new e → IsEntered keeps (mine d) (asked e) (mine e)
+  plan_entered (Finish o) old d reply new e none t = stayed keeps asked mine d e none t.1
+  plan_entered (Ask sec f) old d reply new e none (a, t, gives) = (tells d (sec a.nr) a e t).1
+
+  pub event_entered : (size k : ℕ) (old : Slot) (d : X) (ev : SlotEvent) (reply : Reply) (new : Slot) (e : X) → asked d ≡ None →
+      IsDone took full size k old d ev reply new e → IsEntered keeps (mine d) (asked e) (mine e)
+  event_entered size k old d ev (Ok a) new e none t = plan_entered (slot_event size k t.0 old ev) old d (Ok a) new e none t.2
+  event_entered size k old d ev (Err r.TraceFull) new e none t = stayed keeps asked mine d e none t.1.0
+  event_entered size k old d ev (Err other) new e none t = plan_entered (slot_event size k t.0 old ev) old d (Err other) new e none t.2
+
   tells_plan : (p : Plan) (old : Slot) (d : X) (reply : Reply) (new : Slot) (e : X) → ThroughDoor took p old d reply new e → ThroughDoor (λ d s a e. Asks (asked e) s a) p old d reply new e
   tells_plan (Finish o) old d reply new e t = t
-  tells_plan (Ask sec f) old d reply new e (a, t, gives) = (a, tells d (sec a.nr) a e t, gives)
+  tells_plan (Ask sec f) old d reply new e (a, t, gives) = (a, (tells d (sec a.nr) a e t).0, gives)
 
   told_went : (size k : ℕ) (old : Slot) (d : X) (ev : SlotEvent) (reply : Reply) (new : Slot) (e : X) → asked d ≡ None →
       Through took (λ c. slot_event size k c old ev) old d reply new e → Went size k old ev reply (asked e) new

@@ -2,9 +2,13 @@
 use denote.Param.Send.{IsSend, IsSync, sendable, view_send, view_sync}
 use denote.Param.SendFields.{declared_send, declared_sync}
 use denote.RattleType.{RattleType}
+use Rattle.atomic_table.proofs.badge.Badge.TheSendSync as badge
+use Rattle.atomic_table.proofs.send_lease.SendLease.TheSendSync as lease
+use Rattle.atomic_table.proofs.shared.Seat.TheSendSync as seat
+use Rattle.atomic_table.proofs.shared.Shared.TheSendSync as whole
 use Rattle.crossbeam_utils.specs.contracts.cache_padded.CachePadded as CachePadded
-use Rattle.hp_homes.proofs.Crossing.{homes_send, homes_sync, noter_send}
-use Rattle.hp_homes.specs.declared.words.Noted as words
+use Rattle.hp_history.specs.contracts.history.History as History
+use Rattle.hp_history.specs.declared.law.Places as law
 use Rattle.hp_locked.specs.contracts.nodes.NodeLocks as NodeLocks
 use Rattle.hp_locked.specs.contracts.pool_core.Core as Core
 use Rattle.hp_model.specs.declared.entry.PoolEntry.{PoolEntry}
@@ -17,6 +21,8 @@ use Rattle.hp_shared.proofs.CrossingEntries.{pool_entry_send, slot_entry_send, t
 use Rattle.hp_shared.proofs.CrossingMounts.{mount_send}
 use Rattle.hp_shared.specs.contracts.shared.Shared as Shared
 use Rattle.hp_shared.specs.contracts.shared.Shared.TheInside as Inside
+use Rattle.hp_shared.specs.contracts.opener.Opener as Opener
+use Rattle.hp_shared.specs.contracts.seated_slot.SeatedSlot as SeatedSlot
 use Rattle.hp_shared.specs.contracts.spare.Spare as Spare
 use Rattle.hp_shared.specs.contracts.locked_slot.Slot as Slot
 use Rattle.hp_shared.specs.contracts.table.Table as Table
@@ -35,16 +41,28 @@ padded_sync T t = search (sendable, crosses) depth 30
 task_table_send : IsSend TaskTable.the_row
 task_table_send = search (sendable, crosses) depth 30
 
-module _ (N : RattleType) (names : Ghosts N.Denot) (noted : words.Ghosts N.Denot) where
-  table_send : (T : RattleType) (keeps : trail.Ghosts T.Denot TableEntry) → IsSend T → IsSend (Table.the_row N T noted names keeps)
-  table_send T keeps t = view_send (TableInside.the_row N T noted names keeps) _ _ _ _ (declared_send (TableInside.the_type N T noted names keeps)
-      (search sendable, (task_table_send, (search sendable depth 20, (noter_send N noted, (search sendable, tt))))))
+module _ (N : RattleType) (names : Ghosts N.Denot) (places : law.Ghosts N.Denot) where
+  history_send : IsSend (History.the_row N places)
+  history_send = search (sendable, crosses, whole.the_send, lease.the_send) depth 40
 
-  core_send : (T : RattleType) (keeps : trail.Ghosts T.Denot PoolEntry) → IsSend T → IsSend (Core.the_row N T names keeps)
-  core_send T keeps t = search (sendable, pool_send) depth 30
+  history_sync : IsSync (History.the_row N places)
+  history_sync = search (sendable, crosses, whole.the_sync, lease.the_sync) depth 40
+
+  opener_send : IsSend (Opener.the_row N places)
+  opener_send = search (sendable, crosses, seat.the_send) depth 30
+
+  table_send : (T : RattleType) (keeps : trail.Ghosts T.Denot TableEntry) → IsSend T → IsSend (Table.the_row N T names places keeps)
+  table_send T keeps t = view_send (TableInside.the_row N T names places keeps) _ _ _ _ (declared_send (TableInside.the_type N T names places keeps)
+      (search sendable, (task_table_send, (search sendable depth 20, (search (sendable, badge.the_send) depth 20, (search sendable, tt))))))
+
+  core_send : (T : RattleType) (keeps : trail.Ghosts T.Denot PoolEntry) → IsSend T → IsSend (Core.the_row N T names places keeps)
+  core_send T keeps t = search (sendable, pool_send, badge.the_send) depth 30
 
   slot_send : (T : RattleType) (keeps : trail.Ghosts T.Denot SlotEntry) → IsSend T → IsSend (Slot.the_row N T names keeps)
   slot_send T keeps t = search (sendable, mount_send) depth 30
+
+  seated_send : (T : RattleType) (keeps : trail.Ghosts T.Denot SlotEntry) → IsSend T → IsSend (SeatedSlot.the_row N T names places keeps)
+  seated_send T keeps t = search (sendable, slot_send, badge.the_send) depth 30
 
   spare_send : IsSend (Spare.the_row N names)
   spare_send = search (sendable, crosses, mount_send, slot_entry_send) depth 40
@@ -55,15 +73,15 @@ module _ (N : RattleType) (names : Ghosts N.Denot) (noted : words.Ghosts N.Denot
   nodes_sync : IsSync (NodeLocks.the_row N names)
   nodes_sync = search (sendable, crosses, node_frames_send) depth 30
 
-  pub shared_send : (k : RattleType) → IsSend (Shared.the_row N k noted names)
-  shared_send k = view_send (Inside.the_row N k noted names) _ _ _ _ (declared_send (Inside.the_type N k noted names) (
+  pub shared_send : (k : RattleType) → IsSend (Shared.the_row N k places names)
+  shared_send k = view_send (Inside.the_row N k places names) _ _ _ _ (declared_send (Inside.the_type N k places names) (
     search sendable,
     (
       global.send,
       (
-        homes_send N noted,
+        history_send,
         (
-          search (sendable, crosses, padded_send, slot_send, trace_send, slot_entry_send) depth 30,
+          search (sendable, crosses, padded_send, seated_send, trace_send, slot_entry_send) depth 30,
           (
             search (sendable, crosses, padded_send, table_send, trace_send, table_entry_send) depth 30,
             (
@@ -71,8 +89,11 @@ module _ (N : RattleType) (names : Ghosts N.Denot) (noted : words.Ghosts N.Denot
               (
                 nodes_send,
                 (
-                  search (sendable, crosses, spare_send) depth 30,
-                  tt,
+                  search (sendable, crosses, opener_send) depth 30,
+                  (
+                    search (sendable, crosses, spare_send) depth 30,
+                    tt,
+                  ),
                 ),
               ),
             ),
@@ -82,15 +103,15 @@ module _ (N : RattleType) (names : Ghosts N.Denot) (noted : words.Ghosts N.Denot
     ),
   ))
 
-  pub shared_sync : (k : RattleType) → IsSync (Shared.the_row N k noted names)
-  shared_sync k = view_sync (Inside.the_row N k noted names) _ _ _ _ (declared_sync (Inside.the_type N k noted names) (
+  pub shared_sync : (k : RattleType) → IsSync (Shared.the_row N k places names)
+  shared_sync k = view_sync (Inside.the_row N k places names) _ _ _ _ (declared_sync (Inside.the_type N k places names) (
     search sendable,
     (
       global.sync,
       (
-        homes_sync N noted,
+        history_sync,
         (
-          search (sendable, crosses, padded_sync, slot_send, trace_send, slot_entry_send) depth 30,
+          search (sendable, crosses, padded_sync, seated_send, trace_send, slot_entry_send) depth 30,
           (
             search (sendable, crosses, padded_sync, table_send, trace_send, table_entry_send) depth 30,
             (
@@ -98,8 +119,11 @@ module _ (N : RattleType) (names : Ghosts N.Denot) (noted : words.Ghosts N.Denot
               (
                 nodes_sync,
                 (
-                  search (sendable, crosses, spare_send) depth 30,
-                  tt,
+                  search (sendable, crosses, opener_send) depth 30,
+                  (
+                    search (sendable, crosses, spare_send) depth 30,
+                    tt,
+                  ),
                 ),
               ),
             ),

@@ -3,14 +3,12 @@ use Rattle.std.proofs.Common.{◌≡◌, inl, inr, ℕ, zero, suc, ◌-◌, ◌<
 use Rattle.std.specs.Prelude.{slice_index_or, IfSome}
 use Rattle.std.specs.Global.{Vec}
 use Rattle.std.proofs.lemmas.Bool.{false≢true}
-use Rattle.hp_locked.specs.Views.{IsPoolTrail}
-use Rattle.hp_shared.specs.Slots.{IsSlotTrail}
-use Rattle.hp_shared.specs.Tables.{IsTableTrail}
+use Rattle.hp_locked.specs.Views.{IsPoolTrail, IsTrailOf}
 use Rattle.hp_trail.specs.Keeping.{Keeping, kept_if}
 use Rattle.hp_trail.specs.Walk.{lists, trails_of}
 use Rattle.hp_shared.specs.declared.shared.Trails.{Trails}
 use Rattle.std.proofs.lemmas.Bool.{cases_lt}
-use Rattle.std.proofs.lemmas.List.{get_or_append_left, get_or-replicate, length-append, length-map, map-append, length-replicate}
+use Rattle.std.proofs.lemmas.List.{get_or_append_left, get_or-replicate, length-append, length-map, length-replicate}
 use Rattle.std.proofs.Math.Seq.{get_or-append_seam}
 use Rattle.hp_model.specs.declared.entry.PoolEntry.{PoolEntry}
 use Rattle.hp_model.specs.declared.entry.SlotEntry.{SlotEntry}
@@ -82,39 +80,22 @@ ends_runs frames size n tasks ts pool table ms p some long tabled gathered poole
 
 -- ---- trails that are kept
 
-table_run : (keeps : Bool) (nodes : ℕ) (k : Keeping TableEntry) (t : Table) → keeps ≡ true → IsTableTrail nodes (kept_if keeps k) t → IsTableRun nodes [] k.entries t
-table_run true nodes k t is run = run
-table_run false nodes k t is run = absurd (false≢true is)
+table_run : (keeps : Bool) (nodes : ℕ) (k : Keeping TableEntry) (es : List TableEntry) (t : Table) → keeps ≡ true → IsTrailOf es (kept_if keeps k) → IsTableRun nodes [] es t
+    → IsTableRun nodes [] k.entries t
+table_run true nodes k es t is kept run = subst (λ xs. IsTableRun nodes [] xs t) (sym kept) run
+table_run false nodes k es t is kept run = absurd (false≢true is)
 
 pool_run : (keeps : Bool) (start : Pool) (k : Keeping PoolEntry) (p : Pool) → keeps ≡ true → IsPoolTrail start (kept_if keeps k) p → IsPoolRun start k.entries p
 pool_run true start k p is run = run
 pool_run false start k p is run = absurd (false≢true is)
 
-pub slot_run : (keeps : Bool) (size n : ℕ) (k : Keeping SlotEntry) (m : Slot) → keeps ≡ true → IsSlotTrail size n (kept_if keeps k) m → IsLocalRun size n (slot_start n) k.entries m
-slot_run true size n k m is run = run
-slot_run false size n k m is run = absurd (false≢true is)
-
--- a slot more was taken from under its lock, and stands at its number
-pub slot_gathered : (keeps : Bool) (size number : ℕ) (entries : Option (List SlotEntry)) (mount m : Slot) (k : Keeping SlotEntry) (v : Vec SlotEntry)
-    (ts all : List (Vec SlotEntry)) (ms every : List Slot) → keeps ≡ true → AreGathered size (lists ts) ms → number ≡ length ms → IsSlotTrail size number entries mount
-    → kept_if keeps k ≡ entries → m ≡ mount → v.items ≡ k.entries → all ≡ ts ++ v ∷ [] → every ≡ ms ++ m ∷ [] → AreGathered size (lists all) every
-slot_gathered keeps size number entries mount m k v ts all ms every is were here run kept mounted got all_is every_is =
-    let trail : IsSlotTrail size (length ms) (kept_if keeps k) m =
-    subst (λ x. IsSlotTrail size (length ms) (kept_if keeps k) x) (sym mounted)
-    (subst (λ o. IsSlotTrail size (length ms) o mount) (sym kept) (subst (λ n. IsSlotTrail size n entries mount) here run)) in
-    let ran = slot_run keeps size (length ms) k m is trail in
-    let one = one_gathered size (lists ts) ms v.items m were (subst (λ es. IsLocalRun size (length ms) (slot_start (length ms)) es m) (sym got) ran) in
-    subst (λ x. AreGathered size (lists x) every) (sym all_is)
-    (subst (λ y. AreGathered size (lists (ts ++ v ∷ [])) y) (sym every_is)
-    (subst (λ z. AreGathered size z (ms ++ m ∷ [])) (sym (map-append (λ (x : Vec SlotEntry). x.items) ts (v ∷ []))) one))
-
 pub given_ends : (keeps in_order : Bool) (frames : List ℕ) (size n : ℕ) (tasks : Keeping TableEntry) (pool : Keeping PoolEntry) (slots : List (Vec SlotEntry))
-    (table : Table) (ms : List Slot) (p : Pool) (given : Option Trails) → 0 < n → length ms ≡ n → IsTableTrail (length frames) (kept_if keeps tasks) table
-    → IsPoolTrail (idle_pool frames) (kept_if keeps pool) p → (keeps ≡ true → in_order ≡ true → AreGathered size (lists slots) ms)
+    (table : Table) (ms : List Slot) (p : Pool) (given : Option Trails) (es : List TableEntry) → 0 < n → length ms ≡ n → IsTrailOf es (kept_if keeps tasks)
+    → IsTableRun (length frames) [] es table → IsPoolTrail (idle_pool frames) (kept_if keeps pool) p → (keeps ≡ true → in_order ≡ true → AreGathered size (lists slots) ms)
     → IfSome given (λ t. (keeps ≡ true) × (in_order ≡ true) × (entries_of t ≡ trails_of tasks.entries slots pool.entries))
     → IfSome given (λ t. EndsRuns (start frames size n) (entries_of t) (machine_of size table ms p))
-given_ends keeps in_order frames size n tasks pool slots table ms p None some long tabled pooled gathered are = tt
-given_ends keeps in_order frames size n tasks pool slots table ms p (Some t) some long tabled pooled gathered are =
+given_ends keeps in_order frames size n tasks pool slots table ms p None es some long kept tabled pooled gathered are = tt
+given_ends keeps in_order frames size n tasks pool slots table ms p (Some t) es some long kept tabled pooled gathered are =
     subst (λ x. EndsRuns (start frames size n) x (machine_of size table ms p)) (sym are.2)
-    (ends_runs frames size n tasks.entries (lists slots) pool.entries table ms p some long (table_run keeps (length frames) tasks table are.0 tabled) (gathered are.0 are.1)
+    (ends_runs frames size n tasks.entries (lists slots) pool.entries table ms p some long (table_run keeps (length frames) tasks es table are.0 kept tabled) (gathered are.0 are.1)
     (pool_run keeps (idle_pool frames) pool p are.0 pooled))

@@ -35,7 +35,7 @@ use Rattle.hp_parts.specs.SlotWork.{asked_event, is_exit}
 use Rattle.hp_shared.specs.SlotWork.{has_maps_for}
 use Rattle.hp_shared.proofs.Places.{has_closing, places_after, room_closing}
 
-slot_push : (size k : ℕ) (s : Slot) (es : List SlotEntry) (m : Slot) (e : SlotEntry) (q : Slot) → IsLocalRun size k s es m → IsLocalStep size k m e q → IsLocalRun size k s (es ++ e ∷ []) q
+pub slot_push : (size k : ℕ) (s : Slot) (es : List SlotEntry) (m : Slot) (e : SlotEntry) (q : Slot) → IsLocalRun size k s es m → IsLocalStep size k m e q → IsLocalRun size k s (es ++ e ∷ []) q
 slot_push size k s [] m e q run step = (q, subst (λ (x : Slot). IsLocalStep size k x e q) (sym run) step, refl)
 slot_push size k s (x ∷ es) m e q run step = (run.0, run.1, slot_push size k run.0 es m e q run.2 step)
 
@@ -109,19 +109,19 @@ fresh_slot size k o left extra mount is fresh counted enough = record {
 
 -- ---- what an event is for the slot
 
-full_in : (b : Bool) (A B : Type 0) → b ≡ true → MatchBool b A B → A
+pub full_in : (b : Bool) (A B : Type 0) → b ≡ true → MatchBool b A B → A
 full_in true A B e t = t
 full_in false A B e t = cc
 
-done_in : (b : Bool) (A B : Type 0) → b ≡ false → MatchBool b A B → B
+pub done_in : (b : Bool) (A B : Type 0) → b ≡ false → MatchBool b A B → B
 done_in true A B e t = cc
 done_in false A B e t = t
 
-full_put : (b : Bool) (A B : Type 0) → b ≡ true → A → MatchBool b A B
+pub full_put : (b : Bool) (A B : Type 0) → b ≡ true → A → MatchBool b A B
 full_put true A B e t = t
 full_put false A B e t = cc
 
-done_put : (b : Bool) (A B : Type 0) → b ≡ false → B → MatchBool b A B
+pub done_put : (b : Bool) (A B : Type 0) → b ≡ false → B → MatchBool b A B
 done_put true A B e t = cc
 done_put false A B e t = t
 

@@ -15,6 +15,8 @@ use Rattle.hp_model.specs.files.Options.{limits, wanted_of}
 use Rattle.hp_model.specs.machine.Plan.{Choice, Plan, Reply, Slot, gives, refuse, unless}
 use Rattle.hp_model.specs.machine.SlotEvent.{has_maps, mount_outcome, mount_pages, slot_event, umount_tests}
 use Rattle.hp_model.specs.threads.LocalRun.{Gives, Goes, ThroughDoor}
+use Rattle.hp_history.specs.declared.held.Held.{Held}
+use Rattle.hp_history.specs.Sections.{IsEntered}
 use Rattle.hp_locked.specs.Opened.{IsOpenedAt, IsShareOf, shown}
 use Rattle.hp_locked.specs.Views.{Asks}
 use Rattle.hp_mount_laws.specs.Kept.{mount_of}
@@ -22,7 +24,7 @@ use Rattle.hp_mount_laws.proofs.Ways.{fresh_choice, is_fresh}
 use Rattle.hp_subpool.specs.Subpool.{Subpool, opened}
 use Rattle.hp_parts.specs.Answered.{Went}
 use Rattle.hp_shared.specs.Slots.{IsActedOr}
-use Rattle.hp_shared.proofs.Acting.{acted_or}
+use Rattle.hp_shared.proofs.Acting.{acted_or, stayed}
 
 -- ---- umount
 
@@ -49,12 +51,12 @@ free : (k : ℕ) (m : Mount) → (k == 0) ≡ false → has_maps m ≡ false →
 free k m e f =
     sym (ap (λ x. cond x (refuse r.Busy) (cond (has_maps m) (refuse r.Busy) (gives Done (Some m) None))) e ∙ ap (λ x. cond x (refuse r.Busy) (gives Done (Some m) None)) f)
 
-module _ {X : Type 0} (asked : X → Option Asked) (took : X → Section → PoolAnswer → X → Type 0) (full : X → Type 0)
-    (tells : (d : X) (s : Section) (a : PoolAnswer) (e : X) → took d s a e → Asks (asked e) s a) (d e : X) (none : asked d ≡ None) where
+module _ {X : Type 0} (keeps : Bool) (asked : X → Option Asked) (mine : X → List Held) (took : X → Section → PoolAnswer → X → Type 0) (full : X → Type 0)
+    (tells : (d : X) (s : Section) (a : PoolAnswer) (e : X) → took d s a e → Asks (asked e) s a × IsEntered keeps (mine d) (asked e) (mine e)) (d e : X) (none : asked d ≡ None) where
   pub unmounted : (size k : ℕ) (m : Mount) → (k == 0) ≡ false → has_maps m ≡ false →
       ThroughDoor took (gives Done (Some m) None) (Some m) d (Ok Done) None e → Went size k (Some m) Umount (Ok Done) (asked e) None
   unmounted size k m other no_maps t =
-      acted_or asked took full tells size k (Some m) d Umount (Ok Done) None e none
+      acted_or keeps asked mine took full tells size k (Some m) d Umount (Ok Done) None e none
       (fresh_choice false (Some m), is_fresh false (Some m), subst (λ p. ThroughDoor took p (Some m) d (Ok Done) None e) (free k m other no_maps) t)
 
   -- ---- mount
@@ -92,7 +94,7 @@ module _ {X : Type 0} (asked : X → Option Asked) (took : X → Section → Poo
       IsShareOf (limits nr size (wanted_of text)) nr got s a → took d s a e → Went size k None (Mounting text) (told got) (asked e) (left_of got)
   mount_went size k text got nr s a h t =
       let same = nr_is (limits nr size (wanted_of text)) nr got s a h in
-      let there = tells d s a e t in
+      let there = (tells d s a e t).0 in
       let goes = opens (limits nr size (wanted_of text)) nr got s a h in (
         choice,
         is_fresh false None,
@@ -106,6 +108,11 @@ module _ {X : Type 0} (asked : X → Option Asked) (took : X → Section → Poo
   mounted size k text (Ok got) o = mount_went size k text (Ok got) o.0 o.1 o.2 o.3 o.4
   mounted size k text (Err r.TraceFull) o = (refl, ap asked o.0 ∙ none, o.1, (choice, is_fresh false None, tt))
   mounted size k text (Err other) o = mount_went size k text (Err other) o.0 o.1 o.2 o.3 o.4
+
+  pub open_entered : (size : ℕ) (text : List ℕ) (got : Result (Subpool × Limits) Refusal) → IsOpenedAt took full size text d e got → IsEntered keeps (mine d) (asked e) (mine e)
+  open_entered size text (Ok got) o = (tells d o.1 o.2 e o.4).1
+  open_entered size text (Err r.TraceFull) o = stayed keeps asked mine d e none o.0
+  open_entered size text (Err other) o = (tells d o.1 o.2 e o.4).1
 
 pub taken : (full : Type 0) (size k : ℕ) (text : List ℕ) (m : Mount) (asked : Option Asked) → asked ≡ None → IsActedOr full size k (Some m) (Mounting text) (Err r.SlotTaken) asked (Some m)
 taken full size k text m asked none = (

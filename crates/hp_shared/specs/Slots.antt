@@ -1,7 +1,5 @@
 -- What a slot under its lock is to a contract, and what an event there does.
-use Rattle.hp_model.specs.declared.answer.Answer.TheVariants.{Names}
-use Rattle.hp_model.specs.declared.refusal.Refusal.{Refusal}
-use Rattle.std.specs.Prelude.{Result, ◌≡◌, ◌⊎◌, ℕ, zero, suc, ◌≤◌, Bool, true, false, Option, None, Some, Ok, Err, List}
+use Rattle.std.specs.Prelude.{◌≡◌, ◌⊎◌, ℕ, zero, suc, ◌≤◌, false, Option, None, Some, List}
 use Rattle.std.specs.Bool.{MatchBool}
 use Rattle.hp_model.specs.declared.entry.Asked.{Asked}
 use Rattle.hp_model.specs.declared.entry.Part.TheVariants.{Slot as AtSlot}
@@ -9,14 +7,12 @@ use Rattle.hp_model.specs.declared.entry.Receipt.{Receipt}
 use Rattle.hp_model.specs.declared.entry.SlotEntry.{SlotEntry}
 use Rattle.hp_model.specs.declared.event.Event.TheVariants.{Slot as OnSlot}
 use Rattle.hp_model.specs.declared.event.SlotEvent.{SlotEvent}
-use Rattle.hp_model.specs.declared.refusal.Refusal.TheVariants.{TraceFull}
-use Rattle.hp_model.specs.machine.Event.{IsFresh}
 use Rattle.hp_model.specs.machine.Machine.{open_mount}
-use Rattle.hp_model.specs.machine.Plan.{Choice, Reply, Slot}
+use Rattle.hp_model.specs.machine.Plan.{Reply, Slot}
 use Rattle.hp_model.specs.machine.SlotEvent.{slot_event}
 use Rattle.hp_model.specs.Profile.{most_tasks}
 use Rattle.hp_model.specs.threads.Closing.{to_exit}
-use Rattle.hp_model.specs.threads.LocalRun.{Goes, IsLocalRun}
+use Rattle.hp_model.specs.threads.LocalRun.{IsLocalRun}
 use Rattle.hp_locked.specs.Told.{IsReceipt}
 use Rattle.hp_locked.specs.Views.{HasPlaces}
 use Rattle.hp_mount_laws.specs.Done.{MayEnter}

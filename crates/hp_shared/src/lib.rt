@@ -1,17 +1,27 @@
 //! The machine that threads share: its parts, each under a lock of its own; how it is opened, lent by these, and taken apart.
 #![tactic(auto)]
 
+mod ended;
+mod finished;
 mod locked_slot;
 mod making;
 mod mounting;
 mod names;
+mod opener;
 mod parting;
 mod remounting;
+mod seated_slot;
+mod seats;
 mod shared;
 mod slot;
 mod spare;
 mod table;
+mod ways;
 
+pub use ended::Ended;
+pub use finished::Finished;
 pub use locked_slot::Slot;
+pub use seated_slot::SeatedSlot;
 pub use shared::{Shared, Trails, Unshared};
 pub use table::Table;
+pub use ways::Ways;

@@ -1,5 +1,6 @@
 //! A slot with its trail.
 ghost use Rattle.std.specs.Prelude.{◌≡◌, ◌⊎◌, ◌||◌, ℕ, ◌<◌, ◌≤◌, [], length, true, false, None, Ok, is_some};
+ghost use Rattle.hp_history.specs.Sections.{IsEntered};
 ghost use Rattle.hp_model.specs.declared.answer.Answer.TheVariants.{Done};
 ghost use Rattle.hp_model.specs.declared.entry.Part.TheVariants.{Slot as AtSlot};
 ghost use Rattle.hp_model.specs.declared.event.Event.TheVariants.{Slot as OnSlot};
@@ -182,6 +183,7 @@ impl<N: Naming, T: Trail<SlotEntry>> Slot<N, T> {
         ensures done { IsSlotEvent (full_for (D.is_full door.new) work.entry) N.page_bytes
             self.old self.new (asked_event work.entry)
             (told_reply result.0) (D.asked door.new) result.1 }
+        ensures entered { IsEntered D.keeps (D.mine door.old) (D.asked door.new) (D.mine door.new) }
         ensures number { self.new.number ≡ self.old.number }
         ensures keeps { is_trace_full (told_reply result.0) ≡ true
             → (T.keeps ≡ true) ⊎ full_for (D.is_full door.new) work.entry }
@@ -238,6 +240,7 @@ impl<N: Naming, T: Trail<SlotEntry>> Slot<N, T> {
         ensures done { IsSlotEvent (D.is_full door.new) N.page_bytes self.old self.new
             (event_of home event.entry)
             (told_reply result) (D.asked door.new) None }
+        ensures entered { IsEntered D.keeps (D.mine door.old) (D.asked door.new) (D.mine door.new) }
         ensures number { self.new.number ≡ self.old.number }
         ensures keeps { is_trace_full (told_reply result) ≡ true → D.is_full door.new }
         ensures limits { IsWithinLimits (told_reply result) }

@@ -1,14 +1,18 @@
 //! The parts of a machine before any thread has them.
-ghost use Rattle.std.specs.Prelude.{◌≡◌, ◌<◌, ◌≤◌, ◌==◌, [], None, length, vec_len, vec_capacity, All, IfOk};
+ghost use Rattle.std.specs.Prelude.{◌≡◌, ◌<◌, ◌≤◌, ◌==◌, ◌∷◌, [], None, length, replicate, vec_len, vec_capacity, All, IfOk};
 ghost use Rattle.std.specs.List.{sum};
 ghost use Rattle.hp_model.specs.machine.Machine.{open_mount};
 ghost use Rattle.hp_model.specs.pool.PoolCounts.{IsSettled};
 ghost use Rattle.hp_model.specs.Profile.{most_tasks, most_frames, most_frames_in_all, most_places};
+ghost use Rattle.hp_history.specs.declared.held.Held.TheVariants.{Pool as PoolPart, Tasks as TasksPart};
+ghost use Rattle.hp_history.specs.History.{slots_from};
 ghost use Rattle.hp_locked.specs.Views.{IsFresh};
 ghost use Rattle.hp_trail.specs.Keeping.{extra_if, kept_if, left_if, most_extra};
 
-use crate::Slot;
+use crate::opener::Opener;
+use crate::seated_slot::SeatedSlot;
 use crossbeam_utils::CachePadded;
+use hp_history::{History, Opened, Places, Token};
 use hp_model::entry::SlotEntry;
 use hp_model::naming::Naming;
 use hp_model::profile::MOST_TASKS;
@@ -95,34 +99,63 @@ pub(crate) fn first_mount<N: Naming>(alloc: Global, pool: &mut OwnPool<N>) -> Mo
     }
 }
 
-// Each slot under a lock, with one of the trails, the first with this mount and the others without one. There is room for
-// them.
-pub(crate) fn lock_slots<N: Naming, const K: usize>(
+// A machine's history, the seats that have the table and the pool, the one that may open sessions, and the one that has the
+// slots.
+pub(crate) fn open_history<N: Naming + Places>(
+    opened: Opened,
+) -> (History<N>, Token, Token, Opener<N>, Token)
+    requires named { opened.table.shared.table_id ≡ N.history }
+    requires shape { opened.shape ≡ N.shape }
+    ensures table { result.1.table_id ≡ N.history }
+    ensures tasks { result.1.me ≡ (TasksPart [] ∷ [], []) }
+    ensures core { result.2.table_id ≡ N.history }
+    ensures pool { result.2.me ≡ (PoolPart [] ∷ [], []) }
+    ensures rest { result.4.table_id ≡ N.history }
+    ensures slots { result.4.me ≡ (slots_from 0 (replicate N.shape.slots []), []) }
+{
+    let (history, seat) = opened.named::<N>();
+    let mut seat = seat;
+    let table = history.give_away(&mut seat);
+    let pool = history.give_away(&mut seat);
+    let opener = Opener::new(history.give_away(&mut seat));
+    (history, table, pool, opener, seat)
+}
+
+// Each slot under a lock, with one of the trails and its part of this seat, the first with this mount and the others without
+// one. There is room for them.
+pub(crate) fn lock_slots<N: Naming + Places, const K: usize>(
+    history: &History<N>,
+    slots: Token,
     first: Mount<N>,
     trails: Vec<FreshTrail<K>>,
-    locks: &mut Vec<CachePadded<Mutex<Slot<N, Trace<SlotEntry, K>>>>>,
+    locks: &mut Vec<CachePadded<Mutex<SeatedSlot<N, Trace<SlotEntry, K>>>>>,
 )
+    requires named { slots.table_id ≡ N.history }
+    requires slots { slots.me ≡ (slots_from 0 (replicate (vec_len trails) []), []) }
     requires first { first ≡ open_mount }
     requires some { 0 < vec_len trails }
     requires none { vec_len locks.old ≡ 0 }
     requires room { vec_len trails ≤ vec_capacity locks.old }
     ensures { vec_len locks.new ≡ vec_len trails.entry }
 {
+    let mut seat = slots;
     let mut rest = trails;
     let Some(trail) = rest.pop() else {
         unreachable!()
     };
-    locks.push_reserved(CachePadded::new(Mutex::new(Slot::new(
+    locks.push_reserved(CachePadded::new(Mutex::new(SeatedSlot::new(
         0,
         Some(first),
         trail.into_trail(),
+        history.give_away(&mut seat),
     ))));
     while let Some(trail) = rest.pop() {
         let number = locks.len() as u64;
-        locks.push_reserved(CachePadded::new(Mutex::new(Slot::new(
+        locks.push_reserved(CachePadded::new(Mutex::new(SeatedSlot::new(
             number,
             None,
             trail.into_trail(),
+            history.give_away(&mut seat),
         ))));
     }
 }

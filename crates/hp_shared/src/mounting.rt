@@ -1,5 +1,6 @@
 //! Mount and umount of a slot.
 ghost use Rattle.std.specs.Prelude.{◌≡◌, ◌<◌, ◌≤◌, ℕ, [], Ok, Err, None, Some, true, false};
+ghost use Rattle.hp_history.specs.Sections.{IsEntered};
 ghost use Rattle.hp_model.specs.declared.event.SlotEvent.TheVariants.{Mount as Mounting, Umount};
 ghost use Rattle.hp_model.specs.beside.Copying.{reply_has_names};
 ghost use Rattle.hp_model.specs.beside.Told.{told_reply};
@@ -34,6 +35,7 @@ pub(crate) fn unmount<
     requires ready { D.is_ready door.old }
     ensures went { (size : ℕ) → Went size number mount.old Umount (told_reply result)
         (D.asked door.new) mount.new }
+    ensures entered { IsEntered D.keeps (D.mine door.old) (D.asked door.new) (D.mine door.new) }
     ensures noted { is_trace_full (told_reply result) ≡ false }
     ensures limits { IsWithinLimits (told_reply result) }
     ensures plain { reply_has_names (told_reply result) ≡ false }
@@ -74,6 +76,7 @@ pub(crate) fn mount<
     ensures done { (k : ℕ) → IsActedOr (D.is_full door.new) page_bytes k mount.old
         (Mounting options.now)
         (told_reply result) (D.asked door.new) mount.new }
+    ensures entered { IsEntered D.keeps (D.mine door.old) (D.asked door.new) (D.mine door.new) }
     ensures limits { IsWithinLimits (told_reply result) }
     ensures plain { reply_has_names (told_reply result) ≡ false }
 {

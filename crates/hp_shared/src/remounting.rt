@@ -1,5 +1,6 @@
 //! Other limits for a slot's mount.
 ghost use Rattle.std.specs.Prelude.{◌≡◌, ◌<◌, false};
+ghost use Rattle.hp_history.specs.Sections.{IsEntered};
 ghost use Rattle.hp_model.specs.declared.event.SlotEvent.TheVariants.{Remount};
 ghost use Rattle.hp_model.specs.beside.Copying.{reply_has_names};
 ghost use Rattle.hp_model.specs.beside.Told.{told_reply};
@@ -36,6 +37,7 @@ pub(crate) fn remount<
     ensures done { IsActedOr (D.is_full door.new) page_bytes number mount.old
         (Remount options.now)
         (told_reply result) (D.asked door.new) mount.new }
+    ensures entered { IsEntered D.keeps (D.mine door.old) (D.asked door.new) (D.mine door.new) }
     ensures limits { IsWithinLimits (told_reply result) }
     ensures plain { reply_has_names (told_reply result) ≡ false }
 {

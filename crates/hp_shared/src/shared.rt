@@ -1,5 +1,6 @@
 //! The machine that threads share.
-ghost use Rattle.std.specs.Prelude.{◌≡◌, ◌<◌, ◌≤◌, ◌==◌, [], false, true, length, vec_len, vec_capacity, All, IfOk, IfSome, None};
+ghost use Rattle.std.specs.Prelude.{◌≡◌, ◌<◌, ◌≤◌, ◌==◌, [], false, true, length, is_some, vec_len, vec_capacity, All, IfOk, IfSome, None, not};
+ghost use Rattle.hp_history.specs.History.{IsSession, number_in, receipts_in};
 ghost use Rattle.hp_locked.specs.Views.{frames_list};
 ghost use Rattle.hp_model.specs.machine.Machine.{start};
 ghost use Rattle.hp_model.specs.machine.Ready.{machine_of};
@@ -8,16 +9,21 @@ ghost use Rattle.hp_model.specs.Profile.{most_frames, most_page_bytes, most_plac
 ghost use Rattle.hp_mount_door.specs.Door.{IsReady as IsReadyPool};
 ghost use Rattle.hp_nodes.specs.Ledgers.{AreFrames};
 ghost use Rattle.hp_pool.specs.Ledgers.{AreLedgers};
+ghost use Rattle.hp_shared.specs.Ended.{HasEnded, IsCount};
 ghost use Rattle.hp_shared.specs.Sharing.{EndsRuns, entries_of};
 ghost use Rattle.hp_trail.specs.Walk.{trails_of};
 
-use crate::making::{all_frames, first_mount, lock_slots, open_trail, open_trails};
+use crate::ended::Ended;
+use crate::making::{all_frames, first_mount, lock_slots, open_history, open_trail, open_trails};
+use crate::opener::Opener;
 use crate::parting::take_slots;
+use crate::seated_slot::SeatedSlot;
 use crate::spare::Spare;
-use crate::{Slot, Table};
+use crate::table::Table;
+use crate::ways::Ways;
 use crossbeam_utils::CachePadded;
-use hp_homes::{Blank, Homes, Noted};
-use hp_locked::{Core, NodeLocks};
+use hp_history::{History, Opened, Places, Token};
+use hp_locked::{Core, Gate, NodeLocks};
 use hp_model::entry::{PoolEntry, SlotEntry, TableEntry};
 use hp_model::naming::Naming;
 use hp_model::profile::MOST_TASKS;
@@ -28,7 +34,7 @@ use hp_tasks::TaskTable;
 use hp_trail::trace::Trace;
 use std::alloc::{AllocError, Global};
 use std::marker::Model;
-use std::sync::Mutex;
+use std::sync::{Mutex, Wait};
 
 /// The machine that threads share: the task table, the pool and each slot under a lock of its own, and the frames of each
 /// node under one. Where K is 1 each part keeps a trail of its events, where K is 0 none.
@@ -37,26 +43,27 @@ use std::sync::Mutex;
 ///
 /// Nothing is known of a part until its lock is held. The machine can't be dropped: `into_parts` takes it apart, once no
 /// session is left on it.
-pub struct Shared<N: Naming + Noted, const K: usize> {
+pub struct Shared<N: Naming + Places, const K: usize> {
     pub(crate) page_bytes: usize,
     alloc: Global,
-    homes: Homes<N>,
-    slots: Vec<CachePadded<Mutex<Slot<N, Trace<SlotEntry, K>>>>>,
+    history: History<N>,
+    slots: Vec<CachePadded<Mutex<SeatedSlot<N, Trace<SlotEntry, K>>>>>,
     table: CachePadded<Mutex<Table<N, Trace<TableEntry, K>>>>,
     core: CachePadded<Mutex<Core<N, Trace<PoolEntry, K>>>>,
     nodes: NodeLocks<N>,
+    opener: Mutex<Opener<N>>,
     spare: Mutex<Spare<N>>,
 }
 
-impl<N: Naming + Noted, const K: usize> Model for Shared<N, K> {
-    ghost use Rattle.std.specs.Prelude.{vec_len};
+impl<N: Naming + Places, const K: usize> Model for Shared<N, K> {
+    ghost use Rattle.std.specs.Prelude.{◌==◌, vec_len};
     ghost use Rattle.hp_shared.specs.Sharing.{IsSharedMachine, SharedView};
 
     ghost Value = { SharedView };
 
     ghost view = { λ s. record { page_size = s.page_bytes; slots = vec_len s.slots } };
 
-    ghost invariant = { λ s. IsSharedMachine N.page_bytes N.frames
+    ghost invariant = { λ s. IsSharedMachine (K == 1) N.page_bytes N.frames N.shape
         (record { page_size = s.page_bytes; slots = vec_len s.slots }) };
 }
 
@@ -79,9 +86,9 @@ pub struct Trails {
     pub slots: Vec<Vec<SlotEntry>>,
 }
 
-impl<N: Naming + Noted, const K: usize> Shared<N, K> {
+impl<N: Naming + Places, const K: usize> Shared<N, K> {
     /// A machine of 1 to 4 nodes with so many frames each, of `page_bytes` bytes, which the blanks have, and with so many
-    /// slots. It starts as `System::new` has it. Where K is 1 each trail has `places` places, and beyond these those that
+    /// slots; and with this history, of its shape. It starts as `System::new` has it. Where K is 1 each trail has `places` places, and beyond these those that
     /// entries which take away may need.
     ///
     /// Takes the memory of the slots, the task table and the trails at once. Where some is refused, all is given back before
@@ -93,7 +100,7 @@ impl<N: Naming + Noted, const K: usize> Shared<N, K> {
         slots: usize,
         places: usize,
         blanks: Blanks,
-        words: Blank,
+        opened: Opened,
     ) -> Result<Self, AllocError>
         requires some { 0 < length frames.now }
         requires few { length frames.now ≤ 4 }
@@ -107,11 +114,16 @@ impl<N: Naming + Noted, const K: usize> Shared<N, K> {
         requires page_bytes { page_bytes ≡ N.page_bytes }
         requires ledgers { AreLedgers N.Naming blanks }
         requires frames { AreFrames N.frames frames.now }
-        requires words { words.words.shared.table_id ≡ N.words }
+        requires history { opened.table.shared.table_id ≡ N.history }
+        requires opened { opened.shape ≡ N.shape }
+        requires shape { N.shape ≡ record {
+          slots = slots;
+          nodes = length frames.now;
+          looks = not (K == 1);
+        } }
         ensures { IfOk result (λ s. s ≡ record { page_size = page_bytes; slots = slots }) }
     {
         let tasks = TaskTable::new(alloc)?;
-        let (homes, noter) = Homes::new(words);
         let task_trail = open_trail(alloc, places, MOST_TASKS)?;
         let pool_trail = open_trail(alloc, places, 2 * all_frames(frames))?;
         let slot_trails = open_trails(alloc, slots, places)?;
@@ -132,21 +144,23 @@ impl<N: Naming + Noted, const K: usize> Shared<N, K> {
             Ok(own) => {
                 let mut own = own;
                 let first = first_mount(alloc, &mut own);
-                lock_slots(first, slot_trails, &mut locks);
+                let (history, table, core, opener, parts) = open_history(opened);
+                lock_slots(&history, parts, first, slot_trails, &mut locks);
                 let (pool, stocks) = own.into_parts();
                 Ok(Shared {
                     page_bytes,
                     alloc,
-                    homes,
+                    history,
                     table: CachePadded::new(Mutex::new(Table::new(
                         frames.len() as u64,
                         tasks,
                         task_trail,
-                        noter,
+                        table,
                     ))),
-                    core: CachePadded::new(Mutex::new(Core::new(pool, pool_trail))),
+                    core: CachePadded::new(Mutex::new(Core::new(pool, pool_trail, core))),
                     nodes: NodeLocks::new(stocks),
                     slots: locks,
+                    opener: Mutex::new(opener),
                     spare: Mutex::new(spare),
                 })
             }
@@ -184,10 +198,39 @@ impl<N: Naming + Noted, const K: usize> Shared<N, K> {
         &self.table
     }
 
-    /// The homes that are noted, which threads read without a lock.
+    /// The history of the machine. Where K is not 1 homes of tasks are looked up in its words, without a lock.
     #[inline(always)]
-    pub fn homes(&self) -> &Homes<N> {
-        &self.homes
+    pub fn history(&self) -> &History<N>
+        ensures { N.shape.looks ≡ not (K == 1) }
+    {
+        &self.history
+    }
+
+    /// A session more, which was told nothing yet: its number, and its seat in the history.
+    pub fn open_session<R: Wait>(&self, rt: &R) -> (u64, Token)
+        ensures number { IsCount result.0 (number_in result.1.me.0) }
+        ensures named { result.1.table_id ≡ N.history }
+        ensures session { IsSession result.1.me.0 }
+        ensures none { receipts_in result.1.me.0 ≡ [] }
+        ensures alone { result.1.me.1 ≡ [] }
+    {
+        self.opener.lock(rt).open(&self.history)
+    }
+
+    /// The ways from a slot to the pool and to the frames.
+    #[inline(always)]
+    pub fn ways<'a, R: Wait, G: Gate>(
+        &'a self,
+        rt: &'a R,
+        gate: &'a G,
+    ) -> Ways<'a, N, R, G, Trace<PoolEntry, K>> {
+        Ways {
+            rt,
+            gate,
+            core: &self.core,
+            nodes: &self.nodes,
+            history: &self.history,
+        }
     }
 
     /// The pool under its lock.
@@ -205,47 +248,61 @@ impl<N: Naming + Noted, const K: usize> Shared<N, K> {
     /// The slot at this place under its lock. A lock tells nothing of its value: that it is the slot of this number is asked
     /// of the slot itself.
     #[inline(always)]
-    pub fn slot(&self, at: usize) -> &Mutex<Slot<N, Trace<SlotEntry, K>>>
+    pub fn slot(&self, at: usize) -> &Mutex<SeatedSlot<N, Trace<SlotEntry, K>>>
         requires { at < self.now.slots }
     {
         &self.slots[at]
     }
 
-    /// What the machine is made of, with all that is on it, and the trails where K is 1. These are runs of its parts, from the
-    /// start of the machine to where it is. Never refused; it takes no memory.
-    pub fn into_parts(self) -> Unshared<N>
-        ensures ready { IsReadyPool result.pool }
-        ensures named { result.page_bytes ≡ N.page_bytes }
-        ensures some { 0 < result.page_bytes }
-        ensures page { result.page_bytes ≡ self.page_size }
-        ensures slots { length result.slots.items ≡ self.slots }
-        ensures none { (K == 1) ≡ false → result.trails ≡ None }
+    /// What the machine is made of, with all that is on it, the trails where K is 1, and its history. These are runs of its parts,
+    /// from the start of the machine to where it is, and at both K the history has such runs. Never refused; it takes no memory.
+    pub fn into_parts(self) -> (Unshared<N>, Ended<N>)
+        ensures ready { IsReadyPool result.0.pool }
+        ensures named { result.0.page_bytes ≡ N.page_bytes }
+        ensures some { 0 < result.0.page_bytes }
+        ensures page { result.0.page_bytes ≡ self.page_size }
+        ensures slots { length result.0.slots.items ≡ self.slots }
+        ensures none { (K == 1) ≡ false → result.0.trails ≡ None }
         ensures settled { IsSettledState (start (frames_list N.frames) self.page_size self.slots) }
-        ensures runs { IfSome result.trails (λ t. EndsRuns
+        ensures shape { N.shape ≡ record {
+          slots = self.slots;
+          nodes = length (frames_list N.frames);
+          looks = not (K == 1);
+        } }
+        ensures runs { IfSome result.0.trails (λ t. EndsRuns
             (start (frames_list N.frames) self.page_size self.slots) (entries_of t)
-            (machine_of result.page_bytes result.table result.slots.items result.pool)) }
+            (machine_of result.0.page_bytes result.0.table result.0.slots.items result.0.pool)) }
+        ensures ends { result.1.in_order ≡ true → HasEnded (K == 1)
+            (start (frames_list N.frames) self.page_size self.slots) self.slots
+            (machine_of result.0.page_bytes result.0.table result.0.slots.items result.0.pool)
+            result.0.trails result.1.sessions result.1.seat.me.0 }
     {
         let Shared {
             page_bytes,
             alloc: _,
-            homes: _,
+            history,
             table,
             core,
             nodes,
             slots,
+            opener,
             spare,
         } = self;
-        let (table, task_trail) = table.into_inner().into_inner().into_parts();
-        let (pool, pool_trail) = core.into_inner().into_inner().into_parts();
+        let (table, task_trail, tasks_seat) = table.into_inner().into_inner().into_parts();
+        let (pool, pool_trail, mut pool_seat) = core.into_inner().into_inner().into_parts();
+        let (sessions, mut seat) = opener.into_inner().into_parts();
+        history.take_in(&mut pool_seat, tasks_seat);
+        history.take_in(&mut seat, pool_seat);
         let (mut mounts, mut trails) = spare.into_inner().into_room();
-        let in_order = take_slots(slots, &mut mounts, &mut trails);
-        Unshared {
+        let (in_order, seat) = take_slots(&history, seat, slots, &mut mounts, &mut trails);
+        let unshared = Unshared {
             page_bytes,
             slots: mounts,
             table,
             pool: OwnPool::from_parts(pool, nodes.into_frames()),
             trails: trails_in(in_order, task_trail, pool_trail, trails),
-        }
+        };
+        (unshared, Ended::new(history, seat, sessions, in_order))
     }
 }
 
@@ -257,6 +314,7 @@ fn trails_in<const K: usize>(
     slots: Vec<Vec<SlotEntry>>,
 ) -> Option<Trails>
     ensures none { (K == 1) ≡ false → result ≡ None }
+    ensures some { (K == 1) ≡ true → in_order ≡ true → is_some result ≡ true }
     ensures given { IfSome result (λ t. ((K == 1) ≡ true) × (in_order ≡ true)
         × (entries_of t ≡ trails_of tasks.entry.entries slots.items pool.entry.entries)) }
 {

@@ -1,5 +1,6 @@
 //! A slot under its lock.
 ghost use Rattle.std.specs.Prelude.{◌≡◌, ◌<◌, ◌≤◌, ◌-◌, ◌++◌, ◌==◌, Ok, ℕ, [], length, replicate, true, false, None};
+ghost use Rattle.hp_history.specs.Sections.{IsEntered};
 ghost use Rattle.hp_model.specs.files.Page.{Page as PageValue};
 ghost use Rattle.hp_model.specs.declared.answer.Answer.TheVariants.{Bytes};
 ghost use Rattle.hp_model.specs.beside.Copying.{has_names, reply_has_names};
@@ -67,6 +68,7 @@ pub(crate) fn ask<
     ensures done { IsActedOr (full_for (D.is_full door.new) work.entry) N.page_bytes number
         mount.old (asked_event work.entry)
         (told_reply result) (D.asked door.new) mount.new }
+    ensures entered { IsEntered D.keeps (D.mine door.old) (D.asked door.new) (D.mine door.new) }
     ensures limits { IsWithinLimits (told_reply result) }
     ensures plain { reply_has_names (told_reply result) ≡ false }
     ensures exit { is_exit work.entry ≡ true → told_reply result ≡ Ok Done }
@@ -106,6 +108,7 @@ pub(crate) fn act<
     ensures done { (k : ℕ) → IsActedOr (D.is_full door.new) N.page_bytes k mount.old
         (event_of home event.entry)
         (told_reply result) (D.asked door.new) mount.new }
+    ensures entered { IsEntered D.keeps (D.mine door.old) (D.asked door.new) (D.mine door.new) }
     ensures limits { IsWithinLimits (told_reply result) }
     ensures plain { lists_names (event_of home event.entry) ≡ false →
         reply_has_names (told_reply result) ≡ false }
@@ -205,6 +208,7 @@ pub(crate) fn leave<
     requires has { has_maps_of task mount.old ≡ true }
     ensures went { (size k : ℕ) → Went size k mount.old (ExitMaps task) (Ok Done)
         (D.asked door.new) mount.new }
+    ensures entered { IsEntered D.keeps (D.mine door.old) (D.asked door.new) (D.mine door.new) }
     ensures reply { told_reply result ≡ Ok Done }
 {
     match mount {
@@ -232,6 +236,7 @@ pub(crate) fn fork<
     requires apart { (parent == child) ≡ false }
     ensures went { (size k : ℕ) → Went size k mount.old (ForkMaps parent child)
         (told_reply result) (D.asked door.new) mount.new }
+    ensures entered { IsEntered D.keeps (D.mine door.old) (D.asked door.new) (D.mine door.new) }
     ensures noted { is_trace_full (told_reply result) ≡ false }
     ensures limits { IsWithinLimits (told_reply result) }
     ensures plain { reply_has_names (told_reply result) ≡ false }

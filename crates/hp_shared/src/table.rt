@@ -1,20 +1,21 @@
 //! The task table under its lock.
-ghost use Rattle.std.specs.Prelude.{◌≡◌, ◌≤◌, ◌||◌, ℕ, [], length, true, false, is_some, IfOk, OnErr, IsOk};
-ghost use Rattle.hp_model.specs.declared.entry.Part.TheVariants.{Tasks as AtTasks};
-ghost use Rattle.hp_model.specs.declared.event.Event.TheVariants.{Tasks as OnTasks};
+ghost use Rattle.std.specs.Prelude.{◌≡◌, ◌∷◌, ◌≤◌, ◌||◌, ℕ, List, None, Some, [], length, true, false, IfOk, OnErr, IsOk, if◌then◌else◌};
+ghost use Rattle.hp_model.specs.declared.entry.TableEntry.{TableEntry as Entry};
 ghost use Rattle.hp_model.specs.declared.event.TableEvent.TheVariants.{Add, FindAndAdd, Remove};
-ghost use Rattle.hp_model.specs.beside.Accesses.{done_reply};
-ghost use Rattle.hp_model.specs.machine.Table.{is_known, table_event};
+ghost use Rattle.hp_model.specs.machine.Table.{table_event};
 ghost use Rattle.hp_model.specs.Profile.{most_tasks};
 ghost use Rattle.hp_model.specs.threads.Closing.{removes_task};
-ghost use Rattle.hp_homes.specs.Noting.{last_of};
-ghost use Rattle.hp_locked.specs.Told.{IsReceipt};
-ghost use Rattle.hp_locked.specs.Views.{IsFresh, frames_list};
+ghost use Rattle.hp_model.specs.threads.TableRun.{IsTableRun};
+ghost use Rattle.hp_history.specs.declared.held.Held.TheVariants.{Tasks};
+ghost use Rattle.hp_history.specs.History.{IsChange, IsSession};
+ghost use Rattle.hp_history.specs.Sections.{told_more};
+ghost use Rattle.hp_locked.specs.Views.{IsFresh, IsTrailOf, frames_list};
 ghost use Rattle.hp_parts.specs.Replies.{table_reply};
-ghost use Rattle.hp_shared.specs.Tables.{IsTableEventDone, IsTableTrail};
+ghost use Rattle.hp_shared.specs.Tables.{IsNext, IsTableEventDone, table_in, table_receipt, table_view, table_with};
 ghost use Rattle.hp_trail.specs.Keeping.{has_room, one_less, with_entry};
 
-use hp_homes::{Homes, Noted, Noter};
+use atomic_table::Badge;
+use hp_history::{Change, History, Places, Token, View};
 use hp_locked::Full;
 use hp_model::entry::{Part, Receipt, TableEntry};
 use hp_model::event::{Event, TableEvent};
@@ -23,51 +24,58 @@ use hp_model::refusal::Refusal;
 use hp_parts::TableTold;
 use hp_tasks::TaskTable;
 use hp_trail::trail::Trail;
-use std::marker::{Model, PhantomData};
+use std::marker::{Brand, Model, PhantomData};
+use std::mem;
 
 /// The tasks with their trail.
 ///
-/// Whenever its lock is free, the trail is a run of the table that ends in these tasks, and there is a place in it for the
-/// removal of each: so that is never refused.
-pub struct Table<N: Naming + Noted, T: Trail<TableEntry>> {
+/// Whenever its lock is free, its trail in the history is a run of the table that ends in these tasks. Where the trail is kept,
+/// there is a place in it for the removal of each: so that is never refused.
+pub struct Table<N: Naming + Places, T: Trail<TableEntry>> {
     nodes: u64,
     tasks: TaskTable,
     trail: T,
-    noter: Noter<N>,
+    seat: Badge<View>,
     of: PhantomData<N>,
 }
 
-impl<N: Naming + Noted, T: Trail<TableEntry>> Model for Table<N, T> {
-    ghost use Rattle.std.specs.Prelude.{◌≡◌, length};
+impl<N: Naming + Places, T: Trail<TableEntry>> Model for Table<N, T> {
+    ghost use Rattle.std.specs.Prelude.{◌≡◌, ◌∷◌, [], length};
     ghost use Rattle.hp_locked.specs.Views.{frames_list};
-    ghost use Rattle.hp_homes.specs.Noting.{last_of};
-    ghost use Rattle.hp_shared.specs.Tables.{IsLockedTable, TableView};
+    ghost use Rattle.hp_shared.specs.Tables.{IsLockedTable, TableView, table_in, table_view};
 
     ghost Value = { TableView };
 
     ghost view = { λ t. record {
       tasks = t.tasks;
+      run = table_in t.seat.views;
       entries = T.entries t.trail;
       left = T.left t.trail;
       extra = T.extra t.trail;
     } };
 
     ghost invariant = { λ t. (t.nodes ≡ length (frames_list N.frames))
-        × IsLockedTable t.nodes (T.entries t.trail) (T.left t.trail) (T.extra t.trail) t.tasks
-        × (last_of t.noter.seat.me.0.seen ≡ t.tasks) };
+        × (t.nodes ≡ N.shape.nodes)
+        × (t.seat.table_id ≡ N.history)
+        × (t.seat.views ≡ table_view t.seat.views ∷ [])
+        × IsLockedTable t.nodes (table_in t.seat.views) (T.entries t.trail) (T.left t.trail)
+        (T.extra t.trail) t.tasks };
 }
 
-impl<N: Naming + Noted, T: Trail<TableEntry>> Table<N, T> {
+impl<N: Naming + Places, T: Trail<TableEntry>> Table<N, T> {
     /// No task, with a trail that has nothing in it yet.
     #[tactic(auto, using(crate::proofs::TablesKept::fresh_table))]
-    pub fn new(nodes: u64, tasks: TaskTable, trail: T, noter: Noter<N>) -> Self
+    pub fn new(nodes: u64, tasks: TaskTable, trail: T, seat: Token) -> Self
         requires nodes { nodes ≡ length (frames_list N.frames) }
+        requires shape { nodes ≡ N.shape.nodes }
         requires none { tasks ≡ [] }
-        requires noted { last_of noter.seat.me.0.seen ≡ [] }
         requires fresh { IsFresh (T.entries trail) }
         requires enough { most_tasks ≤ T.extra trail }
+        requires named { seat.table_id ≡ N.history }
+        requires first { seat.me ≡ (Tasks [] ∷ [], []) }
         ensures { result ≡ record {
           tasks = tasks;
+          run = [];
           entries = T.entries trail;
           left = T.left trail;
           extra = T.extra trail;
@@ -77,75 +85,105 @@ impl<N: Naming + Noted, T: Trail<TableEntry>> Table<N, T> {
             nodes,
             tasks,
             trail,
-            noter,
+            seat: seat.into_badge(),
             of: PhantomData,
         }
     }
 
-    /// The tasks and their trail.
-    pub fn into_parts(self) -> (TaskTable, T)
+    /// The tasks, what is kept of their trail, and the seat that has it.
+    pub fn into_parts(self) -> (TaskTable, T, Token)
         ensures tasks { result.0 ≡ self.tasks }
         ensures entries { T.entries result.1 ≡ self.entries }
-        ensures run { IsTableTrail (length (frames_list N.frames)) self.entries self.tasks }
+        ensures kept { IsTrailOf self.run self.entries }
+        ensures run { IsTableRun (length (frames_list N.frames)) [] self.run self.tasks }
+        ensures named { result.2.table_id ≡ N.history }
+        ensures trail { result.2.me ≡ (Tasks self.run ∷ [], []) }
     {
         let Table {
             nodes: _,
             tasks,
             trail,
-            noter: _,
+            seat,
             of: _,
         } = self;
-        (tasks, trail)
+        (tasks, trail, seat.into_seat())
     }
 
-    /// An event of the table: its answer, and its receipt where entries are kept. At `Err` the trail is full, and nothing
-    /// changed. The removal of a task that is there always has a place.
+    /// An event of the table: its answer, and where entries are kept its receipt, which the session has in any case. At `Err`
+    /// the trail is full, and nothing changed. The removal of a task that is there always has a place.
     pub fn event(
         &mut self,
-        homes: &Homes<N>,
+        history: &History<N>,
+        mine: &mut Token,
         event: TableEvent,
     ) -> Result<(TableTold, Option<Receipt>), Full>
+        requires named { mine.old.table_id ≡ N.history }
+        requires session { IsSession mine.old.me.0 }
+        requires none { mine.old.me.1 ≡ [] }
+        ensures named { mine.new.table_id ≡ N.history }
         ensures done { IfOk result (λ r. IsTableEventDone (length (frames_list N.frames))
             self.old self.new event (table_reply r.0)) }
-        ensures receipt { IfOk result (λ r. IsReceipt self.old.entries AtTasks (OnTasks event)
-            (table_reply r.0) r.1) }
-        ensures given { IfOk result (λ r. is_some r.1 ≡ T.keeps) }
+        ensures told { IfOk result (λ r. mine.new.me ≡ (
+          told_more mine.old.me.0
+              (table_receipt event (table_reply r.0) (length self.old.run)) ∷ [],
+          [],
+        )) }
+        ensures receipt { IfOk result (λ r. r.1 ≡ (if T.keeps
+            then Some (table_receipt event (table_reply r.0) (length self.old.run))
+            else None)) }
         ensures closing { removes_task self.old.tasks event ≡ true → IsOk result }
         ensures full { OnErr result (has_room false self.old.left self.old.extra ≡ false) }
         ensures keeps { OnErr result (T.keeps ≡ true) }
         ensures same { OnErr result (self.new ≡ self.old) }
+        ensures untold { OnErr result (mine.new.me ≡ mine.old.me) }
     {
         let Table {
             nodes,
             tasks,
             trail,
-            noter,
+            seat,
             of: _,
         } = self;
         if !may_note(tasks, trail, event) {
             return Err(Full {});
         }
-        let told = answered(tasks, *nodes, homes, noter, event);
+        let (told, change) = answered(tasks, *nodes, event);
         let receipt = note(trail, event, told);
+        tell(history, seat, mine, event, told, change);
         Ok((told, receipt))
     }
+}
 
-    /// An event of the table where no entries are kept: its answer. There is no receipt.
-    #[inline(always)]
-    pub fn event_unnoted(&mut self, homes: &Homes<N>, event: TableEvent) -> TableTold
-        requires unkept { T.keeps ≡ false }
-        ensures done { IsTableEventDone (length (frames_list N.frames)) self.old self.new event
-            (table_reply result) }
-    {
-        let Table {
-            nodes,
-            tasks,
-            trail: _,
-            noter,
-            of: _,
-        } = self;
-        answered(tasks, *nodes, homes, noter, event)
-    }
+// The order has the event and the words say what it changes, at one step; and the session has its receipt.
+#[inline(always)]
+fn tell<N: Places>(
+    history: &History<N>,
+    table: &mut Badge<View>,
+    mine: &mut Token,
+    event: TableEvent,
+    told: TableTold,
+    change: Change,
+)
+    requires table { table.old.table_id ≡ N.history }
+    requires trail { table.old.views ≡ table_view table.old.views ∷ [] }
+    requires named { mine.old.table_id ≡ N.history }
+    requires session { IsSession mine.old.me.0 }
+    requires none { mine.old.me.1 ≡ [] }
+    requires next { IsNext N.shape.nodes (table_in table.old.views) event (table_reply told)
+        change }
+    ensures table { table.new.table_id ≡ N.history }
+    ensures trail { table.new.views
+        ≡ (table_with event (table_reply told) (table_in table.old.views) ∷ []) ∷ [] }
+    ensures named { mine.new.table_id ≡ N.history }
+    ensures told { mine.new.me ≡ (
+      told_more mine.old.me.0
+          (table_receipt event (table_reply told) (length (table_in table.old.views))) ∷ [],
+      [],
+    ) }
+{
+    history.take_in(mine, mem::replace(table, Badge::blank()).into_seat());
+    history.noted::<Brand, _>(mine, change, (event, told));
+    *table = history.give_away(mine).into_badge();
 }
 
 // Whether the event takes away a task that is there, or the trail has a place for an entry of any kind.
@@ -167,104 +205,62 @@ fn removes(tasks: &TaskTable, event: TableEvent) -> bool
     }
 }
 
-// What the table answers to an event. What changes is noted.
-fn answered<N: Noted>(
-    tasks: &mut TaskTable,
-    nodes: u64,
-    homes: &Homes<N>,
-    noter: &mut Noter<N>,
-    event: TableEvent,
-) -> TableTold
-    requires { last_of noter.old.seat.me.0.seen ≡ tasks.old }
-    ensures event { table_event nodes tasks.old event ≡ (table_reply result, tasks.new) }
-    ensures noted { last_of noter.new.seat.me.0.seen ≡ tasks.new }
+// What the table answers to an event, and what that changes.
+#[inline(always)]
+fn answered(tasks: &mut TaskTable, nodes: u64, event: TableEvent) -> (TableTold, Change)
+    ensures event { table_event nodes tasks.old event ≡ (table_reply result.0, tasks.new) }
+    ensures change { IsChange tasks.old tasks.new result.1 }
 {
     match event {
-        TableEvent::Add { task, home } => done(add(tasks, nodes, homes, noter, task, home)),
+        TableEvent::Add { task, home } => add(tasks, nodes, task, home),
         TableEvent::Find { task } => match tasks.home(task) {
-            Some(home) => TableTold::Home(home),
-            None => TableTold::Refused(Refusal::NoSuchTask),
+            Some(home) => (TableTold::Home(home), Change::Same),
+            None => (TableTold::Refused(Refusal::NoSuchTask), Change::Same),
         },
-        TableEvent::FindAndAdd { parent, child } => {
-            done(add_child(tasks, homes, noter, parent, child))
-        }
-        TableEvent::Remove { task } => done(remove(tasks, homes, noter, task)),
+        TableEvent::FindAndAdd { parent, child } => add_child(tasks, parent, child),
+        TableEvent::Remove { task } => remove(tasks, task),
     }
 }
 
-// Adds a task, and notes it.
-fn add<N: Noted>(
-    tasks: &mut TaskTable,
-    nodes: u64,
-    homes: &Homes<N>,
-    noter: &mut Noter<N>,
-    task: u64,
-    home: u64,
-) -> Result<(), Refusal>
-    requires { last_of noter.old.seat.me.0.seen ≡ tasks.old }
-    ensures event { table_event nodes tasks.old (Add task home) ≡ (done_reply result, tasks.new) }
-    ensures noted { last_of noter.new.seat.me.0.seen ≡ tasks.new }
+// Adds a task.
+fn add(tasks: &mut TaskTable, nodes: u64, task: u64, home: u64) -> (TableTold, Change)
+    ensures event { table_event nodes tasks.old (Add task home)
+        ≡ (table_reply result.0, tasks.new) }
+    ensures change { IsChange tasks.old tasks.new result.1 }
 {
-    tasks.add_task(nodes, task, home)?;
-    homes.came(noter, task, home);
-    Ok(())
+    match tasks.add_task(nodes, task, home) {
+        Ok(()) => (TableTold::Done, Change::Came { task, home }),
+        Err(refusal) => (TableTold::Refused(refusal), Change::Same),
+    }
 }
 
-// Adds a child of a task, and notes it.
-fn add_child<N: Noted>(
-    tasks: &mut TaskTable,
-    homes: &Homes<N>,
-    noter: &mut Noter<N>,
-    parent: u64,
-    child: u64,
-) -> Result<(), Refusal>
-    requires { last_of noter.old.seat.me.0.seen ≡ tasks.old }
+// Adds a child of a task.
+fn add_child(tasks: &mut TaskTable, parent: u64, child: u64) -> (TableTold, Change)
     ensures event { (nodes : ℕ) → table_event nodes tasks.old (FindAndAdd parent child)
-        ≡ (done_reply result, tasks.new) }
-    ensures noted { last_of noter.new.seat.me.0.seen ≡ tasks.new }
+        ≡ (table_reply result.0, tasks.new) }
+    ensures change { IsChange tasks.old tasks.new result.1 }
 {
     let Some(home) = tasks.home(parent) else {
-        return Err(Refusal::NoSuchTask);
+        return (TableTold::Refused(Refusal::NoSuchTask), Change::Same);
     };
     match tasks.add_child(parent, child) {
-        Ok(()) => {
-            homes.came(noter, child, home);
-            Ok(())
-        }
-        Err(refusal) => Err(refusal),
+        Ok(()) => (TableTold::Done, Change::Came { task: child, home }),
+        Err(refusal) => (TableTold::Refused(refusal), Change::Same),
     }
 }
 
-// Removes a task, which is noted no more.
-fn remove<N: Noted>(
-    tasks: &mut TaskTable,
-    homes: &Homes<N>,
-    noter: &mut Noter<N>,
-    task: u64,
-) -> Result<(), Refusal>
-    requires { last_of noter.old.seat.me.0.seen ≡ tasks.old }
+// Removes a task.
+fn remove(tasks: &mut TaskTable, task: u64) -> (TableTold, Change)
     ensures event { (nodes : ℕ) → table_event nodes tasks.old (Remove task)
-        ≡ (done_reply result, tasks.new) }
-    ensures noted { last_of noter.new.seat.me.0.seen ≡ tasks.new }
+        ≡ (table_reply result.0, tasks.new) }
+    ensures change { IsChange tasks.old tasks.new result.1 }
 {
     let Some(home) = tasks.home(task) else {
-        return Err(Refusal::NoSuchTask);
+        return (TableTold::Refused(Refusal::NoSuchTask), Change::Same);
     };
     match tasks.remove_task(task) {
-        Ok(()) => {
-            homes.gone(noter, task, home);
-            Ok(())
-        }
-        Err(refusal) => Err(refusal),
-    }
-}
-
-fn done(ended: Result<(), Refusal>) -> TableTold
-    ensures { table_reply result ≡ done_reply ended }
-{
-    match ended {
-        Ok(()) => TableTold::Done,
-        Err(refusal) => TableTold::Refused(refusal),
+        Ok(()) => (TableTold::Done, Change::Gone { task, home }),
+        Err(refusal) => (TableTold::Refused(refusal), Change::Same),
     }
 }
 
@@ -275,9 +271,10 @@ fn note<T: Trail<TableEntry>>(trail: &mut T, event: TableEvent, told: TableTold)
         (record { event = event; reply = table_reply told }) }
     ensures left { T.left trail.new ≡ one_less (T.left trail.old) }
     ensures extra { T.extra trail.new ≡ T.extra trail.old }
-    ensures receipt { IsReceipt (T.entries trail.old) AtTasks (OnTasks event) (table_reply told)
-        result }
-    ensures given { is_some result ≡ T.keeps }
+    ensures receipt { (es : List Entry) → IsTrailOf es (T.entries trail.old)
+        → result ≡ (if T.keeps
+        then Some (table_receipt event (table_reply told) (length es))
+        else None) }
 {
     let receipt = receipt_of(trail, event, told);
     trail.push(TableEntry {
@@ -292,9 +289,10 @@ fn receipt_of<T: Trail<TableEntry>>(
     event: TableEvent,
     told: TableTold,
 ) -> Option<Receipt>
-    ensures receipt { IsReceipt (T.entries trail.now) AtTasks (OnTasks event) (table_reply told)
-        result }
-    ensures given { is_some result ≡ T.keeps }
+    ensures { (es : List Entry) → IsTrailOf es (T.entries trail.now)
+        → result ≡ (if T.keeps
+        then Some (table_receipt event (table_reply told) (length es))
+        else None) }
 {
     if !trail.is_kept() {
         return None;

@@ -11,6 +11,7 @@ use Rattle.hp_serving.specs.declared.sessions.Ended.{Ended}
 use Rattle.hp_serving.specs.declared.sessions.Ended.TheVariants.{Printed, Unprinted, Failed}
 use Rattle.hp_sessions.specs.Calls.{IsCallAnswered, SessionView}
 use Rattle.hp_closing.specs.Joined.{WasJoined}
+use Rattle.hp_closing.specs.OneRun.{WasOneRun}
 use Rattle.hp_words.specs.Config.{MachineChoice, chosen}
 use Rattle.hp_program.specs.Program.{IsToldOn, MayBeLeft}
 use Rattle.hp_words.specs.declared.settings.Serving.{Serving}
@@ -27,7 +28,8 @@ pub as_asked : (c : MachineChoice) (s : Serving) (keeps : ℕ) (machine : State)
     → (told : List (List Receipt)) (x : Closed) → left.MayLeave keeps machine told x → MayBeLeft c s told x
 as_asked c s keeps machine same kept told x h = record {
   page = h.page ∙ ap (λ (m : State). m.page_size) same;
-  audited = h.audited ∙ kept;
+  audited = λ whole. h.audited whole ∙ kept;
+  run = λ whole. subst (λ (m : State). WasOneRun m told x.counts) same (h.run whole);
   joined = λ joined. subst (λ (m : State). WasJoined m told x.counts) same (h.joined joined);
 }
 

@@ -1,12 +1,12 @@
 //! Sessions over TCP, on a machine that threads share.
-ghost use Rattle.std.specs.Prelude.{◌≡◌, ◌==◌, nat_lt};
+ghost use Rattle.std.specs.Prelude.{◌≡◌, ◌==◌, length, nat_lt, not};
 ghost use Rattle.std.specs.Thread.{IsSync};
 ghost use Rattle.hp_nodes.specs.Ledgers.{AreFrames};
 ghost use Rattle.hp_pool.specs.Ledgers.{AreLedgers};
 ghost use Rattle.hp_words.specs.Config.{IsMachineWithin, IsServing, choice_of};
 ghost use Rattle.hp_program.specs.Program.{IsServingEnded};
 
-use hp_homes::{Blank, Noted};
+use hp_history::{Opened, Places, Shape};
 use hp_model::naming::Naming;
 use hp_pool::Blanks;
 use hp_program::Server;
@@ -83,7 +83,12 @@ pub fn serve_over<R: Threads + Wait + Sync, C: Connections, W: Sink, E: Sink>(
     let Ok(blanks) = Blanks::new(alloc, &machine.frames, machine.page as usize) else {
         return report(Ended::Failed(ServeFault::Memory), faults);
     };
-    let Ok(words) = Blank::new(alloc) else {
+    let shape = Shape {
+        slots: machine.slots,
+        nodes: machine.frames.len() as u64,
+        looks: serving.room == 0,
+    };
+    let Ok(opened) = Opened::new(alloc, shape) else {
         return report(Ended::Failed(ServeFault::Memory), faults);
     };
     serve_kept::<Brand, R, C, W, E>(
@@ -92,7 +97,7 @@ pub fn serve_over<R: Threads + Wait + Sync, C: Connections, W: Sink, E: Sink>(
         machine,
         serving,
         blanks,
-        words,
+        opened,
         connections,
         output,
         faults,
@@ -101,7 +106,7 @@ pub fn serve_over<R: Threads + Wait + Sync, C: Connections, W: Sink, E: Sink>(
 
 // Keeps trails where there is room for entries.
 fn serve_kept<
-    N: Naming + Noted + Send + Sync,
+    N: Naming + Places + Send + Sync,
     R: Threads + Wait + Sync,
     C: Connections,
     W: Sink,
@@ -112,7 +117,7 @@ fn serve_kept<
     machine: &Machine,
     serving: Serving,
     blanks: Blanks,
-    words: Blank,
+    opened: Opened,
     connections: &mut C,
     output: &mut W,
     faults: &mut E,
@@ -122,7 +127,13 @@ fn serve_kept<
     requires bytes { N.page_bytes ≡ machine.now.page }
     requires ledgers { AreLedgers N.Naming blanks }
     requires frames { AreFrames N.frames machine.now.frames.items }
-    requires words { words.words.shared.table_id ≡ N.words }
+    requires history { opened.table.shared.table_id ≡ N.history }
+    requires opened { opened.shape ≡ N.shape }
+    requires shape { N.shape ≡ record {
+      slots = machine.now.slots;
+      nodes = length machine.now.frames.items;
+      looks = serving.room == 0;
+    } }
     ensures { IsServingEnded (choice_of machine.now) serving (W.contents output.old)
         (W.contents output.new) (E.is_sure faults.old) (E.contents faults.old)
         (E.contents faults.new) result }
@@ -134,7 +145,7 @@ fn serve_kept<
             machine,
             serving,
             blanks,
-            words,
+            opened,
             connections,
             output,
             faults,
@@ -146,7 +157,7 @@ fn serve_kept<
             machine,
             serving,
             blanks,
-            words,
+            opened,
             connections,
             output,
             faults,
@@ -156,7 +167,7 @@ fn serve_kept<
 
 // Makes the machine, serves on it and closes it. Its trails are kept where K is 1.
 fn serve_on<
-    N: Naming + Noted + Send + Sync,
+    N: Naming + Places + Send + Sync,
     R: Threads + Wait + Sync,
     C: Connections,
     W: Sink,
@@ -168,7 +179,7 @@ fn serve_on<
     machine: &Machine,
     serving: Serving,
     blanks: Blanks,
-    words: Blank,
+    opened: Opened,
     connections: &mut C,
     output: &mut W,
     faults: &mut E,
@@ -179,7 +190,13 @@ fn serve_on<
     requires bytes { N.page_bytes ≡ machine.now.page }
     requires ledgers { AreLedgers N.Naming blanks }
     requires frames { AreFrames N.frames machine.now.frames.items }
-    requires words { words.words.shared.table_id ≡ N.words }
+    requires history { opened.table.shared.table_id ≡ N.history }
+    requires opened { opened.shape ≡ N.shape }
+    requires shape { N.shape ≡ record {
+      slots = machine.now.slots;
+      nodes = length machine.now.frames.items;
+      looks = not (K == 1);
+    } }
     ensures { IsServingEnded (choice_of machine.now) serving (W.contents output.old)
         (W.contents output.new) (E.is_sure faults.old) (E.contents faults.old)
         (E.contents faults.new) result }
@@ -191,7 +208,7 @@ fn serve_on<
         machine.slots as usize,
         serving.room,
         blanks,
-        words,
+        opened,
     ) else {
         return report(Ended::Failed(ServeFault::Memory), faults);
     };

@@ -1,5 +1,5 @@
 //! What goes back to the pool, under its lock.
-ghost use Rattle.std.specs.Prelude.{◌≡◌, ◌+◌, ◌<◌, ◌≤◌, true, IfSome, IfNone};
+ghost use Rattle.std.specs.Prelude.{◌∷◌, [], ◌≡◌, ◌+◌, ◌<◌, ◌≤◌, true, IfSome, IfNone};
 ghost use Rattle.std.specs.List.{sum};
 ghost use Rattle.hp_model.specs.declared.entry.PoolEntry.TheVariants.{OfSlot};
 ghost use Rattle.hp_model.specs.declared.section.Section.TheVariants.{GiveBack};
@@ -8,10 +8,13 @@ ghost use Rattle.hp_model.specs.threads.Closing.{to_return};
 ghost use Rattle.hp_mount_door.specs.Door.{IsReady, with_less};
 ghost use Rattle.hp_subpool.specs.Subpool.{committed_of, fall};
 ghost use Rattle.hp_trail.specs.Keeping.{has_room, one_less, with_entry};
-ghost use Rattle.hp_locked.specs.Views.{IsGiven, IsPlace};
+ghost use Rattle.hp_history.specs.Sections.{IsEntered, IsFree, pool_in, pool_next, pool_view};
+ghost use Rattle.hp_locked.specs.Views.{IsGiven, IsPlace, IsTrailOf};
 
 use super::{Core, committed, granted};
 use crate::noting::note;
+use atomic_table::Badge;
+use hp_history::{History, Places, Token, View};
 use hp_model::entry::{Asked, PoolEntry};
 use hp_model::naming::Naming;
 use hp_model::section::Section;
@@ -20,49 +23,95 @@ use hp_pool::Pool;
 use hp_subpool::Subpool;
 use hp_trail::trail::Trail;
 
-impl<N: Naming, T: Trail<PoolEntry>> Core<N, T> {
+impl<N: Naming + Places, T: Trail<PoolEntry>> Core<N, T> {
     /// Puts the pages that go back by their claims, and gives so many reservations back: the section, where there is one.
     /// Never refused.
-    pub fn put(&mut self, share: &mut Subpool<N>, parcel: Parcel<N>, reserves: u64) -> Option<Asked>
+    pub fn put(
+        &mut self,
+        history: &History<N>,
+        mine: &mut Token,
+        share: &mut Subpool<N>,
+        parcel: Parcel<N>,
+        reserves: u64,
+    ) -> Option<Asked>
         requires pages { sum parcel ≤ share.old.pages }
         requires held { reserves ≤ share.old.held }
+        requires named { mine.old.table_id ≡ N.history }
+        requires free { IsFree mine.old.me.0 }
+        requires alone { mine.old.me.1 ≡ [] }
         ensures given { IsGiven parcel (fall share.old (sum parcel + reserves)) self.old
             self.new result }
         ensures share { share.new ≡ with_less (sum parcel) reserves share.old }
+        ensures entered { IsEntered T.keeps mine.old.me.0 result mine.new.me.0 }
+        ensures named { mine.new.table_id ≡ N.history }
+        ensures alone { mine.new.me.1 ≡ [] }
     {
-        let Core { pool, trail } = self;
+        let Core { pool, trail, seat } = self;
         let (puts, pages) = returned(pool, share, parcel, reserves);
         pool.law();
-        given(trail, puts, pages)
+        given(trail, seat, history, mine, puts, pages)
     }
 
     /// Ends a share, all of whose pages go back: the section, where there is one. Never refused.
-    pub fn close(&mut self, share: Subpool<N>, parcel: Parcel<N>) -> Option<Asked>
+    pub fn close(
+        &mut self,
+        history: &History<N>,
+        mine: &mut Token,
+        share: Subpool<N>,
+        parcel: Parcel<N>,
+    ) -> Option<Asked>
         requires pages { sum parcel ≡ share.pages }
+        requires named { mine.old.table_id ≡ N.history }
+        requires free { IsFree mine.old.me.0 }
+        requires alone { mine.old.me.1 ≡ [] }
         ensures given { IsGiven parcel (committed_of share) self.old self.new result }
+        ensures entered { IsEntered T.keeps mine.old.me.0 result mine.new.me.0 }
+        ensures named { mine.new.table_id ≡ N.history }
+        ensures alone { mine.new.me.1 ≡ [] }
     {
-        let Core { pool, trail } = self;
+        let Core { pool, trail, seat } = self;
         let (puts, pages) = ended(pool, share, parcel);
         pool.law();
-        given(trail, puts, pages)
+        given(trail, seat, history, mine, puts, pages)
     }
 }
 
 // Notes what was given back, if that is anything.
-fn given<T: Trail<PoolEntry>>(trail: &mut T, puts: [u64; 4], pages: u64) -> Option<Asked>
-    requires { 0 < sum puts + pages → has_room true (T.left trail.old) (T.extra trail.old) ≡ true }
+fn given<N: Places, T: Trail<PoolEntry>>(
+    trail: &mut T,
+    seat: &mut Badge<View>,
+    history: &History<N>,
+    mine: &mut Token,
+    puts: [u64; 4],
+    pages: u64,
+) -> Option<Asked>
+    requires room { 0 < sum puts + pages
+        → has_room true (T.left trail.old) (T.extra trail.old) ≡ true }
+    requires pool { seat.old.table_id ≡ N.history }
+    requires one { seat.old.views ≡ pool_view seat.old.views ∷ [] }
+    requires kept { IsTrailOf (pool_in seat.old.views) (T.entries trail.old) }
+    requires named { mine.old.table_id ≡ N.history }
+    requires free { IsFree mine.old.me.0 }
+    requires alone { mine.old.me.1 ≡ [] }
     ensures some { IfSome result (λ a. (a.section ≡ GiveBack puts pages) × (a.answer ≡ granted_at 0)
         × IsPlace (T.entries trail.old) a.place
         × (T.entries trail.new ≡ with_entry (T.entries trail.old) (OfSlot a.section a.answer))
         × (0 < sum puts + pages)
         × (T.left trail.new ≡ one_less (T.left trail.old))
-        × (T.extra trail.new ≡ T.extra trail.old)) }
-    ensures none { IfNone result ((trail.new ≡ trail.old) × (sum puts + pages ≡ 0)) }
+        × (T.extra trail.new ≡ T.extra trail.old)
+        × (seat.new.views ≡ (pool_next a (pool_in seat.old.views) ∷ []) ∷ [])) }
+    ensures none { IfNone result ((trail.new ≡ trail.old) × (sum puts + pages ≡ 0)
+        × (seat.new.views ≡ seat.old.views)) }
+    ensures pool { seat.new.table_id ≡ N.history }
+    ensures entered { IsEntered T.keeps mine.old.me.0 result mine.new.me.0 }
+    ensures named { mine.new.table_id ≡ N.history }
+    ensures alone { mine.new.me.1 ≡ [] }
 {
     if puts[0] == 0 && puts[1] == 0 && puts[2] == 0 && puts[3] == 0 && pages == 0 {
         return None;
     }
-    Some(note(trail, Section::GiveBack { puts, pages }, granted(0)))
+    let section = Section::GiveBack { puts, pages };
+    Some(note(trail, seat, history, mine, section, granted(0)))
 }
 
 // Gives pages and reservations back: the pages by node, and how far the commitment falls.

@@ -1,15 +1,17 @@
 //! A mount's share and its limits, under the pool's lock.
-ghost use Rattle.std.specs.Prelude.{◌≡◌, ◌<◌, true, false, IfOk, OnErr};
+ghost use Rattle.std.specs.Prelude.{[], Some, ◌≡◌, ◌<◌, true, false, IfOk, OnErr};
 ghost use Rattle.hp_model.specs.pool.Pool.{section};
 ghost use Rattle.hp_model.specs.files.Options.{limits, wanted_of};
 ghost use Rattle.hp_mount_door.specs.Door.{IsReady};
 ghost use Rattle.hp_mount_door.specs.Limits.{IsLimitedBy};
 ghost use Rattle.hp_trail.specs.Keeping.{has_room};
 ghost use Rattle.hp_locked.specs.Opened.{IsShareOf};
+ghost use Rattle.hp_history.specs.Sections.{IsEntered, IsFree};
 ghost use Rattle.hp_locked.specs.Views.{IsSection};
 
 use super::{Core, Full};
 use crate::noting::note;
+use hp_history::{History, Places, Token};
 use hp_model::entry::{Asked, PoolEntry};
 use hp_model::limits::Limits;
 use hp_model::naming::Naming;
@@ -21,16 +23,21 @@ use hp_pool::Pool;
 use hp_subpool::Subpool;
 use hp_trail::trail::Trail;
 
-impl<N: Naming, T: Trail<PoolEntry>> Core<N, T> {
+impl<N: Naming + Places, T: Trail<PoolEntry>> Core<N, T> {
     /// The section of a mount: reads nr, and commits the minimum that the options mean at it, for pages of so many bytes.
     /// The share and the limits, or BadOption, MinOverSize or NoPages; and the section. At `Err` the trail is full, and
     /// nothing changed.
     pub fn open(
         &mut self,
+        history: &History<N>,
+        mine: &mut Token,
         options: &[u8],
         page_bytes: u64,
     ) -> Result<(Result<(Subpool<N>, Limits), Refusal>, Asked), Full>
-        requires { 0 < page_bytes }
+        requires bytes { 0 < page_bytes }
+        requires named { mine.old.table_id ≡ N.history }
+        requires free { IsFree mine.old.me.0 }
+        requires alone { mine.old.me.1 ≡ [] }
         ensures section { IfOk result (λ r. IsSection self.old self.new r.1) }
         ensures opens { IfOk result (λ r. IsShareOf (limits self.old.pool.nr page_bytes
             (wanted_of options.now))
@@ -38,14 +45,19 @@ impl<N: Naming, T: Trail<PoolEntry>> Core<N, T> {
         ensures full { OnErr result (has_room false self.old.left self.old.extra ≡ false) }
         ensures keeps { OnErr result (T.keeps ≡ true) }
         ensures same { OnErr result (self.new ≡ self.old) }
+        ensures entered { IfOk result (λ r.
+            IsEntered T.keeps mine.old.me.0 (Some r.1) mine.new.me.0) }
+        ensures unheard { OnErr result (mine.new.me ≡ mine.old.me) }
+        ensures named { mine.new.table_id ≡ N.history }
+        ensures alone { mine.new.me.1 ≡ [] }
     {
-        let Core { pool, trail } = self;
+        let Core { pool, trail, seat } = self;
         if !trail.has_room(false) {
             return Err(Full {});
         }
         let (share, section, answer) = opened_share(pool, options, page_bytes);
         pool.law();
-        let asked = note(trail, section, answer);
+        let asked = note(trail, seat, history, mine, section, answer);
         Ok((share, asked))
     }
 
@@ -53,11 +65,16 @@ impl<N: Naming, T: Trail<PoolEntry>> Core<N, T> {
     /// MinOverSize or NoPages; and the section. At `Err` the trail is full, and nothing changed.
     pub fn limits(
         &mut self,
+        history: &History<N>,
+        mine: &mut Token,
         share: &mut Subpool<N>,
         page_bytes: u64,
         options: &[u8],
     ) -> Result<(Result<Option<u64>, Refusal>, Asked), Full>
-        requires { 0 < page_bytes }
+        requires bytes { 0 < page_bytes }
+        requires named { mine.old.table_id ≡ N.history }
+        requires free { IsFree mine.old.me.0 }
+        requires alone { mine.old.me.1 ≡ [] }
         ensures section { IfOk result (λ r. IsSection self.old self.new r.1) }
         ensures set { IfOk result (λ r. IsLimitedBy (limits self.old.pool.nr page_bytes
             (wanted_of options.now))
@@ -66,14 +83,19 @@ impl<N: Naming, T: Trail<PoolEntry>> Core<N, T> {
         ensures keeps { OnErr result (T.keeps ≡ true) }
         ensures same { OnErr result (self.new ≡ self.old) }
         ensures unchanged { OnErr result (share.new ≡ share.old) }
+        ensures entered { IfOk result (λ r.
+            IsEntered T.keeps mine.old.me.0 (Some r.1) mine.new.me.0) }
+        ensures unheard { OnErr result (mine.new.me ≡ mine.old.me) }
+        ensures named { mine.new.table_id ≡ N.history }
+        ensures alone { mine.new.me.1 ≡ [] }
     {
-        let Core { pool, trail } = self;
+        let Core { pool, trail, seat } = self;
         if !trail.has_room(false) {
             return Err(Full {});
         }
         let (files, section, answer) = set_limits(pool, share, page_bytes, options);
         pool.law();
-        let asked = note(trail, section, answer);
+        let asked = note(trail, seat, history, mine, section, answer);
         Ok((files, asked))
     }
 }

@@ -1,5 +1,5 @@
 //! Claims of pages and grants of reservations, under the pool's lock.
-ghost use Rattle.std.specs.Prelude.{◌≡◌, ◌+◌, ◌<◌, ◌≤◌, ◌^◌, true, false, IfOk, IfSome, IfNone, OnOk, OnErr};
+ghost use Rattle.std.specs.Prelude.{[], Some, ◌≡◌, ◌+◌, ◌<◌, ◌≤◌, ◌^◌, true, false, IfOk, IfSome, IfNone, OnOk, OnErr};
 ghost use Rattle.std.specs.List.{sum};
 ghost use Rattle.hp_model.specs.declared.section.Section.TheVariants.{TakePage};
 ghost use Rattle.hp_model.specs.pool.Pool.{filled_by, granted_at, no_pages, section};
@@ -7,10 +7,12 @@ ghost use Rattle.hp_mount_door.specs.Door.{IsReady, grant_for, page_for, with_gr
 ghost use Rattle.hp_mount_door.specs.Filling.{fill_for, with_filled};
 ghost use Rattle.hp_subpool.specs.Subpool.{is_full as ShareIsFull, rise, used};
 ghost use Rattle.hp_trail.specs.Keeping.{has_room};
+ghost use Rattle.hp_history.specs.Sections.{IsEntered, IsFree};
 ghost use Rattle.hp_locked.specs.Views.{IsAnswered, IsSection, IsUnasked};
 
 use super::{Core, Full, committed, granted, refused};
 use crate::noting::note;
+use hp_history::{History, Places, Token};
 use hp_model::entry::{Asked, PoolEntry};
 use hp_model::naming::Naming;
 use hp_model::section::{PoolAnswer, Section};
@@ -21,13 +23,18 @@ use hp_pool::Pool;
 use hp_subpool::Subpool;
 use hp_trail::trail::Trail;
 
-impl<N: Naming, T: Trail<PoolEntry>> Core<N, T> {
+impl<N: Naming + Places, T: Trail<PoolEntry>> Core<N, T> {
     /// Takes the claim of a reservation that the share holds. At `Err` the trail is full, and nothing changed.
     pub fn take_page(
         &mut self,
+        history: &History<N>,
+        mine: &mut Token,
         share: &mut Subpool<N>,
         home: usize,
     ) -> Result<(Claim<N>, Asked), Full>
+        requires named { mine.old.table_id ≡ N.history }
+        requires free { IsFree mine.old.me.0 }
+        requires alone { mine.old.me.1 ≡ [] }
         requires held { 0 < share.old.held }
         ensures section { IfOk result (λ r. IsSection self.old self.new r.1) }
         ensures asks { IfOk result (λ r. r.1.section ≡ TakePage home) }
@@ -38,8 +45,13 @@ impl<N: Naming, T: Trail<PoolEntry>> Core<N, T> {
         ensures keeps { OnErr result (T.keeps ≡ true) }
         ensures same { OnErr result (self.new ≡ self.old) }
         ensures unchanged { OnErr result (share.new ≡ share.old) }
+        ensures entered { IfOk result (λ r.
+            IsEntered T.keeps mine.old.me.0 (Some r.1) mine.new.me.0) }
+        ensures unheard { OnErr result (mine.new.me ≡ mine.old.me) }
+        ensures named { mine.new.table_id ≡ N.history }
+        ensures alone { mine.new.me.1 ≡ [] }
     {
-        let Core { pool, trail } = self;
+        let Core { pool, trail, seat } = self;
         if !trail.has_room(false) {
             return Err(Full {});
         }
@@ -47,17 +59,22 @@ impl<N: Naming, T: Trail<PoolEntry>> Core<N, T> {
         pool.law();
         let answer = granted(claim.node() as u64);
         let section = Section::TakePage { home: home as u64 };
-        Ok((claim, note(trail, section, answer)))
+        Ok((claim, note(trail, seat, history, mine, section, answer)))
     }
 
     /// Reserves k pages more for the share: the section with its answer, where there is one. At `Err` the trail is full,
     /// and nothing changed.
     pub fn get(
         &mut self,
+        history: &History<N>,
+        mine: &mut Token,
         share: &mut Subpool<N>,
         home: usize,
         k: u64,
     ) -> Result<Option<Asked>, Full>
+        requires named { mine.old.table_id ≡ N.history }
+        requires free { IsFree mine.old.me.0 }
+        requires alone { mine.old.me.1 ≡ [] }
         requires within { ShareIsFull share.old k ≡ false }
         requires few { used share.old + k < 2 ^ 64 }
         ensures none { IfOk result (λ t. IfNone t (IsUnasked k self.old self.new share.old
@@ -72,8 +89,13 @@ impl<N: Naming, T: Trail<PoolEntry>> Core<N, T> {
         ensures asking { OnErr result (0 < rise share.old k) }
         ensures same { OnErr result (self.new ≡ self.old) }
         ensures unchanged { OnErr result (share.new ≡ share.old) }
+        ensures entered { IfOk result (λ r.
+            IsEntered T.keeps mine.old.me.0 r mine.new.me.0) }
+        ensures unheard { OnErr result (mine.new.me ≡ mine.old.me) }
+        ensures named { mine.new.table_id ≡ N.history }
+        ensures alone { mine.new.me.1 ≡ [] }
     {
-        let Core { pool, trail } = self;
+        let Core { pool, trail, seat } = self;
         let pages = asked_for(share, k);
         if pages == 0 {
             covered(pool, share, home, k);
@@ -88,16 +110,21 @@ impl<N: Naming, T: Trail<PoolEntry>> Core<N, T> {
         };
         let answer = reserved(pool, share, home, k);
         pool.law();
-        Ok(Some(note(trail, section, answer)))
+        Ok(Some(note(trail, seat, history, mine, section, answer)))
     }
 
     /// A page more for the share, by a grant of one: its claim, where it was granted, and the section. At `Err` the trail is
     /// full, and nothing changed.
     pub fn get_page(
         &mut self,
+        history: &History<N>,
+        mine: &mut Token,
         share: &mut Subpool<N>,
         home: usize,
     ) -> Result<(Option<Claim<N>>, Asked), Full>
+        requires named { mine.old.table_id ≡ N.history }
+        requires free { IsFree mine.old.me.0 }
+        requires alone { mine.old.me.1 ≡ [] }
         requires within { ShareIsFull share.old 1 ≡ false }
         requires few { used share.old + 1 < 2 ^ 64 }
         ensures section { IfOk result (λ r. IsSection self.old self.new r.1) }
@@ -111,8 +138,13 @@ impl<N: Naming, T: Trail<PoolEntry>> Core<N, T> {
         ensures keeps { OnErr result (T.keeps ≡ true) }
         ensures same { OnErr result (self.new ≡ self.old) }
         ensures unchanged { OnErr result (share.new ≡ share.old) }
+        ensures entered { IfOk result (λ r.
+            IsEntered T.keeps mine.old.me.0 (Some r.1) mine.new.me.0) }
+        ensures unheard { OnErr result (mine.new.me ≡ mine.old.me) }
+        ensures named { mine.new.table_id ≡ N.history }
+        ensures alone { mine.new.me.1 ≡ [] }
     {
-        let Core { pool, trail } = self;
+        let Core { pool, trail, seat } = self;
         if !trail.has_room(false) {
             return Err(Full {});
         }
@@ -122,7 +154,7 @@ impl<N: Naming, T: Trail<PoolEntry>> Core<N, T> {
         };
         let (claim, answer) = paged(pool, share, home);
         pool.law();
-        let asked = note(trail, section, answer);
+        let asked = note(trail, seat, history, mine, section, answer);
         Ok((claim, asked))
     }
 
@@ -130,10 +162,15 @@ impl<N: Naming, T: Trail<PoolEntry>> Core<N, T> {
     /// and the section. At `Err` the trail is full, and nothing changed.
     pub fn fill(
         &mut self,
+        history: &History<N>,
+        mine: &mut Token,
         share: &mut Subpool<N>,
         k: u64,
         count: u64,
     ) -> Result<(Option<Parcel<N>>, Asked), Full>
+        requires named { mine.old.table_id ≡ N.history }
+        requires free { IsFree mine.old.me.0 }
+        requires alone { mine.old.me.1 ≡ [] }
         requires within { ShareIsFull share.old k ≡ false }
         requires few { used share.old + k < 2 ^ 64 }
         requires held { count ≤ share.old.held + k }
@@ -148,8 +185,13 @@ impl<N: Naming, T: Trail<PoolEntry>> Core<N, T> {
         ensures keeps { OnErr result (T.keeps ≡ true) }
         ensures same { OnErr result (self.new ≡ self.old) }
         ensures unchanged { OnErr result (share.new ≡ share.old) }
+        ensures entered { IfOk result (λ r.
+            IsEntered T.keeps mine.old.me.0 (Some r.1) mine.new.me.0) }
+        ensures unheard { OnErr result (mine.new.me ≡ mine.old.me) }
+        ensures named { mine.new.table_id ≡ N.history }
+        ensures alone { mine.new.me.1 ≡ [] }
     {
-        let Core { pool, trail } = self;
+        let Core { pool, trail, seat } = self;
         if !trail.has_room(false) {
             return Err(Full {});
         }
@@ -159,7 +201,7 @@ impl<N: Naming, T: Trail<PoolEntry>> Core<N, T> {
         };
         let (parcel, answer) = filled(pool, share, k, count);
         pool.law();
-        let asked = note(trail, section, answer);
+        let asked = note(trail, seat, history, mine, section, answer);
         Ok((parcel, asked))
     }
 }

@@ -1,5 +1,5 @@
-//! Events of a session, each with its receipt.
-ghost use Rattle.std.specs.Prelude.{◌≡◌, ◌≢◌, ◌<◌, ◌≤◌, ◌==◌, Err, ℕ, true, false, length, IfOk, IfErr};
+//! Events of a session.
+ghost use Rattle.std.specs.Prelude.{◌≡◌, ◌<◌, ◌≤◌, ◌==◌, Err, ℕ, true, false, length, IfOk, IfErr};
 ghost use Rattle.std.specs.Bool.{MatchBool};
 ghost use Rattle.hp_laws.specs.Answers.{lists_names};
 ghost use Rattle.hp_model.specs.declared.event.Event.TheVariants.{Tasks as OnTasks, Slot as OnSlot, Pool as OnPool};
@@ -8,7 +8,6 @@ ghost use Rattle.hp_model.specs.machine.Step.{Script, exit_slot, finding, on_slo
 ghost use Rattle.hp_model.specs.beside.Told.{told_answer, told_reply};
 ghost use Rattle.hp_model.specs.text.Writing.{IsWithinLimits};
 ghost use Rattle.hp_model.specs.Profile.{most_bytes};
-ghost use Rattle.hp_events.specs.Event.{event_of, shows_bytes};
 ghost use Rattle.hp_parts.specs.SlotWork.{AreCopiesFor, asked_event, is_of_maps, needs_room};
 ghost use Rattle.hp_parts.specs.Replies.{table_reply};
 ghost use Rattle.hp_sessions.specs.Calls.{Carries, Grows, HasReceiptRoom, IsMade, Leads};
@@ -16,7 +15,6 @@ ghost use Rattle.hp_sessions.specs.Forks.{IsForked};
 ghost use Rattle.hp_parts.specs.Fitting.{HasAnswerOf};
 
 use super::Session;
-use hp_events::MountEvent;
 use hp_events::copies::Copies;
 use hp_model::event::{PoolEvent, TableEvent};
 use hp_model::refusal::Refusal;
@@ -25,18 +23,14 @@ use hp_parts::{Parts, SlotWork, TableTold};
 
 impl<P: Parts> Session<P> {
     // An event of the task table.
+    #[inline(always)]
     pub(super) fn make_table(&mut self, event: TableEvent) -> TableTold
         requires { HasReceiptRoom P.keeps 1 self.old }
         ensures made { IsMade P.keeps P.page self.old (OnTasks event) (table_reply result)
             self.new }
         ensures grows { Grows 1 self.old self.new }
     {
-        if !self.parts.is_kept() {
-            return self.parts.table_unnoted(event);
-        }
-        let (told, receipt) = self.parts.table(event);
-        self.add(receipt);
-        told
+        self.parts.table(event)
     }
 
     // An event of the pool alone.
@@ -47,16 +41,11 @@ impl<P: Parts> Session<P> {
             self.new }
         ensures limits { IsWithinLimits (told_reply result) }
     {
-        if !self.parts.is_kept() {
-            return self.parts.pool_unnoted(event);
-        }
-        let (told, receipt) = self.parts.pool(event);
-        self.add(receipt);
-        told
+        self.parts.pool(event)
     }
 
     // The home of a task; or why it isn't there, which is then the step's reply.
-    #[inline(never)]
+    #[inline(always)]
     pub(super) fn find(&mut self, task: u64) -> Result<u64, Refusal>
         requires { HasReceiptRoom P.keeps 1 self.old }
         ensures found { IfOk result (λ home. (f : ℕ → Script) →
@@ -72,25 +61,8 @@ impl<P: Parts> Session<P> {
         }
     }
 
-    // The same where no entries are kept.
-    #[inline(always)]
-    pub(super) fn find_unnoted(&mut self, task: u64) -> Result<u64, Refusal>
-        requires { P.keeps ≡ false }
-        ensures found { IfOk result (λ home. (f : ℕ → Script) →
-            Leads P.keeps P.page self.old (finding task f) self.new (f home)) }
-        ensures refused { IfErr result (λ refusal. (f : ℕ → Script) →
-            Carries P.keeps P.page self.old (finding task f) (Err refusal) self.new) }
-        ensures same { self.new ≡ self.old }
-    {
-        match self.parts.table_unnoted(TableEvent::Find { task }) {
-            TableTold::Home(home) => Ok(home),
-            TableTold::Refused(refusal) => Err(refusal),
-            TableTold::Done => unreachable!(),
-        }
-    }
-
     // What is asked of a slot, if there is one of that number.
-    #[inline(never)]
+    #[inline(always)]
     pub(super) fn make_slot<'b>(
         &mut self,
         slot: u64,
@@ -114,37 +86,7 @@ impl<P: Parts> Session<P> {
         if at >= self.parts.count() {
             return Err(Refusal::NoSuchSlot);
         }
-        let Some((told, receipt)) = self.parts.slot(at, work, copies, room) else {
-            unreachable!()
-        };
-        self.add(receipt);
-        told
-    }
-
-    // The same where no entries are kept.
-    #[inline(always)]
-    pub(super) fn make_slot_unnoted<'b>(
-        &mut self,
-        slot: u64,
-        home: u64,
-        event: MountEvent<'_>,
-        room: &'b mut [u8],
-    ) -> Result<Told<'b>, Refusal>
-        requires unkept { P.keeps ≡ false }
-        requires room { shows_bytes event ≡ true → most_bytes ≤ length room.old }
-        requires apart { lists_names (event_of home event) ≡ false }
-        ensures carried { Carries P.keeps P.page self.old
-            (on_slot self.old.slots slot (event_of home event.entry))
-            (told_reply result) self.new }
-        ensures limits { IsWithinLimits (told_reply result) }
-        ensures answer { IfOk result (λ told.
-            HasAnswerOf (event_of home event.entry) (told_answer told)) }
-    {
-        let at = slot as usize;
-        if at >= self.parts.count() {
-            return Err(Refusal::NoSuchSlot);
-        }
-        self.parts.slot_unnoted(at, home, event, room)
+        self.parts.slot(at, work, copies, room)
     }
 
     // The names of a slot's files.
@@ -158,9 +100,7 @@ impl<P: Parts> Session<P> {
         if at >= self.parts.count() {
             return Err(Refusal::NoSuchSlot);
         }
-        let (names, receipt) = self.parts.names(at);
-        self.add(receipt);
-        match names {
+        match self.parts.names(at) {
             Ok(names) => Ok(Told::Names(names)),
             Err(refusal) => Err(refusal),
         }
@@ -179,14 +119,10 @@ impl<P: Parts> Session<P> {
             (Err refusal) self.new) }
         ensures grows { Grows 1 self.old self.new }
     {
-        let work = SlotWork::Fork { parent, child };
-        let Some((told, receipt)) = self.parts.slot(at, work, None, &mut []) else {
-            return Ok(false);
-        };
-        self.add(receipt);
-        match told {
-            Ok(_done) => Ok(true),
-            Err(refusal) => Err(refusal),
+        match self.parts.fork_maps(at, parent, child) {
+            Some(Ok(())) => Ok(true),
+            Some(Err(refusal)) => Err(refusal),
+            None => Ok(false),
         }
     }
 
@@ -198,9 +134,6 @@ impl<P: Parts> Session<P> {
             (exit_slot at task next) self.new next }
         ensures grows { Grows 1 self.old self.new }
     {
-        let work = SlotWork::Exit { task };
-        if let Some((_done, receipt)) = self.parts.slot(at, work, None, &mut []) {
-            self.add(receipt);
-        }
+        let _any = self.parts.exit_maps(at, task);
     }
 }

@@ -30,12 +30,12 @@ impl<P: Parts> Session<P> {
 
     // Does the first loads and stores of a queue, as many as their slot takes at once.
     #[inline(always)]
-    fn do_together(&self, queue: &mut [Queued], room: &mut [u8]) -> usize
+    fn do_together(&mut self, queue: &mut [Queued], room: &mut [u8]) -> usize
         requires some { 0 < length queue.old }
         requires room { most_bytes ≤ length room.old }
         ensures few { result ≤ length queue.old }
         ensures done { DoesAll (λ s step reply t. IsCallAnswered P.keeps P.page s step reply t)
-            self.now (take result queue.old) (take result queue.new) self.now }
+            self.old (take result queue.old) (take result queue.new) self.new }
         ensures left { drop result queue.new ≡ drop result queue.old }
     {
         let at = queue[0].access().slot as usize;

@@ -10,7 +10,7 @@ ghost use Rattle.hp_model.specs.Profile.{most_bytes};
 ghost use Rattle.hp_events.specs.Event.{event_of, shows_bytes};
 ghost use Rattle.hp_parts.specs.SlotWork.{AreCopiesFor, asked_event, carries, is_of_maps, needs_room};
 ghost use Rattle.hp_parts.specs.Replies.{table_reply};
-ghost use Rattle.hp_events.specs.declared.work.Work.TheVariants.{OfTask as OfATask, OnSlot as OnASlot};
+ghost use Rattle.hp_events.specs.declared.work.Work.TheVariants.{Attach as AttachATask, OfTask as OfATask, OnSlot as OnASlot, Pool as ThePool};
 ghost use Rattle.hp_sessions.specs.Calls.{HasReceiptRoom, IsCallAnswered};
 ghost use Rattle.hp_events.specs.Works.{ListsByNamesAlone};
 ghost use Rattle.hp_parts.specs.Fitting.{HasAnswerOf};
@@ -32,7 +32,7 @@ use std::alloc::AllocError;
 impl<P: Parts> Session<P> {
     /// Answers a step, or leaves everything as it was and says why; a fork that is refused is undone.
     ///
-    /// Where the machine keeps entries, a receipt of each of the step's events is added, in their order. It is answered
+    /// A receipt of each of the step's events is added, in their order. Where the machine keeps entries, it is answered
     /// TraceFull before the first event where there is no room for the most receipts that the step can bring, and later where a
     /// trail has no place for one; and OutOfMemory before the first where there is no room for a copy of its name, options or
     /// bytes.
@@ -59,13 +59,12 @@ impl<P: Parts> Session<P> {
             self.new }
         ensures limits { IsWithinLimits (told_reply reply.new) }
     {
-        if self.parts.is_kept() {
-            *reply = self.do_step(step, room);
-            return;
-        }
         match step {
             Step::Attach { task } => {
-                *reply = table_told(self.make_table(TableEvent::Find { task: *task }));
+                *reply = self.attach(*task);
+            }
+            Step::Meminfo => {
+                *reply = self.of_pool(PoolEvent::Meminfo);
             }
             Step::Fault {
                 task,
@@ -80,13 +79,13 @@ impl<P: Parts> Session<P> {
                     index: *index,
                     intent: *intent,
                 };
-                *reply = self.of_task_unnoted(*task, *slot, event, room);
+                *reply = self.of_task(*task, *slot, event, room);
             }
             Step::Stat { slot, name } => {
                 let event = MountEvent::Stat {
                     name: name.as_slice(),
                 };
-                *reply = self.on_slot_unnoted(*slot, event, room);
+                *reply = self.of_mount(*slot, event, room);
             }
             _ => {
                 *reply = self.do_step(step, room);
@@ -103,45 +102,6 @@ impl<P: Parts> Session<P> {
             self.new }
         ensures limits { IsWithinLimits (told_reply result) }
     {
-        if let Step::Attach { task } = step
-            && !self.parts.is_kept()
-        {
-            return table_told(self.make_table(TableEvent::Find { task: *task }));
-        }
-        if let Step::Meminfo = step
-            && !self.parts.is_kept()
-        {
-            return self.make_pool(PoolEvent::Meminfo);
-        }
-        if let Step::Nodes = step
-            && !self.parts.is_kept()
-        {
-            return self.make_pool(PoolEvent::Nodes);
-        }
-        if let Step::Fault {
-            task,
-            slot,
-            map,
-            index,
-            intent,
-        } = step
-        {
-            let event = MountEvent::Fault {
-                task: *task,
-                map: *map,
-                index: *index,
-                intent: *intent,
-            };
-            return self.of_task(*task, *slot, event, room);
-        }
-        if let Step::Stat { slot, name } = step
-            && !self.parts.is_kept()
-        {
-            let event = MountEvent::Stat {
-                name: name.as_slice(),
-            };
-            return self.on_slot_unnoted(*slot, event, room);
-        }
         let work = work_of(step);
         self.do_work(&work, room)
     }
@@ -195,14 +155,6 @@ impl<P: Parts> Session<P> {
             self.new }
         ensures limits { IsWithinLimits (told_reply result) }
     {
-        if let Work::OfTask { task, slot, event } = *work {
-            return self.of_task(task, slot, event, room);
-        }
-        if let Work::OnSlot { slot, event } = *work
-            && !self.parts.is_kept()
-        {
-            return self.on_slot_unnoted(slot, event, room);
-        }
         if self.lacks(most_receipts(self.parts.count(), work)) {
             return Err(Refusal::TraceFull);
         }
@@ -210,7 +162,7 @@ impl<P: Parts> Session<P> {
             Work::Connect { task, home } => {
                 table_told(self.make_table(TableEvent::Add { task, home }))
             }
-            Work::Attach { task } => table_told(self.make_table(TableEvent::Find { task })),
+            Work::Attach { task } => self.attach(task),
             Work::Pool(event) => self.make_pool(event),
             Work::Fork { parent, child } => Told::done(self.fork(parent, child)),
             Work::Exit { task } => Told::done(self.exit(task)),
@@ -220,14 +172,58 @@ impl<P: Parts> Session<P> {
             }
             Work::Umount { slot } => self.on_slot(slot, SlotWork::Umount, room),
             Work::Names { slot } => self.make_names(slot),
-            Work::OnSlot { slot, event } => {
-                self.on_slot(slot, SlotWork::OfMount { home: 0, event }, room)
-            }
-            Work::OfTask { .. } => unreachable!(),
+            Work::OnSlot { slot, event } => self.of_mount(slot, event, room),
+            Work::OfTask { task, slot, event } => self.of_task(task, slot, event, room),
         }
     }
 
+    // Looks a task up.
+    fn attach(&mut self, task: u64) -> Result<Told<'static>, Refusal>
+        ensures worked { IsWorked P.keeps P.page self.old (AttachATask task)
+            (told_reply result) self.new }
+        ensures limits { IsWithinLimits (told_reply result) }
+    {
+        if self.lacks(1) {
+            return Err(Refusal::TraceFull);
+        }
+        table_told(self.make_table(TableEvent::Find { task }))
+    }
+
+    // An event of the pool alone.
+    #[inline(never)]
+    fn of_pool(&mut self, event: PoolEvent) -> Result<Told<'static>, Refusal>
+        ensures worked { IsWorked P.keeps P.page self.old (ThePool event) (told_reply result)
+            self.new }
+        ensures limits { IsWithinLimits (told_reply result) }
+    {
+        if self.lacks(1) {
+            return Err(Refusal::TraceFull);
+        }
+        self.make_pool(event)
+    }
+
+    // An event of a mount.
+    #[inline(always)]
+    fn of_mount<'b>(
+        &mut self,
+        slot: u64,
+        event: MountEvent<'_>,
+        room: &'b mut [u8],
+    ) -> Result<Told<'b>, Refusal>
+        requires room { shows_bytes event ≡ true → most_bytes ≤ length room.old }
+        requires apart { lists_names (event_of 0 event) ≡ false }
+        ensures worked { IsWorked P.keeps P.page self.old (OnASlot slot event.entry)
+            (told_reply result) self.new }
+        ensures limits { IsWithinLimits (told_reply result) }
+    {
+        if self.lacks(1) {
+            return Err(Refusal::TraceFull);
+        }
+        self.on_slot(slot, SlotWork::OfMount { home: 0, event }, room)
+    }
+
     // What is asked of a slot without a task being looked up.
+    #[inline(always)]
     fn on_slot<'b>(
         &mut self,
         slot: u64,
@@ -265,9 +261,6 @@ impl<P: Parts> Session<P> {
         ensures answer { IfOk result (λ told.
             HasAnswerOf (event_of 0 event.entry) (told_answer told)) }
     {
-        if !self.parts.is_kept() {
-            return self.of_task_unnoted(task, slot, event, room);
-        }
         if self.lacks(2) {
             return Err(Refusal::TraceFull);
         }
@@ -280,48 +273,6 @@ impl<P: Parts> Session<P> {
         }
     }
 
-    // An event of a mount where no entries are kept.
-    #[inline(always)]
-    fn on_slot_unnoted<'b>(
-        &mut self,
-        slot: u64,
-        event: MountEvent<'_>,
-        room: &'b mut [u8],
-    ) -> Result<Told<'b>, Refusal>
-        requires unkept { P.keeps ≡ false }
-        requires room { shows_bytes event ≡ true → most_bytes ≤ length room.old }
-        requires apart { lists_names (event_of 0 event) ≡ false }
-        ensures worked { IsWorked P.keeps P.page self.old (OnASlot slot event.entry)
-            (told_reply result) self.new }
-        ensures limits { IsWithinLimits (told_reply result) }
-    {
-        self.make_slot_unnoted(slot, 0, event, room)
-    }
-
-    // An event of a mount for a task, where no entries are kept: nothing is copied, and there is no receipt to move.
-    #[inline(always)]
-    fn of_task_unnoted<'b>(
-        &mut self,
-        task: u64,
-        slot: u64,
-        event: MountEvent<'_>,
-        room: &'b mut [u8],
-    ) -> Result<Told<'b>, Refusal>
-        requires unkept { P.keeps ≡ false }
-        requires room { shows_bytes event ≡ true → most_bytes ≤ length room.old }
-        requires apart { lists_names (event_of 0 event) ≡ false }
-        ensures worked { IsWorked P.keeps P.page self.old (OfATask task slot event.entry)
-            (told_reply result) self.new }
-        ensures limits { IsWithinLimits (told_reply result) }
-        ensures answer { IfOk result (λ told.
-            HasAnswerOf (event_of 0 event.entry) (told_answer told)) }
-    {
-        match self.find_unnoted(task) {
-            Ok(home) => self.make_slot_unnoted(slot, home, event, room),
-            Err(refusal) => Err(refusal),
-        }
-    }
-
     // Whether there is no room for so many receipts, where they are kept.
     #[inline(always)]
     fn lacks(&self, receipts: usize) -> bool
@@ -329,7 +280,7 @@ impl<P: Parts> Session<P> {
             ((P.keeps ≡ true) × (self.now.room < length self.now.receipts + receipts))
             (HasReceiptRoom P.keeps receipts self.now) }
     {
-        self.parts.is_kept() && self.left() < receipts
+        self.parts.is_kept() && self.parts.left() < receipts
     }
 
     // Copies of what is carried, where entries are kept.

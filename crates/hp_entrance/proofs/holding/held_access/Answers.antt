@@ -1,16 +1,14 @@
-use Rattle.std.proofs.Common.{◌≡◌, ◌==◌, None, sym, subst, ap, ◌∙◌}
+use Rattle.std.proofs.Common.{◌≡◌, ◌==◌, ℕ, sym, subst, ap, ◌∙◌}
 use Rattle.hp_model.specs.beside.Accesses.{load_step, store_step}
 use Rattle.hp_model.specs.beside.Told.{told_reply}
+use Rattle.hp_model.specs.declared.event.Event.TheVariants.{Slot as OnSlot}
+use Rattle.hp_model.specs.declared.event.SlotEvent.{SlotEvent}
 use Rattle.hp_model.specs.declared.event.SlotEvent.TheVariants as slot
 use Rattle.hp_model.specs.declared.service.Access.{Access}
 use Rattle.hp_model.specs.declared.step.Step.{Step}
 use Rattle.hp_model.specs.machine.Plan.{Reply}
-use Rattle.hp_model.specs.declared.event.Event.TheVariants.{Tasks as OnTasks}
-use Rattle.hp_model.specs.declared.event.TableEvent.TheVariants.{Find}
 use Rattle.hp_parts.specs.Answered.{IsHanded}
 use Rattle.hp_parts.specs.Queues.{IsAccessHanded}
-use Rattle.hp_parts.specs.Replies.{table_reply}
-use Rattle.hp_parts.specs.declared.table_told.TableTold.{TableTold}
 use Rattle.hp_parts.proofs.Fitting.{fits_result}
 use Rattle.hp_entrance.proofs.Held.{found_handed}
 use Rattle.hp_entrance.proofs.holding.held_access.Goals as goal
@@ -18,14 +16,14 @@ use Rattle.hp_entrance.proofs.holding.held_access.Goals as goal
 pub into_bytes-requires-clause-bytes : goal.into_bytes-requires-clause-bytes
 into_bytes-requires-clause-bytes g c =
     let a = c.access-access.result.now in
-    fits_result (g.row.K == 1) g.N.Naming.page_bytes c.args.at (slot.Load a.task c.in-Some-Home.home a.map a.index a.offset c.in-Load.count) c.held_event-told.result.0 None
-    c.held_event-told.ensures.handed
+    fits_result (g.row.K == 1) g.N.Naming.page_bytes c.args.slot.now.slot.number (slot.Load a.task c.in_ok-home.home a.map a.index a.offset c.in-Load.count) c.unnoted-told.result.0
+    c.look.new.self.receipts c.unnoted-told.new.self.receipts c.unnoted-told.ensures.handed
 
 pub into_done-requires : goal.into_done-requires
 into_done-requires g c =
     let a = c.access-access.result.now in
-    fits_result (g.row.K == 1) g.N.Naming.page_bytes c.args.at (slot.Store a.task c.in-Some-Home.home a.map a.index a.offset c.in-Store.bytes.now) c.held_event-told-in-Store.result.0 None
-    c.held_event-told-in-Store.ensures.handed
+    fits_result (g.row.K == 1) g.N.Naming.page_bytes c.args.slot.now.slot.number (slot.Store a.task c.in_ok-home.home a.map a.index a.offset c.in-Store.bytes.now)
+    c.unnoted-told-in-Store.result.0 c.look.new.self.receipts c.unnoted-told-in-Store.new.self.receipts c.unnoted-told-in-Store.ensures.handed
 
 pub returns-in-Load-clause-done : goal.returns-in-Load-clause-done
 returns-in-Load-clause-done g c =
@@ -33,16 +31,18 @@ returns-in-Load-clause-done g c =
     let at = c.args.at in
     let a = c.access-access.result.now in
     let count = c.in-Load.count in
-    let told = told_reply c.held_event-told.result.0 in
-    let found = subst (λ (x : TableTold). IsHanded (g.row.K == 1) size (OnTasks (Find a.task)) (table_reply x) None) c.in-Some-Home.field-0-is
-    (c.in-Some-Home.ensures size) in
+    let told = told_reply c.unnoted-told.result.0 in
+    let was = c.args.member.now.receipts in
+    let mid = c.look.new.self.receipts in
+    let now = c.unnoted-told.new.self.receipts in
+    let event : ℕ → SlotEvent = λ home. slot.Load a.task home a.map a.index a.offset count in
     let step : load_step a count ≡ c.args.queued.now.step = ap (λ (x : Access). load_step x count) c.access-access.ensures ∙ c.in-Load.ensures in
     let reply : c.answer_load.new.self.reply ≡ told = c.answer_load.ensures.reply ∙ c.into_bytes.ensures.reply in
-    subst (λ (s : Step). IsAccessHanded size at s c.answer_load.new.self.reply) step
-    (subst (λ (r : Reply). IsAccessHanded size at (load_step a count) r) (sym reply) (
+    subst (λ (s : Step). IsAccessHanded size at s c.answer_load.new.self.reply was now) step
+    (subst (λ (r : Reply). IsAccessHanded size at (load_step a count) r was now) (sym reply) (
       c.if-access-at.false,
-      found_handed (g.row.K == 1) size at a.task c.in-Some-Home.home (λ home. slot.Load a.task home a.map a.index a.offset count) told c.requires.unkept
-          found c.held_event-told.ensures.handed,
+      found_handed (g.row.K == 1) size at a.task c.in_ok-home.home event told was mid now c.requires.unkept (c.in_ok-home.ensures.found size)
+          (subst (λ (n : ℕ). IsHanded (g.row.K == 1) size (OnSlot n (event c.in_ok-home.home)) told mid now) c.requires.number c.unnoted-told.ensures.handed),
     ))
 
 pub returns-in-Store-clause-done : goal.returns-in-Store-clause-done
@@ -51,14 +51,16 @@ returns-in-Store-clause-done g c =
     let at = c.args.at in
     let a = c.access-access.result.now in
     let bytes = c.in-Store.bytes.now in
-    let told = told_reply c.held_event-told-in-Store.result.0 in
-    let found = subst (λ (x : TableTold). IsHanded (g.row.K == 1) size (OnTasks (Find a.task)) (table_reply x) None) c.in-Some-Home.field-0-is
-    (c.in-Some-Home.ensures size) in
+    let told = told_reply c.unnoted-told-in-Store.result.0 in
+    let was = c.args.member.now.receipts in
+    let mid = c.look.new.self.receipts in
+    let now = c.unnoted-told-in-Store.new.self.receipts in
+    let event : ℕ → SlotEvent = λ home. slot.Store a.task home a.map a.index a.offset bytes in
     let step : store_step a bytes ≡ c.args.queued.now.step = ap (λ (x : Access). store_step x bytes) c.access-access.ensures ∙ c.in-Store.ensures in
     let reply : c.answer_store.new.self.reply ≡ told = c.answer_store.ensures.reply ∙ c.into_done.ensures in
-    subst (λ (s : Step). IsAccessHanded size at s c.answer_store.new.self.reply) step
-    (subst (λ (r : Reply). IsAccessHanded size at (store_step a bytes) r) (sym reply) (
+    subst (λ (s : Step). IsAccessHanded size at s c.answer_store.new.self.reply was now) step
+    (subst (λ (r : Reply). IsAccessHanded size at (store_step a bytes) r was now) (sym reply) (
       c.if-access-at.false,
-      found_handed (g.row.K == 1) size at a.task c.in-Some-Home.home (λ home. slot.Store a.task home a.map a.index a.offset bytes) told c.requires.unkept
-          found c.held_event-told-in-Store.ensures.handed,
+      found_handed (g.row.K == 1) size at a.task c.in_ok-home.home event told was mid now c.requires.unkept (c.in_ok-home.ensures.found size)
+          (subst (λ (n : ℕ). IsHanded (g.row.K == 1) size (OnSlot n (event c.in_ok-home.home)) told mid now) c.requires.number c.unnoted-told-in-Store.ensures.handed),
     ))

@@ -4,7 +4,8 @@ use Rattle.hp_entrance.proofs.holding.held_accesses.Given as goal
 
 abbrev pub invariant-loop-done : goal.invariant-loop-done
 invariant-loop-done g l = record {
-  handed : AreAccessesHanded g.N.Naming.page_bytes l.at (take l.done l.fn.queue) (take l.done l.queue);
+  handed : AreAccessesHanded g.N.Naming.page_bytes l.at (take l.done l.fn.queue) (take l.done l.queue) l.fn.member.receipts l.member.receipts;
   left : drop l.done l.queue ≡ drop l.done l.fn.queue;
-  number : l.slot.number ≡ l.at;
+  number : l.slot.slot.number ≡ l.at;
+  room : l.member.room ≡ l.fn.member.room;
 }

@@ -4,5 +4,5 @@ use Rattle.hp_server_tests.proofs.full.full_trails_refuse_all_but_what_gives_bac
 abbrev pub ghosts-row-N-Naming : goal.ghosts-row-N-Naming
 ghosts-row-N-Naming g a = names_of a.blanks 1024
 
-abbrev pub ghosts-row-N-Noted : goal.ghosts-row-N-Noted
-ghosts-row-N-Noted g a = record { words = a.words.words.shared.table_id }
+abbrev pub ghosts-row-N-Places : goal.ghosts-row-N-Places
+ghosts-row-N-Places g a = record { history = a.history.table.shared.table_id; shape = a.history.shape }

@@ -4,5 +4,5 @@ use Rattle.hp_server_tests.proofs.lines.a_fork_and_an_exit_pass_all_slots.Given 
 abbrev pub ghosts-closed-N-Naming : goal.ghosts-closed-N-Naming
 ghosts-closed-N-Naming g a = names_of a.blanks 1024
 
-abbrev pub ghosts-closed-N-Noted : goal.ghosts-closed-N-Noted
-ghosts-closed-N-Noted g a = record { words = a.words.words.shared.table_id }
+abbrev pub ghosts-closed-N-Places : goal.ghosts-closed-N-Places
+ghosts-closed-N-Places g a = record { history = a.history.table.shared.table_id; shape = a.history.shape }

@@ -4,5 +4,5 @@ use Rattle.hp_server_tests.proofs.lines.a_full_room_refuses_before_the_first_eve
 abbrev pub ghosts-full_room-N-Naming : goal.ghosts-full_room-N-Naming
 ghosts-full_room-N-Naming g a = names_of a.blanks 1024
 
-abbrev pub ghosts-full_room-N-Noted : goal.ghosts-full_room-N-Noted
-ghosts-full_room-N-Noted g a = record { words = a.words.words.shared.table_id }
+abbrev pub ghosts-full_room-N-Places : goal.ghosts-full_room-N-Places
+ghosts-full_room-N-Places g a = record { history = a.history.table.shared.table_id; shape = a.history.shape }

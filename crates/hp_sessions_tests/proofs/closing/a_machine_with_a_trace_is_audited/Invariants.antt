@@ -4,5 +4,5 @@ use Rattle.hp_sessions_tests.proofs.closing.a_machine_with_a_trace_is_audited.Gi
 abbrev pub ghosts-closes_traced-N-Naming : goal.ghosts-closes_traced-N-Naming
 ghosts-closes_traced-N-Naming g a = names_of a.blanks 1024
 
-abbrev pub ghosts-closes_traced-N-Noted : goal.ghosts-closes_traced-N-Noted
-ghosts-closes_traced-N-Noted g a = record { words = a.words.words.shared.table_id }
+abbrev pub ghosts-closes_traced-N-Places : goal.ghosts-closes_traced-N-Places
+ghosts-closes_traced-N-Places g a = record { history = a.history.table.shared.table_id; shape = a.history.shape }

@@ -4,5 +4,5 @@ use Rattle.hp_sessions_tests.proofs.closing.a_machine_without_a_trace_has_no_aud
 abbrev pub ghosts-closes_untraced-N-Naming : goal.ghosts-closes_untraced-N-Naming
 ghosts-closes_untraced-N-Naming g a = names_of a.blanks 1024
 
-abbrev pub ghosts-closes_untraced-N-Noted : goal.ghosts-closes_untraced-N-Noted
-ghosts-closes_untraced-N-Noted g a = record { words = a.words.words.shared.table_id }
+abbrev pub ghosts-closes_untraced-N-Places : goal.ghosts-closes_untraced-N-Places
+ghosts-closes_untraced-N-Places g a = record { history = a.history.table.shared.table_id; shape = a.history.shape }

@@ -4,5 +4,5 @@ use Rattle.hp_sessions_tests.proofs.closing.a_trace_has_a_trail_for_each_slot.Gi
 abbrev pub ghosts-parts_traced-N-Naming : goal.ghosts-parts_traced-N-Naming
 ghosts-parts_traced-N-Naming g a = names_of a.blanks 1024
 
-abbrev pub ghosts-parts_traced-N-Noted : goal.ghosts-parts_traced-N-Noted
-ghosts-parts_traced-N-Noted g a = record { words = a.words.words.shared.table_id }
+abbrev pub ghosts-parts_traced-N-Places : goal.ghosts-parts_traced-N-Places
+ghosts-parts_traced-N-Places g a = record { history = a.history.table.shared.table_id; shape = a.history.shape }

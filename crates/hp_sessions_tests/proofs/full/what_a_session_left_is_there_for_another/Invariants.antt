@@ -4,5 +4,5 @@ use Rattle.hp_sessions_tests.proofs.full.what_a_session_left_is_there_for_anothe
 abbrev pub ghosts-left-N-Naming : goal.ghosts-left-N-Naming
 ghosts-left-N-Naming g a = names_of a.blanks 1024
 
-abbrev pub ghosts-left-N-Noted : goal.ghosts-left-N-Noted
-ghosts-left-N-Noted g a = record { words = a.words.words.shared.table_id }
+abbrev pub ghosts-left-N-Places : goal.ghosts-left-N-Places
+ghosts-left-N-Places g a = record { history = a.history.table.shared.table_id; shape = a.history.shape }

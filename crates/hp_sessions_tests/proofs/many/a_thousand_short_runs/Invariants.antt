@@ -4,5 +4,5 @@ use Rattle.hp_sessions_tests.proofs.many.a_thousand_short_runs.Given as goal
 abbrev pub ghosts-run-N-Naming : goal.ghosts-run-N-Naming
 ghosts-run-N-Naming g a = names_of a.blanks 1024
 
-abbrev pub ghosts-run-N-Noted : goal.ghosts-run-N-Noted
-ghosts-run-N-Noted g a = record { words = a.words.words.shared.table_id }
+abbrev pub ghosts-run-N-Places : goal.ghosts-run-N-Places
+ghosts-run-N-Places g a = record { history = a.history.table.shared.table_id; shape = a.history.shape }

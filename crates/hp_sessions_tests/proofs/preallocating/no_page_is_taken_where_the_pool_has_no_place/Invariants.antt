@@ -4,5 +4,5 @@ use Rattle.hp_sessions_tests.proofs.preallocating.no_page_is_taken_where_the_poo
 abbrev pub ghosts-pool_full-N-Naming : goal.ghosts-pool_full-N-Naming
 ghosts-pool_full-N-Naming g a = names_of a.blanks 1024
 
-abbrev pub ghosts-pool_full-N-Noted : goal.ghosts-pool_full-N-Noted
-ghosts-pool_full-N-Noted g a = record { words = a.words.words.shared.table_id }
+abbrev pub ghosts-pool_full-N-Places : goal.ghosts-pool_full-N-Places
+ghosts-pool_full-N-Places g a = record { history = a.history.table.shared.table_id; shape = a.history.shape }

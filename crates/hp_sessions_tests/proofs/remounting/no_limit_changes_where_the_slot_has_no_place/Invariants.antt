@@ -4,5 +4,5 @@ use Rattle.hp_sessions_tests.proofs.remounting.no_limit_changes_where_the_slot_h
 abbrev pub ghosts-slot_full-N-Naming : goal.ghosts-slot_full-N-Naming
 ghosts-slot_full-N-Naming g a = names_of a.blanks 1024
 
-abbrev pub ghosts-slot_full-N-Noted : goal.ghosts-slot_full-N-Noted
-ghosts-slot_full-N-Noted g a = record { words = a.words.words.shared.table_id }
+abbrev pub ghosts-slot_full-N-Places : goal.ghosts-slot_full-N-Places
+ghosts-slot_full-N-Places g a = record { history = a.history.table.shared.table_id; shape = a.history.shape }

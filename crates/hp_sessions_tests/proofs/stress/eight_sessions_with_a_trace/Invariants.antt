@@ -4,5 +4,5 @@ use Rattle.hp_sessions_tests.proofs.stress.eight_sessions_with_a_trace.Given as 
 abbrev pub ghosts-run_traced-N-Naming : goal.ghosts-run_traced-N-Naming
 ghosts-run_traced-N-Naming g a = names_of a.blanks 1024
 
-abbrev pub ghosts-run_traced-N-Noted : goal.ghosts-run_traced-N-Noted
-ghosts-run_traced-N-Noted g a = record { words = a.words.words.shared.table_id }
+abbrev pub ghosts-run_traced-N-Places : goal.ghosts-run_traced-N-Places
+ghosts-run_traced-N-Places g a = record { history = a.history.table.shared.table_id; shape = a.history.shape }

@@ -4,5 +4,5 @@ use Rattle.hp_sessions_tests.proofs.stress.eight_sessions_without_a_trace.Given 
 abbrev pub ghosts-run_untraced-N-Naming : goal.ghosts-run_untraced-N-Naming
 ghosts-run_untraced-N-Naming g a = names_of a.blanks 1024
 
-abbrev pub ghosts-run_untraced-N-Noted : goal.ghosts-run_untraced-N-Noted
-ghosts-run_untraced-N-Noted g a = record { words = a.words.words.shared.table_id }
+abbrev pub ghosts-run_untraced-N-Places : goal.ghosts-run_untraced-N-Places
+ghosts-run_untraced-N-Places g a = record { history = a.history.table.shared.table_id; shape = a.history.shape }

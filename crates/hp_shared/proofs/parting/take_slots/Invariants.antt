@@ -1,6 +1,6 @@
-use Rattle.std.proofs.Common.{◌≡◌, ◌≤◌, ◌+◌, ◌==◌, true, vec_len, vec_capacity}
+use Rattle.std.proofs.Common.{◌≡◌, ◌≤◌, ◌+◌, ◌==◌, [], true, vec_len, vec_capacity}
 use Rattle.std.specs.Vec.Iter.{into_iter_len}
-use Rattle.hp_shared.specs.Sharing.{AreGathered}
+use Rattle.hp_shared.specs.Ended.{AreSlotsJoined}
 use Rattle.hp_trail.specs.Walk.{lists}
 use Rattle.hp_shared.proofs.parting.take_slots.Given as goal
 
@@ -10,7 +10,9 @@ invariant-loop-slot g l = record {
   same : vec_len l.trails ≡ vec_len l.mounts;
   mounts_fit : vec_len l.mounts + into_iter_len l.rest ≤ vec_capacity l.mounts;
   trails_fit : vec_len l.mounts + into_iter_len l.rest ≤ vec_capacity l.trails;
-  runs : (g.row.K == 1) ≡ true → l.in_order ≡ true → AreGathered g.N.Naming.page_bytes (lists l.trails.items) l.mounts.items;
+  named : l.seat.table_id ≡ g.N.Places.history;
+  alone : l.seat.me.1 ≡ [];
+  joined : l.in_order ≡ true → AreSlotsJoined (g.row.K == 1) g.N.Naming.page_bytes (lists l.trails.items) l.mounts.items l.fn.seat.me.0 l.seat.me.0;
 }
 
 abbrev pub decreases-loop-slot : goal.decreases-loop-slot

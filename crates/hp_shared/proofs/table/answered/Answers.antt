@@ -1,14 +1,9 @@
-use Rattle.std.proofs.Common.{ap, sym, ◌∙◌}
-use Rattle.hp_model.specs.machine.Plan.{Reply}
+use Rattle.std.proofs.Common.{ap, ◌∙◌}
 use Rattle.hp_model.specs.machine.Table.{table_event}
 use Rattle.hp_shared.proofs.table.answered.Goals as goal
 
 pub returns-in-FindAndAdd-clause-event : goal.returns-in-FindAndAdd-clause-event
-returns-in-FindAndAdd-clause-event g c =
-    ap (table_event c.args.nodes c.args.tasks.now) c.in-FindAndAdd.is ∙ c.add_child.ensures.event c.args.nodes
-    ∙ ap (λ (r : Reply). (r, c.add_child.new.tasks)) (sym c.done-in-FindAndAdd.ensures)
+returns-in-FindAndAdd-clause-event c = ap (table_event c.args.nodes c.args.tasks.now) c.in-FindAndAdd.is ∙ c.add_child.ensures.event c.args.nodes
 
 pub returns-in-Remove-clause-event : goal.returns-in-Remove-clause-event
-returns-in-Remove-clause-event g c =
-    ap (table_event c.args.nodes c.args.tasks.now) c.in-Remove.is ∙ c.remove.ensures.event c.args.nodes
-    ∙ ap (λ (r : Reply). (r, c.remove.new.tasks)) (sym c.done-in-Remove.ensures)
+returns-in-Remove-clause-event c = ap (table_event c.args.nodes c.args.tasks.now) c.in-Remove.is ∙ c.remove.ensures.event c.args.nodes

@@ -4,9 +4,8 @@ use Rattle.hp_locked.specs.Views.{frames_list}
 use Rattle.hp_model.specs.machine.Machine.{start}
 use Rattle.hp_shared.proofs.Crossing.{shared_sync}
 use Rattle.hp_shared.proofs.Opened.{frames_named}
+use Rattle.hp_shared.specs.Ended.{FinishedView}
 use Rattle.hp_shared.specs.Sharing.{SharedView}
-use Rattle.hp_model.specs.declared.entry.Receipt.{Receipt}
-use Rattle.std.specs.Global.{Vec}
 use Rattle.hugetlbd.proofs.Serving.{as_asked, leaves, told_on}
 use Rattle.hp_words.specs.Config.{choice_of, chosen}
 use Rattle.hugetlbd.proofs.over_tcp.serve_on.Goals as goal
@@ -22,9 +21,9 @@ returns g c =
     ap (λ (xs : List ℕ). start xs c.in-Ok.shared.page_size c.in-Ok.shared.slots) named ∙ ap (λ (s : SharedView). start fs s.page_size s.slots) c.in-Ok.ensures in
     record {
       ended = e.0;
-      leaves = leaves (λ (told : Vec Receipt). told.items) _ _ _ _ e.0
-          (λ one. told_on (choice_of c.args.machine.now) c.args.serving _ _ c.requires.keeps c.requires.bytes one.items)
-          (λ told. as_asked (choice_of c.args.machine.now) c.args.serving _ _ same c.requires.keeps (map (λ (each : Vec Receipt). each.items) told)) e.1;
+      leaves = leaves (λ (one : FinishedView). one.receipts) _ _ _ _ e.0
+          (λ one. told_on (choice_of c.args.machine.now) c.args.serving _ _ c.requires.keeps c.requires.bytes one.receipts)
+          (λ told. as_asked (choice_of c.args.machine.now) c.args.serving _ _ same c.requires.keeps (map (λ (one : FinishedView). one.receipts) told)) e.1;
       ends = e.2;
       prints = e.3;
       says = e.4;

@@ -4,5 +4,5 @@ use Rattle.hugetlbd.proofs.over_tcp.serve_over.Given as goal
 abbrev pub ghosts-serve_kept-N-Naming : goal.ghosts-serve_kept-N-Naming
 ghosts-serve_kept-N-Naming g a = names_of a.blanks a.machine.now.page
 
-abbrev pub ghosts-serve_kept-N-Noted : goal.ghosts-serve_kept-N-Noted
-ghosts-serve_kept-N-Noted g a = record { words = a.words.words.shared.table_id }
+abbrev pub ghosts-serve_kept-N-Places : goal.ghosts-serve_kept-N-Places
+ghosts-serve_kept-N-Places g a = record { history = a.opened.table.shared.table_id; shape = a.opened.shape }

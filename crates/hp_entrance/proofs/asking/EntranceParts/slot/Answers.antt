@@ -1,14 +1,25 @@
-use Rattle.std.proofs.Common.{◌≡◌, ◌==◌, true, sym, ◌∙◌}
+use Rattle.std.proofs.Common.{◌≡◌, ◌==◌, ℕ, sym, ap, ◌∙◌, subst}
 use Rattle.hp_model.specs.beside.Told.{told_reply}
-use Rattle.hp_shared.specs.SlotWork.{full_for}
-use Rattle.hp_entrance.proofs.Handed.{either_kept, work_handed}
+use Rattle.hp_model.specs.declared.event.Event.TheVariants.{Slot as OnSlot}
+use Rattle.hp_parts.specs.Answered.{IsHanded}
+use Rattle.hp_parts.specs.SlotWork.{asked_event}
+use Rattle.hp_parts.specs.declared.slot_work.SlotWork.{SlotWork}
+use Rattle.hp_shared.specs.Seated.{SeatedView}
 use Rattle.hp_entrance.proofs.asking.EntranceParts.slot.Goals as goal
-
-pub work-requires-clause-copies : goal.work-requires-clause-copies
-work-requires-clause-copies g c = c.requires.copies
 
 pub returns-clause-handed : goal.returns-clause-handed
 returns-clause-handed g c =
-    work_handed (g.row.K == 1) (full_for ((c.work.new.door.asked ≡ _) × ((g.row.K == 1) ≡ true)) c.args.work) g.N.Naming.page_bytes c.args.at c.deref_mut-slot.result.now c.work.new.self
-    c.args.work (told_reply c.work.result.0) c.work.new.door.asked c.work.result.1 (sym c.number.ensures ∙ c.if-number-at.false)
-    c.work.ensures.done (λ full. either_kept _ (g.row.K == 1) c.args.work (c.work.ensures.keeps full)) c.work.ensures.given c.work.ensures.exit
+    let keeps = g.row.K == 1 in
+    let size = g.N.Naming.page_bytes in
+    let reply = told_reply c.unnoted-told.result.0 in
+    let was = c.args.self.now.member.receipts in
+    let now = c.unnoted-told.new.self.receipts in
+    let k = c.deref_mut-slot.result.now.slot.number in
+    let at : k ≡ c.args.at = ap (λ (s : SeatedView). s.slot.number) c.deref_mut-slot.ensures.value ∙ c.hold_slot-value.ensures in
+    subst (λ (n : ℕ). IsHanded keeps size (OnSlot n (asked_event c.args.work)) reply was now) at
+    (subst (λ (x : SlotWork). IsHanded keeps size (OnSlot k (asked_event x)) reply was now) (sym c.in-OfMount.is) c.unnoted-told.ensures.handed)
+
+pub returns-2-clause-handed : goal.returns-2-clause-handed
+returns-2-clause-handed g c =
+    subst (λ (n : ℕ). IsHanded (g.row.K == 1) g.N.Naming.page_bytes (OnSlot n (asked_event c.args.work)) (told_reply c.slot.result) c.args.self.now.member.receipts
+    c.slot.new.self.receipts) (ap (λ (s : SeatedView). s.slot.number) c.deref_mut-slot.ensures.value ∙ c.hold_slot-value.ensures) c.slot.ensures.handed

@@ -1,4 +1,4 @@
-use Rattle.std.proofs.Common.{◌≡◌, ◌+◌, ◌-◌, ◌≤◌, ◌∙◌, ap, arith, length, length-drop}
+use Rattle.std.proofs.Common.{◌+◌, ◌-◌, ◌≤◌, ◌∙◌, ap, arith, length, length-drop}
 use borrow.Rule.Slice.PartMut.{put_mid, same_len_mid}
 use Rattle.hp_model.proofs.Queues.{does_next, left_next}
 use Rattle.hp_sessions.proofs.Queueing.{Called, lent_is, several_left, several_more}
@@ -19,7 +19,7 @@ loop-done-preserved g c =
     let lent = ap length (lent_is at now) in
     let behind = length-drop at now in
     record {
-      done = several_more kept size c.args.self.now c.loop-done.self c.args.queue.now now at within i.left i.done some.result some.new.queue some.ensures.done;
+      done = several_more kept size c.args.self.now c.loop-done.self c.args.queue.now now at within i.left i.done some.new.self some.result some.new.queue some.ensures.done;
       left = several_left kept size c.args.self.now c.loop-done.self c.args.queue.now now at within i.left i.done some.result some.new.queue some.ensures.left;
       few = omega (arith, few, lent, behind, same, within);
     }
@@ -40,9 +40,9 @@ loop-done-preserved-then-some-eq0 g c =
     let whole = same_len_mid at (length now - at) now some.new.queue some.auto.queue in
     let left = several_left kept size c.args.self.now c.loop-done.self c.args.queue.now now at within i.left i.done some.result some.new.queue some.ensures.left in
     record {
-      done = does_next (Called kept size) c.args.self.now c.loop-done.self c.do_one.new.self c.args.queue.now made (at + some.result) c.do_one.new.queued c.index-queue-done.result
+      done = does_next (Called kept size) c.args.self.now some.new.self c.do_one.new.self c.args.queue.now made (at + some.result) c.do_one.new.queued c.index-queue-done.result
           (omega (arith, none, here, same)) (whole ∙ same) left
-          (several_more kept size c.args.self.now c.loop-done.self c.args.queue.now now at within i.left i.done some.result some.new.queue some.ensures.done) c.do_one.ensures.done;
+          (several_more kept size c.args.self.now c.loop-done.self c.args.queue.now now at within i.left i.done some.new.self some.result some.new.queue some.ensures.done) c.do_one.ensures.done;
       left = left_next c.args.queue.now made (at + some.result) c.do_one.new.queued left;
       few = omega (arith, none, here, same);
     }

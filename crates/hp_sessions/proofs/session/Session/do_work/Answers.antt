@@ -1,13 +1,13 @@
 use Rattle.std.proofs.Common.{refl, sym, ap, subst, ◌∙◌, arith}
 use Rattle.hp_model.specs.declared.event.Event.TheVariants.{Tasks as OnTasks, Pool as OnPool}
-use Rattle.hp_model.specs.declared.event.TableEvent.TheVariants.{Add, Find}
+use Rattle.hp_model.specs.declared.event.TableEvent.TheVariants.{Add}
 use Rattle.hp_model.specs.machine.Plan.{Reply}
 use Rattle.hp_model.specs.beside.Told.{told_reply}
 use Rattle.hp_sessions.specs.Calls.{HasReceiptRoom, IsMade}
 use Rattle.hp_events.specs.Works.{work_receipts}
 use Rattle.hp_sessions.specs.Works.{IsWorked}
 use Rattle.hp_events.specs.declared.work.Work.{Work}
-use Rattle.hp_events.specs.declared.work.Work.TheVariants.{Connect, Attach, Mount, OnSlot, Pool, Remount, Umount}
+use Rattle.hp_events.specs.declared.work.Work.TheVariants.{Connect, Mount, Pool, Remount, Umount}
 use Rattle.hp_parts.specs.declared.slot_work.SlotWork.TheVariants as w
 use Rattle.hp_sessions.proofs.Carrying.{only_made}
 use Rattle.hp_sessions.proofs.Working.{asked_worked, worked}
@@ -26,21 +26,6 @@ returns-in-Connect g c =
           (worked g.P.Parts.keeps size s t (Connect c.in-Connect.task c.in-Connect.home) (told_reply c.table_told.result) room
           (only_made g.P.Parts.keeps size s t (OnTasks (Add c.in-Connect.task c.in-Connect.home)) (told_reply c.table_told.result) made));
       limits = c.table_told.ensures.limits;
-    }
-
-pub returns-in-Attach : goal.returns-in-Attach
-returns-in-Attach g c =
-    let size = g.P.Parts.page in
-    let s = c.args.self.now in
-    let t = c.make_table-in-Attach.new.self in
-    let n = c.most_receipts.ensures ∙ ap (work_receipts c.count.result) c.in-Attach.is in
-    let room : HasReceiptRoom g.P.Parts.keeps 1 s = λ k. (let has = c.if-lacks.ensures k in omega (arith, has, n)) in
-    let made = subst (λ (r : Reply). IsMade g.P.Parts.keeps size s (OnTasks (Find c.in-Attach.task)) r t) (sym c.table_told-in-Attach.ensures.reply) c.make_table-in-Attach.ensures.made in
-    record {
-      worked = subst (λ (w : Work). IsWorked g.P.Parts.keeps size s w (told_reply c.table_told-in-Attach.result) t) (sym c.in-Attach.is)
-          (worked g.P.Parts.keeps size s t (Attach c.in-Attach.task) (told_reply c.table_told-in-Attach.result) room
-          (only_made g.P.Parts.keeps size s t (OnTasks (Find c.in-Attach.task)) (told_reply c.table_told-in-Attach.result) made));
-      limits = c.table_told-in-Attach.ensures.limits;
     }
 
 pub returns-in-Pool : goal.returns-in-Pool
@@ -97,18 +82,4 @@ returns-in-Umount g c =
           (asked_worked g.P.Parts.keeps size s t c.in-Umount.slot w.Umount
           (Umount c.in-Umount.slot) (told_reply c.on_slot-in-Umount.result) refl refl room c.on_slot-in-Umount.ensures.asked);
       limits = c.on_slot-in-Umount.ensures.limits;
-    }
-
-pub returns-in-OnSlot-work : goal.returns-in-OnSlot-work
-returns-in-OnSlot-work g c =
-    let size = g.P.Parts.page in
-    let s = c.args.self.now in
-    let t = c.on_slot-in-OnSlot-work.new.self in
-    let n = c.most_receipts.ensures ∙ ap (work_receipts c.count.result) c.in-OnSlot-work.is in
-    let room : HasReceiptRoom g.P.Parts.keeps 1 s = λ k. (let has = c.if-lacks.ensures k in omega (arith, has, n)) in
-    record {
-      worked = subst (λ (w : Work). IsWorked g.P.Parts.keeps size s w (told_reply c.on_slot-in-OnSlot-work.result) t) (sym c.in-OnSlot-work.is)
-          (asked_worked g.P.Parts.keeps size s t c.in-OnSlot-work.slot (w.OfMount 0 c.in-OnSlot-work.event)
-          (OnSlot c.in-OnSlot-work.slot c.in-OnSlot-work.event) (told_reply c.on_slot-in-OnSlot-work.result) refl refl room c.on_slot-in-OnSlot-work.ensures.asked);
-      limits = c.on_slot-in-OnSlot-work.ensures.limits;
     }

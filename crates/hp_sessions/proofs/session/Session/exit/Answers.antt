@@ -5,7 +5,7 @@ use Rattle.hp_model.specs.declared.event.TableEvent.TheVariants.{Remove}
 use Rattle.hp_model.specs.machine.Step.{Answer_with, exit_slots}
 use Rattle.hp_sessions.specs.Calls.{Carries, SessionView}
 use Rattle.hp_sessions.proofs.Carrying.{ends, grows_then}
-use Rattle.hp_sessions.proofs.Forking.{first_exited, table_done}
+use Rattle.hp_sessions.proofs.Forking.{first_exited, table_done, table_refused}
 use Rattle.hp_sessions.proofs.session.Session.exit.Goals as goal
 
 pub loop-at-preserved : goal.loop-at-preserved
@@ -33,3 +33,9 @@ returns g c =
     table_done g.P.Parts.keeps size s t (Remove c.args.task) c.make_table.result next (Ok Done) u c.in_default.not-Refused c.make_table.ensures.made
     (subst (λ (n : ℕ). Carries g.P.Parts.keeps size t (exit_slots (range_with_len 0 n) c.args.task (Answer_with (Ok Done))) (Ok Done) u) all
     (c.loop-at.invariant.gone (Answer_with (Ok Done)) (Ok Done) u (ends g.P.Parts.keeps size u (Ok Done) refl)))
+
+pub returns-in-Refused : goal.returns-in-Refused
+returns-in-Refused g c =
+    let s = c.args.self.now in
+    table_refused g.P.Parts.keeps g.P.Parts.page s c.make_table.new.self (Remove c.args.task) c.in-Refused.refusal
+    (exit_slots (range_with_len 0 s.slots) c.args.task (Answer_with (Ok Done))) c.in-Refused.ensures.made

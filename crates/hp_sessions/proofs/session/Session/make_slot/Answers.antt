@@ -3,7 +3,7 @@ use Rattle.hp_model.specs.declared.event.Event.TheVariants.{Slot as OnSlot}
 use Rattle.hp_model.specs.beside.Told.{told_reply}
 use Rattle.hp_parts.specs.SlotWork.{asked_event}
 use Rattle.hp_sessions.specs.Calls.{SessionView}
-use Rattle.hp_sessions.proofs.Carrying.{made_added, no_slot, on_slot_made}
+use Rattle.hp_sessions.proofs.Carrying.{made_by, no_slot, on_slot_made}
 use Rattle.hp_parts.proofs.Fitting.{fits_result}
 use Rattle.hp_sessions.proofs.session.Session.make_slot.Goals as goal
 
@@ -18,11 +18,11 @@ returns-clause-carried g c =
     let many = c.count.ensures.count in
     let same = ap (λ (v : SessionView). v.slots) c.self.view_is in
     let e = asked_event c.args.work in
-    on_slot_made g.P.Parts.keeps g.P.Parts.page c.args.self.now c.add.new.self c.args.slot e (told_reply c.in-Some.told)
+    let t : SessionView = record { slots = g.P.Parts.slots c.slot.new.self; receipts = g.P.Parts.told c.slot.new.self; room = g.P.Parts.places c.slot.new.self } in
+    on_slot_made g.P.Parts.keeps g.P.Parts.page c.args.self.now t c.args.slot e (told_reply c.slot.result)
     (let under = c.if-at-count.false in omega (arith, many, same, under))
-    (made_added g.P.Parts.keeps g.P.Parts.page c.args.self.now c.add.new.self (OnSlot c.args.slot e) (told_reply c.in-Some.told) c.in-Some.receipt
-    c.in-Some.ensures.handed c.add.ensures)
+    (made_by c.args.self.now t c.self.view_is c.slot.ensures.slots c.slot.ensures.places g.P.Parts.keeps g.P.Parts.page (OnSlot c.args.slot e) (told_reply c.slot.result) c.slot.ensures.handed)
 
 pub returns-clause-answer : goal.returns-clause-answer
 returns-clause-answer g c =
-    fits_result g.P.Parts.keeps g.P.Parts.page c.args.slot (asked_event c.args.work) c.in-Some.told c.in-Some.receipt c.in-Some.ensures.handed
+    fits_result g.P.Parts.keeps g.P.Parts.page c.args.slot (asked_event c.args.work) c.slot.result (g.P.Parts.told c.self.inside.parts) (g.P.Parts.told c.slot.new.self) c.slot.ensures.handed

@@ -1,15 +1,22 @@
-use Rattle.std.proofs.Common.{◌==◌, length, sym, subst}
+use Rattle.std.proofs.Common.{◌≡◌, ◌==◌, ◌∙◌, ◌∷◌, ◌++◌, true, List, [], length, sym, ap, subst}
 use Rattle.std.specs.Prelude.{IfSome, vec_len}
-use Rattle.hp_locked.specs.Views.{IsPoolTrail, frames_list}
+use Rattle.hp_locked.specs.Views.{IsPoolTrail, IsTrailOf, frames_list}
 use Rattle.hp_model.specs.machine.Machine.{start}
 use Rattle.hp_model.specs.pool.PoolCounts.{Pool}
 use Rattle.hp_pool.specs.Sums.{idle_pool}
-use Rattle.hp_shared.specs.Tables.{IsTableTrail}
+use Rattle.hp_model.specs.declared.entry.TableEntry.{TableEntry}
+use Rattle.hp_model.specs.threads.PoolRun.{IsPoolRun}
+use Rattle.hp_model.specs.threads.TableRun.{IsTableRun}
+use Rattle.hp_history.specs.declared.held.Held.TheVariants.{Tasks, Pool as PoolPart, Opener}
+use Rattle.hp_history.specs.History.{sessions_in}
 use Rattle.hp_model.specs.machine.Ready.{machine_of}
 use Rattle.hp_laws.proofs.settled.StaysSettled.{start_is_settled}
 use Rattle.hp_trail.specs.Keeping.{kept_if}
+use Rattle.hp_trail.specs.Walk.{lists}
 use Rattle.hp_shared.proofs.Gathered.{given_ends}
-use Rattle.hp_shared.specs.Sharing.{EndsRuns, SharedView, entries_of}
+use Rattle.hp_shared.proofs.Joining.{has_ended}
+use Rattle.hp_shared.specs.Ended.{HasEnded}
+use Rattle.hp_shared.specs.Sharing.{AreGathered, EndsRuns, SharedView, entries_of}
 use Rattle.hp_shared.proofs.shared.Shared.into_parts.Goals as goal
 
 pub returns-clause-runs : goal.returns-clause-runs
@@ -19,15 +26,18 @@ returns-clause-runs g c =
     let keeps = g.row.K == 1 in
     let tasks = c.into_parts-table in
     let pool = c.into_parts-pool in
-    let tabled : IsTableTrail (length fs) (kept_if keeps tasks.result.1) tasks.result.0 =
-    subst (λ t. IsTableTrail (length fs) (kept_if keeps tasks.result.1) t) (sym tasks.ensures.tasks)
-    (subst (λ o. IsTableTrail (length fs) o c.into_inner-2.result.tasks) (sym tasks.ensures.entries) tasks.ensures.run) in
+    let run : List TableEntry = c.into_inner-2.result.run in
+    let kept : IsTrailOf run (kept_if keeps tasks.result.1) = subst (IsTrailOf run) (sym tasks.ensures.entries) tasks.ensures.kept in
+    let tabled : IsTableRun (length fs) [] run tasks.result.0 = subst (λ t. IsTableRun (length fs) [] run t) (sym tasks.ensures.tasks) tasks.ensures.run in
     let pooled : IsPoolTrail (idle_pool fs) (kept_if keeps pool.result.1) pool.result.0 =
     subst (λ (p : Pool). IsPoolTrail (idle_pool fs) (kept_if keeps pool.result.1) p) (sym pool.ensures.pool)
     (subst (λ o. IsPoolTrail (idle_pool fs) o c.into_inner-4.result.pool) (sym pool.ensures.entries) pool.ensures.run) in
-    let ends = given_ends keeps c.take_slots-in_order.result fs g.N.Naming.page_bytes (vec_len s.slots) tasks.result.1 pool.result.1
-    c.take_slots-in_order.new.trails.items tasks.result.0 c.take_slots-in_order.new.mounts.items pool.result.0 c.trails_in.result
-    c.self.invariant.any c.take_slots-in_order.ensures.count tabled pooled c.take_slots-in_order.ensures.runs c.trails_in.ensures.given in
+    let gathered : keeps ≡ true → c.take_slots-in_order.result.0 ≡ true → AreGathered g.N.Naming.page_bytes (lists c.take_slots-in_order.new.trails.items) c.take_slots-in_order.new.mounts.items =
+    (λ is order. let joined = c.take_slots-in_order.ensures.joined order in
+    subst (λ ts. AreGathered g.N.Naming.page_bytes ts c.take_slots-in_order.new.mounts.items) (sym (joined.same is)) joined.runs) in
+    let ends = given_ends keeps c.take_slots-in_order.result.0 fs g.N.Naming.page_bytes (vec_len s.slots) tasks.result.1 pool.result.1
+    c.take_slots-in_order.new.trails.items tasks.result.0 c.take_slots-in_order.new.mounts.items pool.result.0 c.trails_in.result run
+    c.self.invariant.any c.take_slots-in_order.ensures.count kept tabled pooled gathered c.trails_in.ensures.given in
     let given = c.trails_in.result in
     subst (λ (v : SharedView). IfSome given (λ t. EndsRuns (start fs v.page_size v.slots) (entries_of t)
     (machine_of s.page_bytes tasks.result.0 c.take_slots-in_order.new.mounts.items c.from_parts.result))) c.self.view_is
@@ -35,6 +45,43 @@ returns-clause-runs g c =
     (machine_of s.page_bytes tasks.result.0 c.take_slots-in_order.new.mounts.items p))) (sym c.from_parts.ensures)
     (subst (λ n. IfSome given (λ t. EndsRuns (start fs n (vec_len s.slots)) (entries_of t) (machine_of n tasks.result.0 c.take_slots-in_order.new.mounts.items pool.result.0)))
     (sym c.self.invariant.size) ends))
+
+pub returns-clause-ends : goal.returns-clause-ends
+returns-clause-ends g c = λ ordered.
+    let order = sym c.new.ensures.in_order ∙ ordered in
+    let s = c.self.inside in
+    let fs = frames_list g.N.Naming.frames in
+    let keeps = g.row.K == 1 in
+    let tasks = c.into_parts-table in
+    let pool = c.into_parts-pool in
+    let opener = c.into_parts-sessions in
+    let slots = c.take_slots-in_order in
+    let es = c.into_inner-2.result.run in
+    let ps = c.into_inner-4.result.run in
+    let tabled : IsTableRun (length fs) [] es tasks.result.0 = subst (λ t. IsTableRun (length fs) [] es t) (sym tasks.ensures.tasks) tasks.ensures.run in
+    let pooled : IsPoolRun (idle_pool fs) ps pool.result.0 = subst (λ (p : Pool). IsPoolRun (idle_pool fs) ps p) (sym pool.ensures.pool) pool.ensures.history in
+    let kt : IsTrailOf es (kept_if keeps tasks.result.1) = subst (IsTrailOf es) (sym tasks.ensures.entries) tasks.ensures.kept in
+    let kp : IsTrailOf ps (kept_if keeps pool.result.1) = subst (IsTrailOf ps) (sym pool.ensures.entries) pool.ensures.kept in
+    let was : c.take_in-2.new.seat.me.0 ≡ Tasks es ∷ PoolPart ps ∷ Opener (sessions_in opener.result.1.me.0) ∷ [] =
+    ap (λ m. m.0) c.take_in-2.ensures.view
+    ∙ (ap (λ m. m.0 ++ opener.result.1.me.0) c.take_in.ensures.view
+    ∙ (ap (λ m. (m.0 ++ pool.result.2.me.0) ++ opener.result.1.me.0) tasks.ensures.trail
+    ∙ (ap (λ m. (Tasks es ∷ m.0) ++ opener.result.1.me.0) pool.ensures.seat ∙ ap (λ hs. Tasks es ∷ PoolPart ps ∷ hs) opener.ensures.opens))) in
+    let ended = has_ended keeps slots.result.0 fs g.N.Naming.page_bytes (vec_len s.slots) es ps tasks.result.0 slots.new.mounts.items pool.result.0 tasks.result.1
+    pool.result.1 slots.new.trails.items (sessions_in opener.result.1.me.0) opener.result.0 c.take_in-2.new.seat.me.0 slots.result.1.me.0 c.trails_in.result
+    c.self.invariant.any slots.ensures.count tabled pooled kt kp (slots.ensures.joined order) was opener.ensures.count order c.trails_in.ensures.some
+    c.trails_in.ensures.given in
+    let machine = machine_of s.page_bytes tasks.result.0 slots.new.mounts.items c.from_parts.result in
+    subst (λ n. HasEnded keeps (start fs c.args.self.page_size c.args.self.slots) c.args.self.slots machine c.trails_in.result n c.new.result.seat.me.0)
+    (sym c.new.ensures.sessions)
+    (subst (λ hs. HasEnded keeps (start fs c.args.self.page_size c.args.self.slots) c.args.self.slots machine c.trails_in.result opener.result.0 hs)
+    (sym (ap (λ t. t.me.0) c.new.ensures.seat)) (
+    subst (λ (v : SharedView). HasEnded keeps (start fs v.page_size v.slots) v.slots (machine_of s.page_bytes tasks.result.0 slots.new.mounts.items c.from_parts.result)
+    c.trails_in.result opener.result.0 slots.result.1.me.0) c.self.view_is
+    (subst (λ (p : Pool). HasEnded keeps (start fs s.page_bytes (vec_len s.slots)) (vec_len s.slots) (machine_of s.page_bytes tasks.result.0 slots.new.mounts.items p)
+    c.trails_in.result opener.result.0 slots.result.1.me.0) (sym c.from_parts.ensures)
+    (subst (λ n. HasEnded keeps (start fs n (vec_len s.slots)) (vec_len s.slots) (machine_of n tasks.result.0 slots.new.mounts.items pool.result.0) c.trails_in.result
+    opener.result.0 slots.result.1.me.0) (sym c.self.invariant.size) ended))))
 
 pub returns-clause-settled : goal.returns-clause-settled
 returns-clause-settled g c = start_is_settled (frames_list g.N.Naming.frames) c.args.self.page_size c.args.self.slots c.self.invariant.nodes c.self.invariant.small

@@ -1,5 +1,6 @@
-use Rattle.std.proofs.Common.{◌≡◌, ◌≤◌, length, map, sym, ap, subst, ◌∙◌, arith}
+use Rattle.std.proofs.Common.{◌≡◌, ◌≤◌, ◌==◌, length, map, sym, ap, subst, ◌∙◌, arith}
 use Rattle.std.specs.List.{All, sum}
+use Rattle.std.specs.Prelude.{not, vec_len}
 use Rattle.hp_locked.specs.Views.{frames_list}
 use Rattle.hp_model.specs.pool.NodeRows.{frames_of, idle_row}
 use Rattle.hp_model.specs.pool.PoolCounts.{IsSettled, Pool}
@@ -33,7 +34,9 @@ new-requires-in-Ok-new-4-clause-enough g c =
 pub invariant_of-result : goal.invariant_of-result
 invariant_of-result g c =
     let named = frames_named g.N.Naming.frames c.args.frames.now c.requires.some c.requires.few c.requires.each c.requires.frames in
+    let slots : c.args.slots ≡ vec_len c.lock_slots.new.locks = omega (arith, c.lock_slots.ensures, c.in_ok-slot_trails.ensures) in
     record {
+      shape = c.requires.shape ∙ (λ i. record { slots = slots i; nodes = ap length (sym named) i; looks = not (g.row.K == 1) });
       size = c.requires.page_bytes;
       some = c.requires.bytes;
       most = c.requires.few_bytes;

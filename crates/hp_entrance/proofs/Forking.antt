@@ -1,0 +1,39 @@
+-- A fork of maps that is not refused is answered Done.
+use Rattle.std.proofs.Common.{◌≡◌, ℕ, Bool, List, None, Some, Ok, refl, subst}
+use Rattle.hp_model.specs.declared.answer.Answer.{Answer}
+use Rattle.hp_model.specs.declared.answer.Answer.TheVariants.{Done}
+use Rattle.hp_model.specs.declared.entry.Receipt.{Receipt}
+use Rattle.hp_model.specs.declared.event.Event.TheVariants.{Slot as OnSlot}
+use Rattle.hp_model.specs.declared.event.SlotEvent.TheVariants.{ForkMaps}
+use Rattle.hp_model.specs.files.Fork.{forked}
+use Rattle.hp_model.specs.machine.Plan.{Answered, Choice, Outcome, Refused, Slot, gives}
+use Rattle.hp_model.specs.machine.SlotEvent.{fork_tests, slot_event}
+use Rattle.hp_model.specs.threads.LocalRun.{Gives}
+use Rattle.hp_laws.specs.Balance.{Always}
+use Rattle.hp_laws.proofs.accesses.SlotShows.{always_gives, always_unless}
+use Rattle.hp_parts.specs.Answered.{CanAnswer, IsHanded}
+use Rattle.hp_parts.proofs.Came.{always_came}
+
+abbrev IsDone : Outcome → Type 0
+IsDone (Refused r) = Unit {0}
+IsDone (Answered a s) = a ≡ Done
+
+forks : (size k : ℕ) (c : Choice) (parent child : ℕ) (old : Slot) → Always IsDone (slot_event size k c old (ForkMaps parent child))
+forks size k c parent child None = tt
+forks size k c parent child (Some m) =
+    always_unless IsDone (λ r. tt) (fork_tests c m parent child) (gives Done (Some m) (Some (forked parent child m)))
+    (always_gives IsDone Done (Some m) (Some (forked parent child m)) refl)
+
+done : (o : Outcome) (old new : Slot) (a : Answer) → IsDone o → Gives o old (Ok a) new → a ≡ Done
+done (Refused r) old new a h g = absurd (let same = g.0 in cc)
+done (Answered b s) old new a h g = (let same = g.0 in cc)
+
+fork_answer : (size k parent child : ℕ) (a : Answer) → CanAnswer size (OnSlot k (ForkMaps parent child)) (Ok a) → a ≡ Done
+fork_answer size k parent child a (old, asked, new, went) =
+    let came = always_came IsDone (slot_event size k went.0 old (ForkMaps parent child)) asked old (Ok a) new (forks size k went.0 parent child old) went.2 in
+    done came.0 old new a came.1 came.2
+
+pub fork_done : (kept : Bool) (size k parent child : ℕ) (a : Answer) (was now : List Receipt) → IsHanded kept size (OnSlot k (ForkMaps parent child)) (Ok a) was now →
+    IsHanded kept size (OnSlot k (ForkMaps parent child)) (Ok Done) was now
+fork_done kept size k parent child a was now h =
+    subst (λ (x : Answer). IsHanded kept size (OnSlot k (ForkMaps parent child)) (Ok x) was now) (fork_answer size k parent child a h.0) h

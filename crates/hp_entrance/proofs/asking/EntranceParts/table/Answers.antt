@@ -1,0 +1,11 @@
+use Rattle.std.proofs.Common.{◌==◌, subst}
+use Rattle.hp_model.specs.declared.event.Event.TheVariants.{Tasks as OnTasks}
+use Rattle.hp_parts.specs.Answered.{IsHanded}
+use Rattle.hp_parts.specs.Replies.{table_reply}
+use Rattle.hp_entrance.proofs.asking.EntranceParts.table.Goals as goal
+
+pub returns-clause-handed : goal.returns-clause-handed
+returns-clause-handed g c =
+    let size = g.N.Naming.page_bytes in
+    subst (λ rs. IsHanded (g.row.K == 1) size (OnTasks c.args.event) (table_reply c.table-2.result) rs c.table-2.new.self.receipts)
+    c.in_default.ensures.none (c.table-2.ensures.handed size)

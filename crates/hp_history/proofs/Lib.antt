@@ -1,0 +1,11 @@
+pub mod Lists
+pub mod TablesOf
+pub mod Words
+pub mod Keeping
+pub mod Marks
+pub mod Folds
+pub mod Steps
+pub mod Between
+pub mod Ending
+pub mod Reserved
+pub mod Sections

@@ -1,3 +1,0 @@
-pub mod TablesOf
-mod Moves
-pub mod Crossing

@@ -1,0 +1,17 @@
+use denote.Param.Send.{IsSync, sendable}
+use denote.RattleType.{RattleType}
+use denote.Ref.{NamedLft}
+use Rattle.std.proofs.Crossing.{crosses}
+use Rattle.hp_shared.proofs.Crossing.{shared_sync}
+use Rattle.hp_server_tests.specs.contracts.gate.Held as Held
+use Rattle.hp_server_tests.specs.contracts.gate.Hold as Hold
+use Rattle.hp_server_tests.proofs.over_tcp.serves_on.Goals as goal
+
+hold_sync : (κ : NamedLft) (R : RattleType) → IsSync R → IsSync (Hold.the_row κ R)
+hold_sync κ R r = search (sendable, crosses) depth 60 fits 5000
+
+held_sync : (κ : NamedLft) (R : RattleType) → IsSync R → IsSync (Held.the_row κ R)
+held_sync κ R r = search (sendable, crosses, hold_sync) depth 60 fits 5000
+
+pub serve_sessions-requires-sync-M : goal.serve_sessions-requires-sync-M
+serve_sessions-requires-sync-M g c κs within = search (sendable, shared_sync, held_sync) depth 40

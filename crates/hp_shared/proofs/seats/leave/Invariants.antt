@@ -1,0 +1,7 @@
+use Rattle.hp_model.specs.beside.Told.{told_reply}
+use Rattle.hp_parts.specs.SlotWork.{asked_event}
+use Rattle.hp_shared.proofs.seats.leave.Given as goal
+
+-- what was asked, with its reply
+abbrev pub ghosts-leave : goal.ghosts-leave
+ghosts-leave g a = record { event = asked_event a.told.0; reply = told_reply a.told.1.now }
