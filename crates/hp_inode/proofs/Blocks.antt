@@ -1,12 +1,13 @@
 -- A change of one block, as a change of the indices of all.
 use Rattle.std.proofs.Common.{◌≡◌, ◌≢◌, ℕ, zero, suc, ◌+◌, ◌-◌, ◌*◌, ◌/◌, ◌%◌, ◌<◌, ◌≤◌, min, Bool, true, false, not, ◌&&◌, ◌||◌}
-use Rattle.std.proofs.Common.{List, [], ◌∷◌, length, get_or, cond, None, sym, refl, ap, ◌∙◌, arith, ⊎_elim, Option, Some, IsSome, subst}
-use Rattle.std.specs.Option.{is_some}
+use Rattle.std.proofs.Common.{List, [], ◌∷◌, length, get_or, set, cond, None, sym, refl, ap, ◌∙◌, arith, ⊎_elim, Option, Some, IsSome, subst}
+use Rattle.std.specs.Option.{is_some, unwrap_or}
 use Rattle.std.specs.List.{range_with_len, count_by}
 use Rattle.std.proofs.Math.Bool.{or-false, and-true}
-use Rattle.std.proofs.lemmas.Bool.{cases_lt, cases_eq, ltb-true, false≢true}
+use Rattle.std.proofs.lemmas.Bool.{cases_lt, cases_eq, cases_Bool, ltb-true, false≢true}
 use Rattle.std.proofs.lemmas.Bool.Decides.{nat_tests}
-use Rattle.std.proofs.lemmas.List.{get_or_past, nil_from_length}
+use Rattle.std.proofs.lemmas.List.{get_or_past, length-map, length-set, nil_from_length}
+use Rattle.hp_inode.proofs.Later.{block_there, here_now, none_there, others_now}
 use Rattle.std.proofs.lemmas.List.FromFn.{length-range_with_len}
 use Rattle.std.proofs.lemmas.List.Sums.{count_by-le-length}
 use Rattle.hp_model.proofs.Counting.{alike_in, count_cons, count_not, count_split, count_outside}
@@ -14,6 +15,7 @@ use Rattle.hp_model.proofs.Ranges.{within-true, within-below, within-past}
 use Rattle.hp_model.specs.beside.Ranges.{within}
 use Rattle.hp_inode.specs.Blocks.{WordBlocks, RowBlocks, AreBlocks, block_at, entered_at, has_place, page_at, has_slot_at, entered_count, missing_count, IsRowTable}
 use Rattle.hp_inode.specs.EntryBlock.{count_in, missing_in}
+use Rattle.hp_inode.specs.Later.{contents}
 use Rattle.hp_inode.specs.Marks.{marked}
 use Rattle.hp_inode.specs.Rows.{page_in, has_slot, IsTaken, TakesFirst, Rows}
 use Rattle.hp_inode.proofs.Removed.{parts_left}
@@ -21,26 +23,39 @@ use Rattle.hp_inode.proofs.Words.{unmarked_past}
 
 -- ---- one block for another
 
--- another first block
-pub first_changed : {X : Type 0} (old new : List X) (rest : List (List X)) (j : ℕ) → j ≢ 0 → get_or (new ∷ rest) j [] ≡ get_or (old ∷ rest) j []
-first_changed old new rest zero other = absurd (other refl)
-first_changed old new rest (suc j) other = refl
+-- all blocks but one are as they were
+abbrev pub KeepsOthers : {X : Type 0} → List (List X) → List (List X) → ℕ → Type 0
+KeepsOthers old new q = (j : ℕ) → j ≢ q → get_or new j [] ≡ get_or old j []
 
--- one block of those after the first
-module _ {X : Type 0} (first : List X) (rest : List (List X)) (at : ℕ) (later : (at ≡ 0 → ⊥)) where
-  next : suc (at - 1) ≡ at
-  next = omega (arith, later)
+-- what is not empty was made
+pub made_of : {X : Type 0} (blocks : List (Option (List X))) (at : ℕ) → 0 < length (get_or (contents [] blocks) at []) → IsSome (get_or blocks at None)
+made_of blocks at long = ⊎_elim
+    (λ (some : is_some (get_or blocks at None) ≡ true). some)
+    (λ (none : is_some (get_or blocks at None) ≡ false). absurd (omega (arith, long, ap length (none_there [] blocks at none))))
+    (cases_Bool (is_some (get_or blocks at None)))
 
-  pub block_there : get_or (first ∷ rest) at [] ≡ get_or rest (at - 1) []
-  block_there = sym (ap (λ n. get_or (first ∷ rest) n []) next)
+-- of blocks that hold the same, one changes
+module _ {X : Type 0} (blocks kept : List (Option (List X))) (alike : (j : ℕ) → get_or (contents [] kept) j [] ≡ get_or (contents [] blocks) j []) (at : ℕ)
+    (old now : List X) (is : get_or kept at None ≡ Some old) where
+  pub others_stay_there : KeepsOthers (contents [] blocks) (contents [] (set kept at (Some now))) at
+  others_stay_there j differs = others_now [] kept at old now is j differs ∙ alike j
 
-  module _ (new : List (List X)) where
-    pub seen_there : {B : Type 0} (see : List X → B) → see (get_or new (at - 1) []) ≡ see (get_or rest (at - 1) []) → see (get_or (first ∷ new) at []) ≡ see (get_or (first ∷ rest) at [])
-    seen_there see same = ap (λ n. see (get_or (first ∷ new) n [])) (sym next) ∙ same ∙ ap see (sym block_there)
+  pub was_there : get_or (contents [] blocks) at [] ≡ old
+  was_there = sym (alike at) ∙ block_there [] kept at old is
 
-    pub others_there : ((j : ℕ) → j ≢ at - 1 → get_or new j [] ≡ get_or rest j []) → (j : ℕ) → j ≢ at → get_or (first ∷ new) j [] ≡ get_or (first ∷ rest) j []
-    others_there others zero differs = refl
-    others_there others (suc j) differs = others j (λ same. differs (ap suc same ∙ next))
+  -- and so what is seen of it
+  pub changed_there : {B : Type 0} (see : List X → B) (f : B → B) → see now ≡ f (see old) →
+      see (get_or (contents [] (set kept at (Some now))) at []) ≡ f (see (get_or (contents [] blocks) at []))
+  changed_there see f same = ap see (here_now [] kept at old now is) ∙ same ∙ ap (λ block. f (see block)) (sym was_there)
+
+  pub seen_there : {B : Type 0} (see : List X → B) → see now ≡ see old → see (get_or (contents [] (set kept at (Some now))) at []) ≡ see (get_or (contents [] blocks) at [])
+  seen_there see = changed_there see (λ t. t)
+
+  pub length_there : length (contents [] (set kept at (Some now))) ≡ length kept
+  length_there = length-map (set kept at (Some now)) (λ block. unwrap_or block []) ∙ length-set kept at (Some now)
+
+pub few_there : {X : Type 0} (blocks : List (Option (List X))) → length (contents [] blocks) ≤ 65536 → length blocks ≤ 65536
+few_there blocks few = omega (arith, few, length-map blocks (λ block. unwrap_or block []))
 
 -- ---- the indices of a block
 
@@ -67,10 +82,6 @@ module _ (at count : ℕ) (fits : at % 65536 + count ≤ 65536) where
       (cases_lt k at)
 
 -- ---- one block changed
-
--- all blocks but one are as they were
-abbrev pub KeepsOthers : {X : Type 0} → List (List X) → List (List X) → ℕ → Type 0
-KeepsOthers old new q = (j : ℕ) → j ≢ q → get_or new j [] ≡ get_or old j []
 
 joined_or : (x : Bool) (a m b k : ℕ) → a ≤ m → m ≤ b → ((x || within a m k) || within m b k) ≡ (x || within a b k)
 joined_or true a m b k low high = refl
@@ -120,39 +131,26 @@ module _ (old new : WordBlocks) (at count : ℕ) (fits : at % 65536 + count ≤ 
 
 -- ---- the first block
 
-module _ (first new : List ℕ) (rest : WordBlocks) (i : ℕ) (lt : i < 65536) where
-  first_block : (blocks : List ℕ) (k : ℕ) → marked (get_or (blocks ∷ rest) (i / 65536) []) k ≡ marked blocks k
-  first_block blocks k = ap (λ q. marked (get_or (blocks ∷ rest) q []) k) {x = i / 65536} {y = 0} (omega (arith, lt))
+pub near : (words : WordBlocks) (k : ℕ) → k < 65536 → entered_at words k ≡ marked (get_or words 0 []) k
+near words k lt =
+    ap (λ q. marked (get_or words q []) (k % 65536)) {x = k / 65536} {y = 0} (omega (arith, lt)) ∙ ap (marked (get_or words 0 [])) {x = k % 65536} {y = k} (omega (arith, lt))
 
-  same_place : (k : ℕ) → within i (i + 1) k ≡ within (i % 65536) (i % 65536 + 1) k
-  same_place k = ap (λ j. within j (j + 1) k) {x = i} {y = i % 65536} (omega (arith, lt))
+module _ (words : WordBlocks) (a b : ℕ) (le : b ≤ 65536) where
+  pub near_counted : count_in (get_or words 0 []) a b ≡ entered_count words a b
+  near_counted = alike_in (marked (get_or words 0 [])) (entered_at words) a (b - a) (λ k low high. sym (near words k (omega (arith, low, high, le))))
 
-  first_others : KeepsOthers (first ∷ rest) (new ∷ rest) (i / 65536)
-  first_others j other = first_changed first new rest j (λ none. other (omega (arith, none, lt)))
+  pub near_missing : missing_in (get_or words 0 []) a b ≡ missing_count words a b
+  near_missing = alike_in (λ k. not (marked (get_or words 0 []) k)) (λ k. not (entered_at words k)) a (b - a) (λ k low high. ap not (sym (near words k (omega (arith, low, high, le)))))
 
-  pub first_added : ((k : ℕ) → marked new k ≡ (marked first k || within i (i + 1) k)) → (k : ℕ) → entered_at (new ∷ rest) k ≡ (entered_at (first ∷ rest) k || within i (i + 1) k)
-  first_added here = part_added (first ∷ rest) (new ∷ rest) i 1 (omega arith) first_others
-      (λ k. first_block new k ∙ here k ∙ ap (λ t. t || within i (i + 1) k) (sym (first_block first k)) ∙ ap (λ t. marked (get_or (first ∷ rest) (i / 65536) []) k || t) (same_place k))
-
-  pub first_out : ((k : ℕ) → marked new k ≡ (marked first k && not (within i (i + 1) k))) → (k : ℕ) → entered_at (new ∷ rest) k ≡ (entered_at (first ∷ rest) k && not (within i (i + 1) k))
-  first_out here = part_out (first ∷ rest) (new ∷ rest) i 1 (omega arith) first_others
-      (λ k. first_block new k ∙ here k ∙ ap (λ t. t && not (within i (i + 1) k)) (sym (first_block first k)) ∙ ap (λ t. marked (get_or (first ∷ rest) (i / 65536) []) k && not t) (same_place k))
-
-pub near : (first : List ℕ) (rest : WordBlocks) (k : ℕ) → k < 65536 → entered_at (first ∷ rest) k ≡ marked first k
-near first rest k lt =
-    ap (λ q. marked (get_or (first ∷ rest) q []) (k % 65536)) {x = k / 65536} {y = 0} (omega (arith, lt)) ∙ ap (marked first) {x = k % 65536} {y = k} (omega (arith, lt))
-
-pub near_page : (first : Rows) (rest : RowBlocks) (k : ℕ) → k < 65536 → page_in first k ≡ page_at (first ∷ rest) k
-near_page first rest k lt = sym (ap (λ q. page_in (get_or (first ∷ rest) q []) (k % 65536)) {x = k / 65536} {y = 0} (omega (arith, lt))
-    ∙ ap (page_in first) {x = k % 65536} {y = k} (omega (arith, lt)))
-
-module _ (first : List ℕ) (rest : WordBlocks) where
-  module _ (a b : ℕ) (le : b ≤ 65536) where
-    pub near_counted : count_in first a b ≡ entered_count (first ∷ rest) a b
-    near_counted = alike_in (marked first) (entered_at (first ∷ rest)) a (b - a) (λ k low high. sym (near first rest k (omega (arith, low, high, le))))
-
-    pub near_missing : missing_in first a b ≡ missing_count (first ∷ rest) a b
-    near_missing = alike_in (λ k. not (marked first k)) (λ k. not (entered_at (first ∷ rest) k)) a (b - a) (λ k low high. ap not (sym (near first rest k (omega (arith, low, high, le)))))
+-- a change of indices of the first block
+pub near_changed : (f : Bool → Bool → Bool) → ((t : Bool) → f t false ≡ t) → (old new : WordBlocks) (a b : ℕ) → b ≤ 65536 → KeepsOthers old new 0 →
+    ((k : ℕ) → marked (get_or new 0 []) k ≡ f (marked (get_or old 0 []) k) (within a b k)) → (k : ℕ) → entered_at new k ≡ f (entered_at old k) (within a b k)
+near_changed f stays old new a b le others here k = ⊎_elim
+    (λ (lt : k < 65536). near new k lt ∙ here k ∙ ap (λ t. f t (within a b k)) (sym (near old k lt)))
+    (λ (past : 65536 ≤ k).
+    ap (λ block. marked block (k % 65536)) (others (k / 65536) (λ none. absurd (omega (arith, none, past))))
+    ∙ sym (ap (f (entered_at old k)) (within-past a b k (omega (arith, past, le))) ∙ stays (entered_at old k)))
+    (cases_lt k 65536)
 
 -- places up to the end of a part, by its last
 pub room_for : (words : WordBlocks) (at count : ℕ) → at % 65536 + count ≤ 65536 → 0 < count → has_place words (at + count - 1) ≡ true →
@@ -161,6 +159,10 @@ room_for words at count fits some has =
     let block : (at + count - 1) / 65536 ≡ at / 65536 = omega (arith, fits, some) in
     let place : (at + count - 1) % 65536 ≡ at % 65536 + count - 1 = omega (arith, fits, some) in
     omega (arith, some, place, ltb-true _ _ has, ap (λ q. length (get_or words q [])) block)
+
+-- and of the first block
+pub near_room : (words : WordBlocks) (b : ℕ) → 0 < b → b ≤ 65536 → has_place words (b - 1) ≡ true → b ≤ 64 * length (get_or words 0 [])
+near_room words b some le has = omega (arith, some, le, ltb-true _ _ has, ap (λ q. length (get_or words q [])) {x = (b - 1) / 65536} {y = 0} (omega (arith, some, le)))
 
 -- ---- how many
 
@@ -281,6 +283,15 @@ module _ (start old new : RowBlocks) (a at count : ℕ) (low : a ≤ at) (fits :
       (cases_eq (k / 65536) (at / 65536))
       ∙ before k below
 
+-- those of the first block below an index
+pub near_below : (old new : RowBlocks) (a : ℕ) → KeepsOthers old new 0 → ((k : ℕ) → k / 64 < a / 64 → has_slot (get_or new 0 []) k ≡ has_slot (get_or old 0 []) k) →
+    (k : ℕ) → k / 64 < a / 64 → has_slot_at new k ≡ has_slot_at old k
+near_below old new a others here k below = ⊎_elim
+    (λ (same : k / 65536 ≡ 0).
+    ap (λ q. has_slot (get_or new q []) (k % 65536)) same ∙ here (k % 65536) (omega (arith, below)) ∙ ap (λ q. has_slot (get_or old q []) (k % 65536)) (sym same))
+    (λ (other : k / 65536 ≢ 0). ap (λ block. has_slot block (k % 65536)) (others (k / 65536) other))
+    (cases_eq (k / 65536) 0)
+
 -- ---- the first page
 
 -- a page goes
@@ -374,6 +385,19 @@ module _ (old new : RowBlocks) (only : length old ≡ 1) (are : AreBlocks old) (
       let same : 0 * 65536 + p.0 ≡ p.0 = omega arith in
       subst (λ i. IsTaken (page_at old) (page_at new) a b i p.1) same
       (taken_at old new 0 a b p.0 p.1 taken are others a b (omega arith) (omega arith) (λ k above early. absurd (omega (arith, above, early))))
+
+-- a block changes, with the pages that it had
+module _ (blocks kept : List (Option Rows)) (alike : (j : ℕ) → get_or (contents [] kept) j [] ≡ get_or (contents [] blocks) j []) (at : ℕ) (old now : Rows) (is : get_or kept at None ≡ Some old)
+    (pages : (k : ℕ) → page_in now k ≡ page_in old k) where
+  pub pages_there : (k : ℕ) → page_at (contents [] (set kept at (Some now))) k ≡ page_at (contents [] blocks) k
+  pages_there = as_before page_in (contents [] blocks) (contents [] (set kept at (Some now))) at (others_stay_there blocks kept alike at old now is)
+      (λ k. seen_there blocks kept alike at old now is (λ block. page_in block k) (pages k))
+
+  pub table_there : length kept ≤ 65536 → (low high : ℕ) → IsRowTable (contents [] blocks) low high → IsRowTable (contents [] (set kept at (Some now))) low high
+  table_there few low high was = table_as_before (contents [] blocks) (contents [] (set kept at (Some now))) low high
+      (kept_blocks (contents [] blocks) (contents [] (set kept at (Some now))) at (others_stay_there blocks kept alike at old now is)
+      (omega (arith, few, length_there blocks kept alike at old now is))
+      (λ k past. seen_there blocks kept alike at old now is (λ block. page_in block k) (pages k)) was.blocks) pages_there was
 
 -- ---- a block without a page that is given back
 

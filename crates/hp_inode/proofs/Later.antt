@@ -1,13 +1,12 @@
 -- The blocks after the first, by the numbers at their places.
-use Rattle.std.proofs.Common.{◌≡◌, ◌≢◌, ℕ, zero, suc, ◌-◌, ◌<◌, ◌≤◌}
-use Rattle.std.proofs.Common.{List, [], ◌∷◌, ◌++◌, length, get_or, set, cond, refl, sym, ap, ◌∙◌, arith, ⊎_elim}
+use Rattle.std.proofs.Common.{◌≡◌, ◌≢◌, ℕ, zero, suc, false, ◌-◌, ◌<◌, ◌≤◌, List, [], ◌∷◌, ◌++◌, map, length, get_or, set, cond, Option, None, Some, IsSome, refl, sym, ap, subst, ◌∙◌, arith, ⊎_elim}
 use Rattle.std.specs.Prelude.{nat_lt}
-use Rattle.std.proofs.Math.ListN.{get_or-map}
-use Rattle.std.proofs.lemmas.Bool.{cases_eq, cases_lt, lt-ltb}
-use Rattle.std.proofs.lemmas.List.{get_or-set_same, get_or-set_other, get_or_past, get_or_read, length-set}
+use Rattle.std.specs.Option.{is_some, unwrap_or}
+use Rattle.std.proofs.Math.ListN.{get_or-map as get_or-mapped}
+use Rattle.std.proofs.lemmas.Bool.{cases_eq, cases_lt, false≢true, lt-ltb}
+use Rattle.std.proofs.lemmas.List.{ext_get_or, get_or-map, get_or-set_same, get_or-set_other, get_or_past, get_or_read, length-map, length-set, map-set, set-get_or}
 use Rattle.std.proofs.lemmas.List.Sums.{count_by-le-length, sum_by-set}
-use Rattle.hp_inode.specs.Later.{AreLater, block_in, blocks_in, made_count}
-use Rattle.hp_inode.proofs.Tables.{get_or_pushed}
+use Rattle.hp_inode.specs.Later.{AreLater, blocks_in, contents, made_count, numbered}
 
 -- the numbers are as they were
 pub numbers_alike : (old new : List ℕ) (count : ℕ) → length new < 65536 → ((j : ℕ) → get_or new j 0 ≡ get_or old j 0) → made_count new ≡ made_count old →
@@ -31,7 +30,7 @@ module _ (places : List ℕ) (at count : ℕ) (lt : at < length places) (none : 
   some_number : cond {A = ℕ} (nat_lt 0 (suc count)) 1 0 ≡ 1
   some_number = ap (λ t. cond {A = ℕ} t 1 0) (lt-ltb 0 (suc count) (omega arith))
 
-  next_number : AreLater (set places at (suc count)) (suc count)
+  pub next_number : AreLater (set places at (suc count)) (suc count)
   next_number =
       record {
         few = omega (arith, are.few, length-set places at (suc count));
@@ -58,78 +57,149 @@ module _ (places : List ℕ) (at count : ℕ) (lt : at < length places) (none : 
 -- ---- the blocks at the places
 
 module _ {X : Type 0} where
-  pub at_place : (places : List ℕ) (blocks : List (List X)) (j : ℕ) → get_or (blocks_in places blocks) j [] ≡ block_in blocks (get_or places j 0)
-  at_place places blocks j = get_or-map (block_in blocks) places j 0
+  at_place : (places : List ℕ) (made : List X) (j : ℕ) → get_or (blocks_in places made) j None ≡ numbered made (get_or places j 0)
+  at_place places made j = get_or-mapped (numbered made) places j 0
 
-  pub places_alike : (old new : List ℕ) (blocks : List (List X)) → ((j : ℕ) → get_or new j 0 ≡ get_or old j 0) →
-      (j : ℕ) → get_or (blocks_in new blocks) j [] ≡ get_or (blocks_in old blocks) j []
-  places_alike old new blocks same j = at_place new blocks j ∙ ap (block_in blocks) (same j) ∙ sym (at_place old blocks j)
+  content_at : (places : List ℕ) (made : List X) (j : ℕ) (empty : X) → get_or (contents empty (blocks_in places made)) j empty ≡ unwrap_or (numbered made (get_or places j 0)) empty
+  content_at places made j empty = get_or-mapped (λ block. unwrap_or block empty) (blocks_in places made) j None ∙ ap (λ b. unwrap_or b empty) (at_place places made j)
 
-  pub pushed_empty : (blocks reserved pushed : List (List X)) (block : List X) → reserved ≡ blocks → block ≡ [] → pushed ≡ reserved ++ block ∷ [] → pushed ≡ blocks ++ [] ∷ []
-  pushed_empty blocks reserved pushed block same none is = is ∙ ap (λ made. reserved ++ made ∷ []) none ∙ ap (λ old. old ++ [] ∷ []) same
+  -- other places with the same numbers
+  pub places_alike : (first : X) (old new : List ℕ) (made kept : List X) (empty : X) → kept ≡ made → ((j : ℕ) → get_or new j 0 ≡ get_or old j 0) →
+      (j : ℕ) → get_or (contents empty (Some first ∷ blocks_in new kept)) j empty ≡ get_or (contents empty (Some first ∷ blocks_in old made)) j empty
+  places_alike first old new made kept empty is same zero = refl
+  places_alike first old new made kept empty is same (suc j) =
+      content_at new kept j empty ∙ ap (λ b. unwrap_or b empty) (ap (λ bs. numbered bs (get_or new j 0)) is ∙ ap (numbered made) (same j)) ∙ sym (content_at old made j empty)
 
-  -- an empty block comes, at a place that had none
-  pub empty_made : (places : List ℕ) (blocks : List (List X)) (at : ℕ) → at < length places → get_or places at 0 ≡ 0 →
-      (j : ℕ) → get_or (blocks_in (set places at (suc (length blocks))) (blocks ++ [] ∷ [])) j [] ≡ get_or (blocks_in places blocks) j []
-  empty_made places blocks at lt none j =
-      at_place (set places at (suc (length blocks))) (blocks ++ [] ∷ []) j
-      ∙ get_or_pushed ([] ∷ blocks) [] (get_or (set places at (suc (length blocks))) j 0)
-      ∙ ⊎_elim
-      (λ (same : j ≡ at).
-      ap (λ i. block_in blocks (get_or (set places at (suc (length blocks))) i 0)) same ∙ ap (block_in blocks) (get_or-set_same places at (suc (length blocks)) 0 lt)
-      ∙ get_or_past ([] ∷ blocks) (suc (length blocks)) [] (omega arith) ∙ sym (ap (block_in blocks) (ap (λ i. get_or places i 0) same ∙ none)))
-      (λ (differs : j ≢ at). ap (block_in blocks) (get_or-set_other places at j (suc (length blocks)) 0 differs))
-      (cases_eq j at)
-      ∙ sym (at_place places blocks j)
+  later_there : (first : X) (blocks : List (Option X)) (at : ℕ) → 0 < at → get_or (Some first ∷ blocks) at None ≡ get_or blocks (at - 1) None
+  later_there first blocks at later = ap (λ i. get_or (Some first ∷ blocks) i None) {x = at} {y = suc (at - 1)} (omega (arith, later))
 
-  -- another block of one number
-  other_number : (blocks : List (List X)) (n m : ℕ) (made : List X) → m ≢ suc n → block_in (set blocks n made) m ≡ block_in blocks m
-  other_number blocks n zero made other = refl
-  other_number blocks n (suc m) made other = get_or-set_other blocks n m made [] (λ same. other (ap suc same))
+  some_within : (xs : List X) (k : ℕ) → k < length xs → IsSome (get_or (map Some xs) k None)
+  some_within [] k within = absurd (omega (arith, within))
+  some_within (x ∷ xs) zero within = refl
+  some_within (x ∷ xs) (suc k) within = some_within xs k (omega (arith, within))
 
-  pub no_block : (places : List ℕ) (blocks : List (List X)) (at : ℕ) → get_or places at 0 ≡ 0 → get_or (blocks_in places blocks) at [] ≡ []
-  no_block places blocks at none = at_place places blocks at ∙ ap (block_in blocks) none
+  -- a number, at the place of a block after the first
+  pub has_number : (first : X) (places : List ℕ) (made : List X) (at : ℕ) → 0 < at → AreLater places (length made) → get_or places (at - 1) 0 ≢ 0 →
+      IsSome (get_or (Some first ∷ blocks_in places made) at None)
+  has_number first places made at later are some =
+      let is : get_or places (at - 1) 0 ≡ suc (get_or places (at - 1) 0 - 1) = omega (arith, some) in
+      subst (λ (block : Option X). IsSome block) (sym (later_there first (blocks_in places made) at later ∙ at_place places made (at - 1) ∙ ap (numbered made) is))
+      (some_within made (get_or places (at - 1) 0 - 1) (omega (arith, is, are.within (at - 1))))
 
-  -- a place with a block
-  pub numbered : (places : List ℕ) (blocks : List (List X)) (at : ℕ) → 0 < length (get_or (blocks_in places blocks) at []) → 0 < get_or places at 0
-  numbered places blocks at some = ⊎_elim
-      (λ (none : get_or places at 0 ≡ 0). absurd (omega (arith, some, ap length (no_block places blocks at none))))
-      (λ (is : get_or places at 0 ≢ 0). omega (arith, is))
-      (cases_eq (get_or places at 0) 0)
+  -- a block comes with nothing in it, at a place that had none
+  module _ (first : X) (places : List ℕ) (made : List X) (at : ℕ) (empty : X) (later : 0 < at) (lt : at - 1 < length places) (none : get_or places (at - 1) 0 ≡ 0)
+      (are : AreLater places (length made)) (pushed : List X) (is_pushed : pushed ≡ made ++ empty ∷ []) where
+    pushed_of : (xs : List X) (k : ℕ) → k < length xs → get_or (map Some (xs ++ empty ∷ [])) k None ≡ get_or (map Some xs) k None
+    pushed_of [] k within = absurd (omega (arith, within))
+    pushed_of (x ∷ xs) zero within = refl
+    pushed_of (x ∷ xs) (suc k) within = pushed_of xs k (omega (arith, within))
 
-  -- the block of number n changes
-  module _ (places : List ℕ) (blocks : List (List X)) (at n : ℕ) (lt : at < length places) (read : n ≡ get_or places at n) (some : n ≢ 0) (are : AreLater places (length blocks)) where
-    number_is : get_or places at 0 ≡ suc (n - 1)
-    number_is = omega (arith, get_or_read places at n lt read 0, some)
+    pushed_last : (xs : List X) → get_or (map Some (xs ++ empty ∷ [])) (length xs) None ≡ Some empty
+    pushed_last [] = refl
+    pushed_last (x ∷ xs) = pushed_last xs
 
-    number_within : n - 1 < length blocks
-    number_within = omega (arith, number_is, are.within at)
+    older : (n : ℕ) → n ≤ length made → numbered pushed n ≡ numbered made n
+    older zero within = refl
+    older (suc n) within = ap (λ (xs : List X). get_or (map Some xs) n None) is_pushed ∙ pushed_of made n (omega (arith, within))
 
-    pub block_was : (old : List X) → old ≡ get_or blocks (n - 1) old → get_or (blocks_in places blocks) at [] ≡ old
-    block_was old is = at_place places blocks at ∙ ap (block_in blocks) number_is ∙ sym (get_or_read blocks (n - 1) old number_within is [])
+    module _ (count : ℕ) (is_count : count ≡ suc (length made)) where
+      set_there : get_or (blocks_in (set places (at - 1) count) pushed) (at - 1) None ≡ Some empty
+      set_there = at_place (set places (at - 1) count) pushed (at - 1)
+          ∙ ap (numbered pushed) (get_or-set_same places (at - 1) count 0 lt ∙ is_count)
+          ∙ ap (λ (xs : List X). get_or (map Some xs) (length made) None) is_pushed ∙ pushed_last made
 
-    module _ (made : List X) where
-      pub changed_here : get_or (blocks_in places (set blocks (n - 1) made)) at [] ≡ made
-      changed_here = at_place places (set blocks (n - 1) made) at ∙ ap (block_in (set blocks (n - 1) made)) number_is ∙ get_or-set_same blocks (n - 1) made [] number_within
+      pub made_there : IsSome (get_or (Some first ∷ blocks_in (set places (at - 1) count) pushed) at None)
+      made_there = subst (λ (block : Option X). IsSome block) (sym (later_there first (blocks_in (set places (at - 1) count) pushed) at later ∙ set_there)) refl
 
-      pub changed_others : (j : ℕ) → j ≢ at → get_or (blocks_in places (set blocks (n - 1) made)) j [] ≡ get_or (blocks_in places blocks) j []
-      changed_others j differs =
-          at_place places (set blocks (n - 1) made) j
-          ∙ other_number blocks (n - 1) (get_or places j 0) made
-          (λ same. differs (are.apart j at (same ∙ sym number_is) (λ none. absurd (omega (arith, none, same)))))
-          ∙ sym (at_place places blocks j)
+      pub made_alike : (j : ℕ) → get_or (contents empty (Some first ∷ blocks_in (set places (at - 1) count) pushed)) j empty
+          ≡ get_or (contents empty (Some first ∷ blocks_in places made)) j empty
+      made_alike zero = refl
+      made_alike (suc j) = content_at (set places (at - 1) count) pushed j empty ∙ ⊎_elim
+          (λ (same : j ≡ at - 1).
+          ap (λ i. unwrap_or (numbered pushed (get_or (set places (at - 1) count) i 0)) empty) same
+          ∙ ap (λ b. unwrap_or b empty) (sym (at_place (set places (at - 1) count) pushed (at - 1)) ∙ set_there)
+          ∙ sym (ap (λ i. unwrap_or (numbered made (get_or places i 0)) empty) same ∙ ap (λ n. unwrap_or (numbered made n) empty) none))
+          (λ (differs : j ≢ at - 1). ap (λ b. unwrap_or b empty) (ap (numbered pushed) (get_or-set_other places (at - 1) j count 0 differs)
+          ∙ older (get_or places j 0) (are.within j)))
+          (cases_eq j (at - 1)) ∙ sym (content_at places made j empty)
 
-      -- what is seen of it stays
-      pub seen_here : {B : Type 0} (see : List X → B) (old : List X) → old ≡ get_or blocks (n - 1) old → see made ≡ see old →
-          see (get_or (blocks_in places (set blocks (n - 1) made)) at []) ≡ see (get_or (blocks_in places blocks) at [])
-      seen_here see old is same = ap see changed_here ∙ same ∙ ap see (sym (block_was old is))
+  -- a place with a number, counted from the first block
+  module _ (first : X) (places : List ℕ) (made : List X) (at n : ℕ) (later : at ≡ 0 → ⊥) (are : AreLater places (length made))
+      (some : IsSome (get_or (Some first ∷ blocks_in places made) at None)) (read : n ≡ get_or places (at - 1) n) where
+    there : get_or (Some first ∷ blocks_in places made) at None ≡ numbered made (get_or places (at - 1) 0)
+    there = later_there first (blocks_in places made) at (omega (arith, later)) ∙ at_place places made (at - 1)
 
--- a place with a number is one of those there are
-pub place_within : (places : List ℕ) (at : ℕ) → 0 < get_or places at 0 → at < length places
-place_within places at some = ⊎_elim
-    (λ (lt : at < length places). lt)
-    (λ (le : length places ≤ at). absurd (omega (arith, some, get_or_past places at 0 le)))
-    (cases_lt at (length places))
+    number_some : get_or places (at - 1) 0 ≢ 0
+    number_some none = false≢true (subst (λ (block : Option X). IsSome block) (there ∙ ap (numbered made) none) some)
 
-pub number_read : (places : List ℕ) (at n : ℕ) → n ≡ get_or places at n → 0 < get_or places at 0 → n ≢ 0
-number_read places at n read some none = omega (arith, some, none, get_or_read places at n (place_within places at some) read 0)
+    place_within : at - 1 < length places
+    place_within = ⊎_elim
+        (λ (lt : at - 1 < length places). lt)
+        (λ (le : length places ≤ at - 1). absurd (number_some (get_or_past places (at - 1) 0 le)))
+        (cases_lt (at - 1) (length places))
+
+    pub number_is : get_or places (at - 1) 0 ≡ suc (n - 1)
+    number_is = omega (arith, get_or_read places (at - 1) n place_within read 0, number_some)
+
+    pub one_at_least : 1 ≤ n
+    one_at_least = omega (arith, get_or_read places (at - 1) n place_within read 0, number_some)
+
+    pub number_within : n - 1 < length made
+    number_within = omega (arith, number_is, are.within (at - 1))
+
+    pub block_was : (block : X) → block ≡ get_or made (n - 1) block → get_or (Some first ∷ blocks_in places made) at None ≡ Some block
+    block_was block is = there ∙ ap (numbered made) number_is ∙ get_or-map Some made (n - 1) block None number_within ∙ ap Some (sym is)
+
+    other_number : (w : X) (m : ℕ) → m ≢ suc (n - 1) → numbered (set made (n - 1) w) m ≡ numbered made m
+    other_number w zero differs = refl
+    other_number w (suc m) differs = ap (λ xs. get_or xs m None) (map-set Some made (n - 1) w) ∙ get_or-set_other (map Some made) (n - 1) m (Some w) None (λ same. differs (ap suc same))
+
+    set_later : (w : X) → blocks_in places (set made (n - 1) w) ≡ set (blocks_in places made) (at - 1) (Some w)
+    set_later w = ext_get_or None (blocks_in places (set made (n - 1) w)) (set (blocks_in places made) (at - 1) (Some w))
+        (length-map places (numbered (set made (n - 1) w)) ∙ sym (length-set (blocks_in places made) (at - 1) (Some w) ∙ length-map places (numbered made)))
+        (λ j lt. at_place places (set made (n - 1) w) j ∙ ⊎_elim
+        (λ (same : j ≡ at - 1).
+        ap (λ i. numbered (set made (n - 1) w) (get_or places i 0)) same ∙ ap (numbered (set made (n - 1) w)) number_is
+        ∙ ap (λ xs. get_or xs (n - 1) None) (map-set Some made (n - 1) w) ∙ get_or-set_same (map Some made) (n - 1) (Some w) None (omega (arith, number_within, length-map {B = Option X} made Some))
+        ∙ sym (ap (λ i. get_or (set (blocks_in places made) (at - 1) (Some w)) i None) same
+        ∙ get_or-set_same (blocks_in places made) (at - 1) (Some w) None (omega (arith, place_within, length-map places (numbered made)))))
+        (λ (differs : j ≢ at - 1).
+        other_number w (get_or places j 0) (λ same. differs (are.apart j (at - 1) (same ∙ sym number_is) (λ none. absurd (omega (arith, none, same)))))
+        ∙ sym (get_or-set_other (blocks_in places made) (at - 1) j (Some w) None differs ∙ at_place places made j))
+        (cases_eq j (at - 1)))
+
+    pub block_set : (w : X) → Some first ∷ blocks_in places (set made (n - 1) w) ≡ set (Some first ∷ blocks_in places made) at (Some w)
+    block_set w = ap (λ (bs : List (Option X)). Some first ∷ bs) (set_later w) ∙ ap (λ i. set (Some first ∷ blocks_in places made) i (Some w)) {x = suc (at - 1)} {y = at} (omega (arith, later))
+
+-- ---- a block for another
+
+module _ {X : Type 0} (empty : X) (blocks : List (Option X)) (at : ℕ) where
+  content : get_or (contents empty blocks) at empty ≡ unwrap_or (get_or blocks at None) empty
+  content = get_or-mapped (λ block. unwrap_or block empty) blocks at None
+
+  pub block_there : (block : X) → get_or blocks at None ≡ Some block → get_or (contents empty blocks) at empty ≡ block
+  block_there block is = content ∙ ap (λ b. unwrap_or b empty) is
+
+  empty_of : (block : Option X) → is_some block ≡ false → unwrap_or block empty ≡ empty
+  empty_of None none = refl
+  empty_of (Some block) none = absurd (false≢true (sym none))
+
+  pub none_there : is_some (get_or blocks at None) ≡ false → get_or (contents empty blocks) at empty ≡ empty
+  none_there none = content ∙ empty_of (get_or blocks at None) none
+
+  module _ (old now : X) (is : get_or blocks at None ≡ Some old) where
+    within_all : at < length (contents empty blocks)
+    within_all = ⊎_elim
+        (λ (lt : at < length blocks). omega (arith, lt, length-map blocks (λ block. unwrap_or block empty)))
+        (λ (le : length blocks ≤ at). absurd (false≢true (ap is_some (sym (get_or_past blocks at None le) ∙ is))))
+        (cases_lt at (length blocks))
+
+    pub here_now : get_or (contents empty (set blocks at (Some now))) at empty ≡ now
+    here_now = ap (λ bs. get_or bs at empty) (map-set (λ block. unwrap_or block empty) blocks at (Some now)) ∙ get_or-set_same (contents empty blocks) at now empty within_all
+
+    pub others_now : (j : ℕ) → j ≢ at → get_or (contents empty (set blocks at (Some now))) j empty ≡ get_or (contents empty blocks) j empty
+    others_now j differs =
+        ap (λ bs. get_or bs j empty) (map-set (λ block. unwrap_or block empty) blocks at (Some now)) ∙ get_or-set_other (contents empty blocks) at j now empty differs
+
+    pub all_now : now ≡ old → contents empty (set blocks at (Some now)) ≡ contents empty blocks
+    all_now same = ap (contents empty) (ap (set blocks at) (ap Some same ∙ sym is) ∙ set-get_or blocks at None)

@@ -3,6 +3,7 @@ pub mod EntryBlock
 pub mod Form
 pub mod Kept
 pub mod Later
+pub mod Lends
 pub mod Marks
 pub mod Rows
 pub mod Ready

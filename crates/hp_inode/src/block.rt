@@ -2,8 +2,19 @@
 ghost use Rattle.std.specs.Prelude.{◌≡◌, ◌-◌, ◌%◌, ◌<◌, min};
 ghost use Rattle.hp_inode.specs.Blocks.{block_size};
 
+use std::alloc::Global;
+
 /// How many indices a block is for.
 pub const BLOCK: u64 = 65_536;
+
+/// What is kept of the indices of a block.
+pub trait Block: Drop {
+    ghost empty: { Self };
+
+    /// Nothing, which takes no memory.
+    fn new(alloc: Global) -> Self
+        ensures { result ≡ empty };
+}
 
 /// How many indices from `at` up to `end` lie in the block of `at`.
 #[inline(always)]

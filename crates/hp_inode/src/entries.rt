@@ -7,8 +7,8 @@ ghost use Rattle.hp_inode.specs.EntryBlock.{count_in, missing_in};
 ghost use Rattle.hp_inode.specs.Marks.{marked};
 
 use crate::block::{BLOCK, within_block};
+use crate::block_list::BlockList;
 use crate::entry_block::EntryBlock;
-use crate::later_entries::LaterEntries;
 use std::alloc::{AllocError, Global};
 use std::marker::Model;
 
@@ -16,18 +16,17 @@ use std::marker::Model;
 /// indices it takes none.
 #[derive(Drop)]
 pub struct Entries {
-    first: EntryBlock,
-    // those after the first, up to the last that has had an entry
-    rest: LaterEntries,
+    blocks: BlockList<EntryBlock>,
 }
 
 impl Model for Entries {
-    ghost use Rattle.std.specs.Prelude.{◌∷◌};
+    ghost use Rattle.std.specs.Prelude.{[]};
     ghost use Rattle.hp_inode.specs.Blocks.{WordBlocks};
+    ghost use Rattle.hp_inode.specs.Later.{contents};
 
     ghost Value = { WordBlocks };
 
-    ghost view = { λ e. e.first ∷ e.rest };
+    ghost view = { λ e. contents [] e.blocks };
 }
 
 impl Entries {
@@ -36,8 +35,7 @@ impl Entries {
         ensures { (i : ℕ) → entered_at result i ≡ entered_at [] i }
     {
         Entries {
-            first: EntryBlock::new(alloc),
-            rest: LaterEntries::new(alloc),
+            blocks: BlockList::new(alloc),
         }
     }
 
@@ -47,26 +45,12 @@ impl Entries {
         ensures { MatchOption result (slice_index_or self.now at [] ≡ [])
             (λ block. slice_index_or self.now at [] ≡ block.now) }
     {
-        if at == 0 {
-            return Some(&self.first);
-        }
-        self.rest.get(at as usize - 1)
+        self.blocks.get(at as usize)
     }
 
     /// Whether the index `i` is in the set.
     #[inline(always)]
     pub fn contains(&self, i: u64) -> bool
-        ensures { result ≡ entered_at self.now i }
-    {
-        if i < BLOCK {
-            return self.first.contains(i);
-        }
-        self.later_contains(i)
-    }
-
-    // Whether an index after the first block is in the set, out of line, so that an access to a small file is small.
-    #[inline(always)]
-    fn later_contains(&self, i: u64) -> bool
         ensures { result ≡ entered_at self.now i }
     {
         match self.block(i / BLOCK) {
@@ -80,7 +64,7 @@ impl Entries {
         ensures { result ≡ missing_count self.now a b }
     {
         if b <= BLOCK {
-            return self.first.missing(a, b);
+            return self.missing_in(0, a, b);
         }
         let mut missing = 0;
         let mut at = a;
@@ -94,6 +78,7 @@ impl Entries {
     }
 
     // How many indices of one block from `from` up to `to` are not in the set.
+    #[inline(always)]
     fn missing_in(&self, at: u64, from: u64, to: u64) -> u64
         ensures { result ≡ missing_in (slice_index_or self.now at []) from to }
     {
@@ -105,7 +90,7 @@ impl Entries {
 
     /// How many blocks there are places for.
     pub fn blocks(&self) -> u64 {
-        (self.rest.len() as u64).saturating_add(1)
+        self.blocks.len() as u64
     }
 
     /// Whether a block has room for an index, and none in the set.
@@ -120,15 +105,11 @@ impl Entries {
     }
 
     /// Gives back the memory of a block of which no index is in the set.
-    pub fn give_back(&mut self, alloc: Global, at: u64)
+    pub fn give_back(&mut self, at: u64)
         requires { (k : ℕ) → marked (slice_index_or self.old at []) k ≡ false }
         ensures { (k : ℕ) → entered_at self.new k ≡ entered_at self.old k }
     {
-        if at == 0 {
-            self.first.clear(alloc);
-            return;
-        }
-        self.rest.clear(at as usize - 1);
+        self.blocks.clear(at as usize);
     }
 
     /// Makes room for the indices from `a` up to `b`. For none it takes no memory.
@@ -138,7 +119,7 @@ impl Entries {
         ensures same { (k : ℕ) → entered_at self.new k ≡ entered_at self.old k }
     {
         if b <= BLOCK {
-            return self.first.make_room(a, b);
+            return self.blocks.first_mut().make_room(a, b);
         }
         let mut at = a;
         while at < b {
@@ -161,10 +142,8 @@ impl Entries {
         ensures others { (j : ℕ) → j ≢ at
             → slice_index_or self.new j [] ≡ slice_index_or self.old j [] }
     {
-        if at == 0 {
-            return self.first.make_room(from, to);
-        }
-        self.rest.make_room(at as usize - 1, from, to)
+        self.blocks.make(at as usize)?;
+        self.blocks.at_mut(at as usize).make_room(from, to)
     }
 
     /// Puts the indices from `a` up to `b` in.
@@ -173,7 +152,7 @@ impl Entries {
         ensures { (k : ℕ) → entered_at self.new k ≡ (entered_at self.old k || within a b k) }
     {
         if b <= BLOCK {
-            self.first.add(a, b);
+            self.blocks.first_mut().add(a, b);
             return;
         }
         let mut at = a;
@@ -194,10 +173,9 @@ impl Entries {
             ≡ (entered_at self.old k || within i (i + 1) k)) }
         ensures err { OnErr result ((k : ℕ) → entered_at self.new k ≡ entered_at self.old k) }
     {
-        if i < BLOCK {
-            return self.first.enter(i);
-        }
-        self.rest.enter((i / BLOCK) as usize - 1, i % BLOCK)
+        let at = (i / BLOCK) as usize;
+        self.blocks.make(at)?;
+        self.blocks.at_mut(at).enter(i % BLOCK)
     }
 
     /// Takes one index out.
@@ -207,11 +185,7 @@ impl Entries {
         ensures { (k : ℕ) → entered_at self.new k
             ≡ (entered_at self.old k && not (within i (i + 1) k)) }
     {
-        if i < BLOCK {
-            self.first.take_out(i);
-            return;
-        }
-        self.rest.take_out((i / BLOCK) as usize - 1, i % BLOCK);
+        self.blocks.at_mut((i / BLOCK) as usize).take_out(i % BLOCK);
     }
 
     // Puts the indices from `from` up to `to` of one block in.
@@ -223,11 +197,7 @@ impl Entries {
         ensures others { (j : ℕ) → j ≢ at
             → slice_index_or self.new j [] ≡ slice_index_or self.old j [] }
     {
-        if at == 0 {
-            self.first.add(from, to);
-            return;
-        }
-        self.rest.add(at as usize - 1, from, to);
+        self.blocks.at_mut(at as usize).add(from, to);
     }
 
     /// Takes the indices from `a` up to `b` out, and answers how many there were.
@@ -237,7 +207,7 @@ impl Entries {
             ≡ (entered_at self.old k && not (within a b k)) }
     {
         if b <= BLOCK {
-            return self.first.remove(a, b);
+            return self.remove_in(0, a, b);
         }
         let mut removed = 0;
         let mut at = a;
@@ -258,9 +228,9 @@ impl Entries {
         ensures others { (j : ℕ) → j ≢ at
             → slice_index_or self.new j [] ≡ slice_index_or self.old j [] }
     {
-        if at == 0 {
-            return self.first.remove(from, to);
+        if !self.blocks.has(at as usize) {
+            return 0;
         }
-        self.rest.remove(at as usize - 1, from, to)
+        self.blocks.at_mut(at as usize).remove(from, to)
     }
 }

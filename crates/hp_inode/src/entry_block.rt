@@ -4,6 +4,7 @@ ghost use Rattle.hp_model.specs.beside.Ranges.{within};
 ghost use Rattle.hp_inode.specs.EntryBlock.{count_in, missing_in, FindsWord, IsEntries, IsRemoved};
 ghost use Rattle.hp_inode.specs.Marks.{marked};
 
+use crate::block::Block;
 use crate::marks::{
     WORD, bits_within, change_mark, clear_marks, first_within, make_places, set_mark, set_marks,
 };
@@ -30,17 +31,18 @@ impl Model for EntryBlock {
     ghost invariant = { λ e. IsEntries e.words.items e.marks.items };
 }
 
-impl EntryBlock {
-    /// The empty set.
-    pub fn new(alloc: Global) -> Self
-        ensures { result ≡ [] }
-    {
+impl Block for EntryBlock {
+    ghost empty = { [] };
+
+    fn new(alloc: Global) -> Self {
         EntryBlock {
             words: SmallVec::new(alloc),
             marks: SmallVec::new(alloc),
         }
     }
+}
 
+impl EntryBlock {
     /// Whether the index `i` is in the set.
     pub fn contains(&self, i: u64) -> bool
         ensures { result ≡ marked self.now i }
@@ -80,14 +82,6 @@ impl EntryBlock {
     {
         let words = self.words.len();
         words > 0 && self.next_word(0, words).is_none()
-    }
-
-    /// Gives back the memory of all that it had.
-    pub fn clear(&mut self, alloc: Global)
-        ensures { self.new ≡ [] }
-    {
-        self.words = SmallVec::new(alloc);
-        self.marks = SmallVec::new(alloc);
     }
 
     /// Makes room for the indices from `a` up to `b`. For none it takes no memory.

@@ -27,7 +27,6 @@ pub(crate) struct Indices {
     to: u64,
     // a block whose tables stay when it has no entry
     spare: u64,
-    alloc: Global,
 }
 
 impl Model for Indices {
@@ -57,7 +56,6 @@ impl Drop for Indices {
             from: _from,
             to: _to,
             spare: _spare,
-            alloc: _alloc,
         } = self;
     }
 }
@@ -77,7 +75,6 @@ impl Indices {
             from: 0,
             to: 0,
             spare: 0,
-            alloc,
         }
     }
 
@@ -302,7 +299,7 @@ impl Indices {
     {
         if self.entries.is_spent(at) {
             self.to = 0;
-            self.entries.give_back(self.alloc, at);
+            self.entries.give_back(at);
             self.table.give_back(at);
         }
     }

@@ -15,13 +15,12 @@ use std::alloc::{AllocError, Global};
 use std::marker::Model;
 
 mod block;
+mod block_list;
 mod chunk;
 mod entries;
 mod entry_block;
 mod form;
 mod indices;
-mod later_entries;
-mod later_pages;
 mod marks;
 mod page_block;
 mod places;

@@ -4,6 +4,7 @@ ghost use Rattle.std.specs.List.{count_by, range_with_len, slice_index_or};
 ghost use Rattle.std.specs.Option.{is_some};
 ghost use Rattle.hp_inode.specs.Rows.{page_in, has_slot, FindsSlot, FindsPage, TakesFirst};
 
+use crate::block::Block;
 use crate::chunk::{CHUNK, Chunk};
 use crate::marks::{change_mark, first_from, make_places};
 use hp_model::page_no::PageNo;
@@ -29,25 +30,19 @@ impl Model for PageBlock {
     ghost invariant = { λ t. IsTable t.chunks.items t.marks.items };
 }
 
-impl PageBlock {
-    pub fn new(alloc: Global) -> Self
-        ensures { result ≡ [] }
-    {
+impl Block for PageBlock {
+    ghost empty = { [] };
+
+    fn new(alloc: Global) -> Self {
         PageBlock {
             chunks: Vec::new(alloc),
             marks: SmallVec::new(alloc),
             alloc,
         }
     }
+}
 
-    /// Gives back the memory of all that it had.
-    pub fn clear(&mut self)
-        ensures { self.new ≡ [] }
-    {
-        self.chunks = Vec::new(self.alloc);
-        self.marks = SmallVec::new(self.alloc);
-    }
-
+impl PageBlock {
     pub fn page_at(&self, i: u64) -> Option<PageNo>
         ensures { result ≡ page_in self.now i }
     {

@@ -6,7 +6,7 @@ ghost use Rattle.hp_inode.specs.Blocks.{block_size, most_blocks, page_at, has_sl
 ghost use Rattle.hp_inode.specs.Rows.{page_in, has_slot, TakesFirst};
 
 use crate::block::{BLOCK, within_block};
-use crate::later_pages::LaterPages;
+use crate::block_list::BlockList;
 use crate::page_block::PageBlock;
 use hp_model::page_no::PageNo;
 use std::alloc::{AllocError, Global};
@@ -15,23 +15,22 @@ use std::marker::Model;
 /// The pages of a file. Contracts see the rows of its blocks.
 #[derive(Drop)]
 pub struct PageTable {
-    first: PageBlock,
-    // those after the first, up to the last that has had a slot
-    rest: LaterPages,
+    blocks: BlockList<PageBlock>,
     // no index from `bare_from` up to `bare_to` has a page: here the last take began, and there it ended
     bare_from: u64,
     bare_to: u64,
 }
 
 impl Model for PageTable {
-    ghost use Rattle.std.specs.Prelude.{◌∷◌};
+    ghost use Rattle.std.specs.Prelude.{[]};
     ghost use Rattle.hp_inode.specs.Blocks.{RowBlocks, IsRowTable};
+    ghost use Rattle.hp_inode.specs.Later.{contents};
 
     ghost Value = { RowBlocks };
 
-    ghost view = { λ t. t.first ∷ t.rest };
+    ghost view = { λ t. contents [] t.blocks };
 
-    ghost invariant = { λ t. IsRowTable (t.first ∷ t.rest) t.bare_from t.bare_to };
+    ghost invariant = { λ t. IsRowTable (contents [] t.blocks) t.bare_from t.bare_to };
 }
 
 impl PageTable {
@@ -40,8 +39,7 @@ impl PageTable {
         ensures slots { (i : ℕ) → has_slot_at result i ≡ has_slot_at [] i }
     {
         PageTable {
-            first: PageBlock::new(alloc),
-            rest: LaterPages::new(alloc),
+            blocks: BlockList::new(alloc),
             bare_from: 0,
             bare_to: 0,
         }
@@ -53,25 +51,11 @@ impl PageTable {
         ensures { MatchOption result (slice_index_or self.now at [] ≡ [])
             (λ block. slice_index_or self.now at [] ≡ block.now) }
     {
-        if at == 0 {
-            return Some(&self.first);
-        }
-        self.rest.get(at as usize - 1)
+        self.blocks.get(at as usize)
     }
 
     #[inline(always)]
     pub fn page_at(&self, i: u64) -> Option<PageNo>
-        ensures { result ≡ page_at self.now i }
-    {
-        if i < BLOCK {
-            return self.first.page_at(i);
-        }
-        self.later_page(i)
-    }
-
-    // The page of an index after the first block, out of line, so that an access to a small file is small.
-    #[inline(always)]
-    fn later_page(&self, i: u64) -> Option<PageNo>
         ensures { result ≡ page_at self.now i }
     {
         self.block(i / BLOCK)?.page_at(i % BLOCK)
@@ -100,11 +84,9 @@ impl PageTable {
         ensures slots { (k : ℕ) → has_slot_at self.new k ≡ has_slot_at self.old k }
     {
         self.bare_to = self.bare_to.min(i);
-        if i < BLOCK {
-            self.first.fill(i, page);
-            return;
-        }
-        self.rest.fill((i / BLOCK) as usize - 1, i % BLOCK, page);
+        self.blocks
+            .at_mut((i / BLOCK) as usize)
+            .fill(i % BLOCK, page);
     }
 
     /// Takes the first page of the indices from `a` up to `b` out, and answers its index with it.
@@ -132,11 +114,11 @@ impl PageTable {
         ensures none { result ≡ None → self.new ≡ self.old }
         ensures slots { (k : ℕ) → has_slot_at self.new k ≡ has_slot_at self.old k }
     {
-        if self.rest.len() == 0 {
+        if self.blocks.len() == 1 {
             return self.take_in(0, a, b);
         }
         let (mut at, mut from) = (a / BLOCK, a % BLOCK);
-        while at <= self.rest.len() as u64 && at * BLOCK < b {
+        while at < self.blocks.len() as u64 && at * BLOCK < b {
             if let Some((k, page)) = self.take_in(at, from, b - at * BLOCK) {
                 return Some((at * BLOCK + k, page));
             }
@@ -156,10 +138,10 @@ impl PageTable {
         ensures others { (j : ℕ) → j ≢ at
             → slice_index_or self.new j [] ≡ slice_index_or self.old j [] }
     {
-        if at == 0 {
-            return self.first.take_first(from, to);
+        if !self.blocks.has(at as usize) {
+            return None;
         }
-        self.rest.take_first(at as usize - 1, from, to)
+        self.blocks.at_mut(at as usize).take_first(from, to)
     }
 
     /// Gives back the memory of a block without a page.
@@ -169,11 +151,7 @@ impl PageTable {
         ensures slots { (k : ℕ) → k / block_size ≢ at
             → has_slot_at self.new k ≡ has_slot_at self.old k }
     {
-        if at == 0 {
-            self.first.clear();
-            return;
-        }
-        self.rest.clear(at as usize - 1);
+        self.blocks.clear(at as usize);
     }
 
     /// Makes a slot for each index from `a` up to `b`.
@@ -186,7 +164,7 @@ impl PageTable {
             → has_slot_at self.new k ≡ has_slot_at self.old k }
     {
         if b <= BLOCK {
-            return self.first.make_slots(a, b);
+            return self.blocks.first_mut().make_slots(a, b);
         }
         let mut at = a;
         while at < b {
@@ -206,10 +184,9 @@ impl PageTable {
         ensures kept { (k : ℕ) → has_slot_at self.old k ≡ true → has_slot_at self.new k ≡ true }
         ensures made { OnOk result (has_slot_at self.new i ≡ true) }
     {
-        if i < BLOCK {
-            return self.first.make_slot(i);
-        }
-        self.rest.make_slot((i / BLOCK) as usize - 1, i % BLOCK)
+        let at = (i / BLOCK) as usize;
+        self.blocks.make(at)?;
+        self.blocks.at_mut(at).make_slot(i % BLOCK)
     }
 
     // Makes a slot for each index of a block from `from` up to `to`.
@@ -228,9 +205,7 @@ impl PageTable {
         ensures others { (j : ℕ) → j ≢ at
             → slice_index_or self.new j [] ≡ slice_index_or self.old j [] }
     {
-        if at == 0 {
-            return self.first.make_slots(from, to);
-        }
-        self.rest.make_slots(at as usize - 1, from, to)
+        self.blocks.make(at as usize)?;
+        self.blocks.at_mut(at as usize).make_slots(from, to)
     }
 }

@@ -2,13 +2,12 @@
 use denote.Param.Send.{IsSend, sendable, view_send}
 use denote.Param.SendFields.{declared_send}
 use denote.RattleType.{RattleType}
+use Rattle.hp_inode.specs.contracts.block_list.BlockList as BlockList
 use Rattle.hp_inode.specs.contracts.chunk.Chunk as Chunk
 use Rattle.hp_inode.specs.contracts.entries.Entries as Entries
 use Rattle.hp_inode.specs.contracts.entry_block.EntryBlock as EntryBlock
 use Rattle.hp_inode.specs.contracts.indices.Indices as Indices
 use Rattle.hp_inode.specs.contracts.Inode as Inode
-use Rattle.hp_inode.specs.contracts.later_entries.LaterEntries as LaterEntries
-use Rattle.hp_inode.specs.contracts.later_pages.LaterPages as LaterPages
 use Rattle.hp_inode.specs.contracts.page_block.PageBlock as PageBlock
 use Rattle.hp_inode.specs.contracts.table.PageTable as PageTable
 use Rattle.hp_mapping.specs.contracts.dense.Dense as Dense
@@ -19,6 +18,7 @@ use Rattle.hp_mapping.specs.contracts.row.Row as Row
 use Rattle.hp_mapping.specs.contracts.sparse.Sparse as Sparse
 use Rattle.hp_mapping.specs.contracts.summed.Summed as Summed
 use Rattle.hp_mapping.specs.contracts.words.Words as Words
+use Rattle.hp_inode.specs.declared.block.Block.{Ghosts as BlockGhosts}
 use Rattle.hp_model.specs.declared.naming.Naming.{Ghosts}
 use Rattle.hp_mount.specs.contracts.mount.Mount as Mount
 use Rattle.hp_file.specs.contracts.file.File as File
@@ -68,20 +68,17 @@ chunk_send = search (sendable, crosses) depth 30
 entry_block_send : IsSend EntryBlock.the_row
 entry_block_send = search (sendable, crosses) depth 30
 
-later_entries_send : IsSend LaterEntries.the_row
-later_entries_send = search (sendable, crosses, entry_block_send) depth 30
+block_list_send : (B : RattleType) (block : BlockGhosts B.Denot) → IsSend B → IsSend (BlockList.the_row B block)
+block_list_send B block b = search (sendable, crosses) depth 30
 
 entries_send : IsSend Entries.the_row
-entries_send = search (sendable, crosses, entry_block_send, later_entries_send) depth 30
+entries_send = search (sendable, crosses, entry_block_send, block_list_send) depth 30
 
 page_block_send : IsSend PageBlock.the_row
 page_block_send = search (sendable, crosses, chunk_send) depth 30
 
-later_pages_send : IsSend LaterPages.the_row
-later_pages_send = search (sendable, crosses, page_block_send) depth 30
-
 page_table_send : IsSend PageTable.the_row
-page_table_send = search (sendable, crosses, page_block_send, later_pages_send) depth 30
+page_table_send = search (sendable, crosses, page_block_send, block_list_send) depth 30
 
 indices_send : IsSend Indices.the_row
 indices_send = search (sendable, crosses, page_table_send, entries_send) depth 30

@@ -1,6 +1,28 @@
-use Rattle.std.proofs.Common.{◌+◌, ◌-◌, ◌*◌, ◌/◌, ◌%◌, ◌<◌, ◌≤◌, length, ltb, ap, ◌∙◌, arith}
-use Rattle.hp_inode.proofs.Blocks.{room_for, added}
+use Rattle.std.proofs.Common.{◌≡◌, ◌+◌, ◌-◌, ◌*◌, ◌/◌, ◌%◌, ◌<◌, ◌≤◌, ◌||◌, true, [], set, Some, length, ltb, refl, ap, ◌∙◌, arith}
+use Rattle.std.proofs.Math.Bool.{or-false}
+use Rattle.hp_model.specs.beside.Ranges.{within}
+use Rattle.hp_inode.specs.Blocks.{has_place}
+use Rattle.hp_inode.specs.Later.{contents}
+use Rattle.hp_inode.specs.Marks.{marked}
+use Rattle.hp_inode.proofs.Blocks.{room_for, added, changed_there, near_changed, near_room, others_stay_there}
+use Rattle.hp_inode.proofs.Later.{block_there}
 use Rattle.hp_inode.proofs.entries.Entries.add.Goals as goal
+
+pub add-requires : goal.add-requires
+add-requires c less =
+    let blocks = c.self.inside.blocks in
+    let has : has_place (contents [] blocks) (c.args.b - 1) ≡ true = rw c.self.view_is (c.requires (c.args.b - 1) (omega (arith, less)) (omega (arith, less))) in
+    omega (arith, near_room (contents [] blocks) c.args.b (omega (arith, less)) c.if-b-le-BLOCK.true has, ap length (block_there [] blocks 0 c.first_mut.result.now c.first_mut.ensures.value))
+
+pub returns-then-b-le-BLOCK : goal.returns-then-b-le-BLOCK
+returns-then-b-le-BLOCK c =
+    let blocks = c.self.inside.blocks in
+    let old = c.first_mut.result.now in
+    let new = c.add.new.self in
+    let is = c.first_mut.ensures.value in
+    rw (← c.self.view_is) (near_changed ◌||◌ or-false (contents [] blocks) (contents [] (set blocks 0 (Some new))) c.args.a c.args.b c.if-b-le-BLOCK.true
+    (others_stay_there blocks blocks (λ j. refl) 0 old new is)
+    (λ k. changed_there blocks blocks (λ j. refl) 0 old new is (λ block. marked block k) (λ t. t || within c.args.a c.args.b k) (c.add.ensures k)))
 
 pub add_in-requires-clause-room : goal.add_in-requires-clause-room
 add_in-requires-clause-room c =

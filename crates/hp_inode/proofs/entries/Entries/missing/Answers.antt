@@ -4,7 +4,7 @@ use Rattle.hp_inode.proofs.Blocks.{counted_on, few_in, missed_here, near_missing
 use Rattle.hp_inode.proofs.entries.Entries.missing.Goals as goal
 
 pub returns-then-b-le-BLOCK : goal.returns-then-b-le-BLOCK
-returns-then-b-le-BLOCK c = rw (← c.self.view_is) (c.missing.ensures ∙ near_missing c.self.inside.first c.self.inside.rest c.args.a c.args.b c.if-b-le-BLOCK.true)
+returns-then-b-le-BLOCK c = c.missing_in.ensures ∙ near_missing c.args.self.now c.args.a c.args.b c.if-b-le-BLOCK.true
 
 pub overflow_add-missing : goal.overflow_add-missing
 overflow_add-missing c =

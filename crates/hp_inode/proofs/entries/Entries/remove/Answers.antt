@@ -1,11 +1,15 @@
-use Rattle.std.proofs.Common.{◌+◌, ◌-◌, ◌%◌, ◌≤◌, ◌∙◌, arith}
+use Rattle.std.proofs.Common.{◌+◌, ◌-◌, ◌%◌, ◌≤◌, ◌&&◌, not, ◌∙◌, arith}
+use Rattle.std.proofs.Math.Bool.{and-true}
 use Rattle.hp_inode.specs.Blocks.{entered_at}
-use Rattle.hp_inode.proofs.Blocks.{counted_here, counted_on, few_in, near_counted, still_entered, taken_out}
+use Rattle.hp_inode.proofs.Blocks.{counted_here, counted_on, few_in, near_changed, near_counted, still_entered, taken_out}
 use Rattle.hp_inode.proofs.entries.Entries.remove.Goals as goal
 
 pub returns-then-b-le-BLOCK-clause-count : goal.returns-then-b-le-BLOCK-clause-count
-returns-then-b-le-BLOCK-clause-count c =
-    rw (← c.self.view_is) (c.remove.ensures.count ∙ near_counted c.self.inside.first c.self.inside.rest c.args.a c.args.b c.if-b-le-BLOCK.true)
+returns-then-b-le-BLOCK-clause-count c = c.remove_in.ensures.count ∙ near_counted c.args.self.now c.args.a c.args.b c.if-b-le-BLOCK.true
+
+pub returns-then-b-le-BLOCK-clause-left : goal.returns-then-b-le-BLOCK-clause-left
+returns-then-b-le-BLOCK-clause-left c =
+    near_changed (λ t out. t && not out) and-true c.args.self.now c.remove_in.new.self c.args.a c.args.b c.if-b-le-BLOCK.true c.remove_in.ensures.others c.remove_in.ensures.here
 
 pub overflow_add-removed : goal.overflow_add-removed
 overflow_add-removed c =

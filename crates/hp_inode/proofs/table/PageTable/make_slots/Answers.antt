@@ -1,17 +1,42 @@
-use Rattle.std.proofs.Common.{◌+◌, ◌/◌, ◌%◌, ◌≤◌, ◌∷◌, ◌∙◌, arith}
-use Rattle.hp_inode.specs.Rows.{page_in}
-use Rattle.hp_inode.specs.Blocks.{RowBlocks}
-use Rattle.hp_inode.proofs.Blocks.{as_before, first_changed, kept_blocks, slots_below, slots_made, slots_stay, table_as_before}
+use Rattle.std.proofs.Common.{◌+◌, ◌/◌, ◌%◌, ◌≤◌, [], set, Some, refl, sym, ap, ◌∙◌, arith}
+use Rattle.hp_inode.specs.Later.{contents}
+use Rattle.hp_inode.specs.Rows.{has_slot, page_in}
+use Rattle.hp_inode.proofs.Blocks.{as_before, few_there, near_below, others_stay_there, pages_there, seen_there, slots_below, slots_made, slots_stay, table_there}
+use Rattle.hp_inode.proofs.Later.{block_there, here_now}
 use Rattle.hp_inode.proofs.table.PageTable.make_slots.Goals as goal
 
 pub invariant_of-self : goal.invariant_of-self
 invariant_of-self c =
-    let first = c.self.inside.first in
-    let rest : RowBlocks = c.self.inside.rest in
-    let others = first_changed first c.make_slots.new.self rest in
-    table_as_before (first ∷ rest) (c.make_slots.new.self ∷ rest) c.self.inside.bare_from c.self.inside.bare_to
-    (kept_blocks (first ∷ rest) (c.make_slots.new.self ∷ rest) 0 others c.self.invariant.blocks.few (λ k past. c.make_slots.ensures.pages k) c.self.invariant.blocks)
-    (as_before page_in (first ∷ rest) (c.make_slots.new.self ∷ rest) 0 others c.make_slots.ensures.pages) c.self.invariant
+    let s = c.self.inside in
+    let was = c.first_mut.result.now in
+    let is = c.first_mut.ensures.value in
+    table_there s.blocks s.blocks (λ j. refl) 0 was c.make_slots.new.self is c.make_slots.ensures.pages
+    (few_there s.blocks c.self.invariant.blocks.few) s.bare_from s.bare_to c.self.invariant
+
+pub returns-then-b-le-BLOCK-clause-pages : goal.returns-then-b-le-BLOCK-clause-pages
+returns-then-b-le-BLOCK-clause-pages c =
+    let blocks = c.self.inside.blocks in
+    rw (← c.self.view_is) (pages_there blocks blocks (λ j. refl) 0 c.first_mut.result.now c.make_slots.new.self c.first_mut.ensures.value c.make_slots.ensures.pages)
+
+pub returns-then-b-le-BLOCK-clause-kept : goal.returns-then-b-le-BLOCK-clause-kept
+returns-then-b-le-BLOCK-clause-kept c =
+    let blocks = c.self.inside.blocks in
+    let was = c.first_mut.result.now in
+    let now = c.make_slots.new.self in
+    let is = c.first_mut.ensures.value in
+    let old = contents [] blocks in
+    rw (← c.self.view_is) (slots_stay old old (contents [] (set blocks 0 (Some now))) 0 0 0 (omega arith) (omega arith) (others_stay_there blocks blocks (λ j. refl) 0 was now is)
+    (λ k has. ap (λ block. has_slot block k) (here_now [] blocks 0 was now is)
+    ∙ c.make_slots.ensures.kept k (ap (λ block. has_slot block k) (sym (block_there [] blocks 0 was is)) ∙ has)))
+
+pub returns-then-b-le-BLOCK-clause-below : goal.returns-then-b-le-BLOCK-clause-below
+returns-then-b-le-BLOCK-clause-below c =
+    let blocks = c.self.inside.blocks in
+    let was = c.first_mut.result.now in
+    let now = c.make_slots.new.self in
+    let is = c.first_mut.ensures.value in
+    rw (← c.self.view_is) (near_below (contents [] blocks) (contents [] (set blocks 0 (Some now))) c.args.a (others_stay_there blocks blocks (λ j. refl) 0 was now is)
+    (λ k below. seen_there blocks blocks (λ j. refl) 0 was now is (λ block. has_slot block k) (c.make_slots.ensures.below k below)))
 
 pub loop-at-preserved : goal.loop-at-preserved
 loop-at-preserved c =
