@@ -9,8 +9,8 @@ use Rattle.hp_model.proofs.Counting.{count_cons}
 use Rattle.hp_model.proofs.Ranges.{within-true, within-below, within-past}
 use Rattle.hp_model.specs.beside.Ranges.{within}
 use Rattle.hp_inode.specs.EntryBlock.{IsEntries}
-use Rattle.hp_inode.specs.Marks.{marked}
-use Rattle.hp_inode.proofs.Words.{unmarked_past}
+use Rattle.hp_marks.specs.Marks.{marked}
+use Rattle.hp_marks.proofs.Words.{unmarked_past}
 
 module _ (old new : ℕ → Bool) (i : ℕ) (others : (k : ℕ) → (k ≡ i → ⊥) → new k ≡ old k) where
   not_alone : (k : ℕ) → (k ≡ i → ⊥) → within i (i + 1) k ≡ false

@@ -12,7 +12,7 @@ use Rattle.hp_inode.specs.declared.form.Form.TheVariants.{Holes}
 use Rattle.hp_inode.specs.Blocks.{entered_count, missing_count, entered_at, page_at}
 use Rattle.hp_inode.specs.Form.{IsForm}
 use Rattle.hp_inode.specs.Kept.{IsKept, cell_by, cell_of, cells_of}
-use Rattle.hp_inode.proofs.Words.{unmarked_past}
+use Rattle.hp_marks.proofs.Words.{unmarked_past}
 
 -- in the empty lists there is no mark, and no page
 pub unmarked : (i : ℕ) → entered_at [] i ≡ false

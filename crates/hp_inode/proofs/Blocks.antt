@@ -1,6 +1,6 @@
 -- A change of one block, as a change of the indices of all.
 use Rattle.std.proofs.Common.{◌≡◌, ◌≢◌, ℕ, zero, suc, ◌+◌, ◌-◌, ◌*◌, ◌/◌, ◌%◌, ◌<◌, ◌≤◌, min, Bool, true, false, not, ◌&&◌, ◌||◌}
-use Rattle.std.proofs.Common.{List, [], ◌∷◌, length, get_or, set, cond, None, sym, refl, ap, ◌∙◌, arith, ⊎_elim, Option, Some, IsSome, subst}
+use Rattle.std.proofs.Common.{List, [], length, get_or, set, cond, None, sym, refl, ap, ◌∙◌, arith, ⊎_elim, Option, Some, IsSome, subst}
 use Rattle.std.specs.Option.{is_some, unwrap_or}
 use Rattle.std.specs.List.{range_with_len, count_by}
 use Rattle.std.proofs.Math.Bool.{or-false, and-true}
@@ -16,10 +16,10 @@ use Rattle.hp_model.specs.beside.Ranges.{within}
 use Rattle.hp_inode.specs.Blocks.{WordBlocks, RowBlocks, AreBlocks, block_at, entered_at, has_place, page_at, has_slot_at, entered_count, missing_count, IsRowTable}
 use Rattle.hp_inode.specs.EntryBlock.{count_in, missing_in}
 use Rattle.hp_inode.specs.Later.{contents}
-use Rattle.hp_inode.specs.Marks.{marked}
+use Rattle.hp_marks.specs.Marks.{marked}
 use Rattle.hp_inode.specs.Rows.{page_in, has_slot, IsTaken, TakesFirst, Rows}
 use Rattle.hp_inode.proofs.Removed.{parts_left}
-use Rattle.hp_inode.proofs.Words.{unmarked_past}
+use Rattle.hp_marks.proofs.Words.{unmarked_past}
 
 -- ---- one block for another
 
@@ -94,6 +94,12 @@ as_before see old new q others here k = ⊎_elim
     (λ (same : k / 65536 ≡ q). ap (λ j. see (get_or new j []) (k % 65536)) same ∙ here (k % 65536) ∙ ap (λ j. see (get_or old j []) (k % 65536)) (sym same))
     (λ (other : k / 65536 ≢ q). ap (λ block. see block (k % 65536)) (others (k / 65536) other))
     (cases_eq (k / 65536) q)
+
+pub all_there : {X B : Type 0} (see : List X → ℕ → B) (blocks kept : List (Option (List X))) (alike : (j : ℕ) → get_or (contents [] kept) j [] ≡ get_or (contents [] blocks) j []) (at : ℕ)
+    (old now : List X) (is : get_or kept at None ≡ Some old) → ((k : ℕ) → see now k ≡ see old k) →
+    (k : ℕ) → see (block_at (contents [] (set kept at (Some now))) k) (k % 65536) ≡ see (block_at (contents [] blocks) k) (k % 65536)
+all_there see blocks kept alike at old now is same = as_before see (contents [] blocks) (contents [] (set kept at (Some now))) at (others_stay_there blocks kept alike at old now is)
+    (λ k. seen_there blocks kept alike at old now is (λ block. see block k) (same k))
 
 module _ (old new : WordBlocks) (at count : ℕ) (fits : at % 65536 + count ≤ 65536) (others : KeepsOthers old new (at / 65536)) where
   stays : (k : ℕ) → k / 65536 ≢ at / 65536 → entered_at new k ≡ entered_at old k
@@ -389,15 +395,11 @@ module _ (old new : RowBlocks) (only : length old ≡ 1) (are : AreBlocks old) (
 -- a block changes, with the pages that it had
 module _ (blocks kept : List (Option Rows)) (alike : (j : ℕ) → get_or (contents [] kept) j [] ≡ get_or (contents [] blocks) j []) (at : ℕ) (old now : Rows) (is : get_or kept at None ≡ Some old)
     (pages : (k : ℕ) → page_in now k ≡ page_in old k) where
-  pub pages_there : (k : ℕ) → page_at (contents [] (set kept at (Some now))) k ≡ page_at (contents [] blocks) k
-  pages_there = as_before page_in (contents [] blocks) (contents [] (set kept at (Some now))) at (others_stay_there blocks kept alike at old now is)
-      (λ k. seen_there blocks kept alike at old now is (λ block. page_in block k) (pages k))
-
   pub table_there : length kept ≤ 65536 → (low high : ℕ) → IsRowTable (contents [] blocks) low high → IsRowTable (contents [] (set kept at (Some now))) low high
   table_there few low high was = table_as_before (contents [] blocks) (contents [] (set kept at (Some now))) low high
       (kept_blocks (contents [] blocks) (contents [] (set kept at (Some now))) at (others_stay_there blocks kept alike at old now is)
       (omega (arith, few, length_there blocks kept alike at old now is))
-      (λ k past. seen_there blocks kept alike at old now is (λ block. page_in block k) (pages k)) was.blocks) pages_there was
+      (λ k past. seen_there blocks kept alike at old now is (λ block. page_in block k) (pages k)) was.blocks) (all_there page_in blocks kept alike at old now is pages) was
 
 -- ---- a block without a page that is given back
 

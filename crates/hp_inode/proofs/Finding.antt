@@ -2,8 +2,8 @@
 use Rattle.std.proofs.Common.{◌≡◌, ℕ, ◌+◌, ◌*◌, ◌/◌, ◌%◌, ◌<◌, ◌≤◌, true, false, List, [], length, get_or, None, sym, ap, subst, ◌∙◌, arith, ⊎_elim}
 use Rattle.std.specs.Prelude.{IsSome}
 use Rattle.std.proofs.lemmas.Bool.{cases_lt, false≢true}
-use Rattle.hp_inode.specs.Marks.{marked, IsFirstFrom}
-use Rattle.hp_inode.proofs.Words.{unmarked_past}
+use Rattle.hp_marks.specs.Marks.{marked, IsFirstFrom}
+use Rattle.hp_marks.proofs.Words.{unmarked_past}
 use Rattle.hp_inode.specs.Rows.{Rows, slot_in, page_in, IsFirstIn, IsFirstSlot, IsTable}
 
 pub marked_within : (marks : List ℕ) (q : ℕ) → marked marks q ≡ true → q < 64 * length marks

@@ -7,12 +7,9 @@ mod Dropped
 mod Reserved
 mod Tables
 mod Taken
-mod Bits
-mod Words
 mod Spread
 mod Readying
 mod Paged
 mod Finding
-mod Cleared
 mod Removed
 mod Counted

@@ -14,11 +14,12 @@ use Rattle.hp_model.proofs.Counting.{count_split, count_outside, alike_in}
 use Rattle.hp_model.proofs.Ranges.{within-in, within-true, within-below, within-past}
 use Rattle.hp_model.specs.beside.Ranges.{within}
 use Rattle.hp_inode.specs.EntryBlock.{count_in, IsBlank, IsEntries, IsRemoved}
-use Rattle.hp_inode.specs.Marks.{marked, FindsWithin}
-use Rattle.hp_inode.proofs.Bits.{word_counted}
-use Rattle.hp_inode.proofs.Cleared.{kept}
-use Rattle.hp_inode.proofs.Spread.{marked_in_word, marked_elsewhere, cleared_here, bit_marked, counted_all, counted_none, counted_next, blank_words}
-use Rattle.hp_inode.proofs.Words.{unmarked_past}
+use Rattle.hp_marks.specs.Marks.{marked, FindsWithin}
+use Rattle.hp_marks.proofs.Bits.{word_counted}
+use Rattle.hp_marks.proofs.Cleared.{kept}
+use Rattle.hp_marks.proofs.Range.{marked_in_word, marked_elsewhere, cleared_here, bit_marked}
+use Rattle.hp_inode.proofs.Spread.{counted_all, counted_none, counted_next, blank_words}
+use Rattle.hp_marks.proofs.Words.{unmarked_past}
 
 -- ---- one range after another
 

@@ -8,8 +8,8 @@ use Rattle.std.proofs.lemmas.Bool.{cases_eq, cases_lt, cases_Bool, false≢true,
 use Rattle.std.proofs.lemmas.List.{get_or-set_same, get_or-set_other, get_or-replicate, get_or_past, nil_from_length, get_or_read}
 use Rattle.std.proofs.lemmas.List.{length-set, length-append, length-replicate, drop_all, take_all, append-nil}
 use Rattle.std.proofs.lemmas.Nat.Bits.{bit_at-zero}
-use Rattle.hp_inode.proofs.Words.{unmarked_in}
-use Rattle.hp_inode.specs.Marks.{marked}
+use Rattle.hp_marks.proofs.Words.{unmarked_in}
+use Rattle.hp_marks.specs.Marks.{marked}
 use Rattle.hp_inode.specs.Rows.{Rows, slot_in, page_in, has_slot, IsChunk, IsTable}
 
 -- the default past the end stays the default

@@ -4,7 +4,7 @@
 --     has_place words i      whether the index can be entered with no memory
 use Rattle.std.specs.Prelude.{ℕ, ◌≡◌, ◌-◌, ◌*◌, ◌/◌, ◌%◌, ◌<◌, ◌≤◌, Bool, not, List, [], length, nat_lt, Option, None}
 use Rattle.std.specs.List.{slice_index_or, range_with_len, count_by}
-use Rattle.hp_inode.specs.Marks.{marked}
+use Rattle.hp_marks.specs.Marks.{marked}
 use Rattle.hp_inode.specs.Rows.{Rows, page_in, has_slot}
 
 -- indices of a block

@@ -4,7 +4,7 @@
 use Rattle.std.specs.Prelude.{ℕ, ◌≡◌, ◌-◌, ◌*◌, ◌/◌, ◌<◌, ◌≤◌, ◌^◌, true, false, ◌&&◌, not, List, length, Option, MatchOption}
 use Rattle.std.specs.List.{range_with_len, count_by}
 use Rattle.hp_model.specs.beside.Ranges.{within}
-use Rattle.hp_inode.specs.Marks.{marked}
+use Rattle.hp_marks.specs.Marks.{marked}
 
 abbrev pub count_in : List ℕ → ℕ → ℕ → ℕ
 count_in words a b = count_by (marked words) (range_with_len a (b - a))

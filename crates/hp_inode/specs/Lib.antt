@@ -4,6 +4,5 @@ pub mod Form
 pub mod Kept
 pub mod Later
 pub mod Lends
-pub mod Marks
 pub mod Rows
 pub mod Ready

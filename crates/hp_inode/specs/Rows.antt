@@ -7,7 +7,7 @@
 use Rattle.std.specs.Prelude.{ℕ, ◌≡◌, ◌*◌, ◌/◌, ◌%◌, ◌<◌, ◌≤◌, ◌^◌, Bool, true, false, List, [], length, nat_lt, Option, None, Some, IsSome, MatchOption}
 use Rattle.std.specs.Option.{is_some}
 use Rattle.std.specs.List.{slice_index_or}
-use Rattle.hp_inode.specs.Marks.{marked}
+use Rattle.hp_marks.specs.Marks.{marked}
 
 abbrev pub Rows : Type 0
 Rows = List (List (Option ℕ))

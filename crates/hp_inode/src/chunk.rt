@@ -4,7 +4,7 @@ ghost use Rattle.std.specs.Option.{is_some};
 ghost use Rattle.std.specs.List.{count_by, range_with_len, slice_index_or, slice_set};
 ghost use Rattle.hp_inode.specs.Rows.{FindsSlot};
 
-use crate::marks::{bits_within, first_from, set_mark};
+use hp_marks::marks::{bits_within, first_in_word, set_mark};
 use hp_model::page_no::PageNo;
 use std::alloc::{AllocError, Global};
 use std::marker::Model;
@@ -99,6 +99,6 @@ impl Chunk {
     pub fn first_from(&self, n: usize) -> Option<usize>
         ensures { FindsSlot self.now n result }
     {
-        first_from(&self.marks, n)
+        first_in_word(&self.marks, n)
     }
 }

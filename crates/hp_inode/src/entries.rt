@@ -4,7 +4,7 @@ ghost use Rattle.std.specs.List.{slice_index_or};
 ghost use Rattle.hp_model.specs.beside.Ranges.{within};
 ghost use Rattle.hp_inode.specs.Blocks.{block_size, most_blocks, entered_at, has_place, entered_count, missing_count};
 ghost use Rattle.hp_inode.specs.EntryBlock.{count_in, missing_in};
-ghost use Rattle.hp_inode.specs.Marks.{marked};
+ghost use Rattle.hp_marks.specs.Marks.{marked};
 
 use crate::block::{BLOCK, within_block};
 use crate::block_list::BlockList;

@@ -2,10 +2,10 @@
 ghost use Rattle.std.specs.Prelude.{ℕ, ◌≡◌, ◌+◌, ◌-◌, ◌*◌, ◌/◌, ◌<◌, ◌≤◌, ◌^◌, ◌&&◌, ◌||◌, [], not, length, true, false, IfOk, IsTrue, OnOk, OnErr};
 ghost use Rattle.hp_model.specs.beside.Ranges.{within};
 ghost use Rattle.hp_inode.specs.EntryBlock.{count_in, missing_in, FindsWord, IsEntries, IsRemoved};
-ghost use Rattle.hp_inode.specs.Marks.{marked};
+ghost use Rattle.hp_marks.specs.Marks.{marked};
 
 use crate::block::Block;
-use crate::marks::{
+use hp_marks::marks::{
     WORD, bits_within, change_mark, clear_marks, first_within, make_places, set_mark, set_marks,
 };
 use smallvec::SmallVec;

@@ -21,7 +21,6 @@ mod entries;
 mod entry_block;
 mod form;
 mod indices;
-mod marks;
 mod page_block;
 mod places;
 mod ready;

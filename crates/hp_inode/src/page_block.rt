@@ -6,7 +6,7 @@ ghost use Rattle.hp_inode.specs.Rows.{page_in, has_slot, FindsSlot, FindsPage, T
 
 use crate::block::Block;
 use crate::chunk::{CHUNK, Chunk};
-use crate::marks::{change_mark, first_from, make_places};
+use hp_marks::marks::{change_mark, first_from, make_places};
 use hp_model::page_no::PageNo;
 use smallvec::SmallVec;
 use std::alloc::{AllocError, Global};

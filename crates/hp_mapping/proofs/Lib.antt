@@ -1,7 +1,7 @@
 pub mod Chunked
 pub mod FilledWords
 pub mod MarkedPlaces
-pub mod MarkedWords
 pub mod Packed
 pub mod Ranges
+pub mod SummedWords
 pub mod Untouched

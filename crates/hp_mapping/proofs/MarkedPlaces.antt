@@ -1,6 +1,6 @@
 -- Places with their marks, after a change of one place.
 use mir.Val.{bool_byte}
-use Rattle.std.proofs.Common.{refl, zero, suc, [], ◌∷◌, ◌||◌, replicate, map, Option, None, Some, IfSome, IfNone, is_some, not, ◌≡◌, ℕ, ◌*◌}
+use Rattle.std.proofs.Common.{refl, zero, suc, [], ◌∷◌, ◌||◌, replicate, map, Option, None, Some, is_some, not, ◌≡◌, ℕ, ◌*◌}
 use Rattle.std.proofs.Common.{◌<◌, ◌≤◌, ◌-◌, inl, inr, Bool, true, false, List, length, slice_index_or, slice_set, sym, ◌∙◌, ap, cond, ◌+◌, arith}
 use Rattle.std.proofs.lemmas.Bool.{cases_eq, cases_lt}
 use Rattle.std.proofs.lemmas.List.{get_or-set_same, get_or-set_other, length-set, get_or-replicate, get_or_past, length-replicate, length-map}
@@ -10,73 +10,71 @@ use Rattle.std.proofs.lemmas.List.Folds.{sum_by-replicate}
 use Rattle.hp_model.specs.declared.place.Place.{Place}
 use Rattle.hp_model.specs.declared.place.Place.TheVariants.{Gone, Live}
 use Rattle.hp_model.specs.files.Mapping.{copy_of, is_live, unconsumed, without_copy}
-use Rattle.hp_mapping.specs.Mapped.{has_copy, with_copy}
-use Rattle.hp_mapping.specs.Marks.{mark_at, one_if, AreCopiesCounted, ChangesMark, ArePlacesMarked, IsUnmarkedFrom, IsLowest}
-
-unmarked : (b : Bool) → one_if b ≡ 0 → b ≡ false
-unmarked true e = absurd (omega arith)
-unmarked false e = refl
-
-marked : (b : Bool) → one_if b ≡ 1 → b ≡ true
-marked true e = refl
-marked false e = absurd (omega arith)
+use Rattle.hp_mapping.specs.Mapped.{consumed, has_copy, with_copy}
+use Rattle.hp_marks.specs.Marks.{marked, FindsFrom}
+use Rattle.hp_mapping.specs.Marks.{AreCopiesCounted, AreMarked, ChangesMark, IsUnmarkedFrom}
 
 or_true : (a b : Bool) → b ≡ true → (a || b) ≡ true
 or_true true b e = refl
 or_true false b e = e
 
--- the marks of a test of the places, after a change of one place that the test sees as before
-same_test : (test : Place ℕ → Bool) (places : List (Place ℕ)) (marks : List ℕ) (at : ℕ) (p : Place ℕ) → at < length places
-    → ((k : ℕ) → mark_at marks k ≡ one_if (test (slice_index_or places k Gone))) → test p ≡ test (slice_index_or places at Gone)
-    → (k : ℕ) → mark_at marks k ≡ one_if (test (slice_index_or (slice_set places at p) k Gone))
-same_test test places marks at p within is same k =
-    elim (cases_eq k at) as (λ _. mark_at marks k ≡ one_if (test (slice_index_or (slice_set places at p) k Gone))) [
-      | inl e ↦ rw e (is at ∙ ap one_if (sym same) ∙ ap (λ q. one_if (test q)) (sym (get_or-set_same places at p Gone within)))
-      | inr other ↦ is k ∙ ap (λ q. one_if (test q)) (sym (get_or-set_other places at k p Gone other))
-    ]
+-- ---- the marks of a test of the places
 
--- and where its mark changed with it
-new_test : (test : Place ℕ → Bool) (places : List (Place ℕ)) (old new : List ℕ) (at mark : ℕ) (p : Place ℕ) → at < length places
-    → ((k : ℕ) → mark_at old k ≡ one_if (test (slice_index_or places k Gone))) → ChangesMark at mark old new → mark ≡ one_if (test p)
-    → (k : ℕ) → mark_at new k ≡ one_if (test (slice_index_or (slice_set places at p) k Gone))
-new_test test places old new at mark p within is changes fits k =
-    elim (cases_eq k at) as (λ _. mark_at new k ≡ one_if (test (slice_index_or (slice_set places at p) k Gone))) [
-      | inl e ↦ rw e (changes.here ∙ fits ∙ ap (λ q. one_if (test q)) (sym (get_or-set_same places at p Gone within)))
-      | inr other ↦ changes.others k other ∙ is k ∙ ap (λ q. one_if (test q)) (sym (get_or-set_other places at k p Gone other))
-    ]
-
-pub placed_same : (places : List (Place ℕ)) (live copies : List ℕ) (at : ℕ) (p : Place ℕ) → ArePlacesMarked places live copies → at < length places
-    → is_live p ≡ is_live (slice_index_or places at Gone) → has_copy p ≡ has_copy (slice_index_or places at Gone) → ArePlacesMarked (slice_set places at p) live copies
-placed_same places live copies at p s within same_live same_copy = record {
-  live_is = same_test is_live places live at p within s.live_is same_live;
-  copies_is = same_test has_copy places copies at p within s.copies_is same_copy;
-  live_room = omega (arith, length-set places at p, s.live_room);
-  copies_room = omega (arith, length-set places at p, s.copies_room);
+-- one place changes, and the test sees it as before
+same_marked : (test : Place ℕ → Bool) (places : List (Place ℕ)) (marks : List ℕ) (at : ℕ) (p : Place ℕ) → AreMarked test places marks → at < length places
+    → test p ≡ test (slice_index_or places at Gone) → AreMarked test (slice_set places at p) marks
+same_marked test places marks at p s within same = record {
+  are = λ k.
+      elim (cases_eq k at) as (λ _. marked marks k ≡ test (slice_index_or (slice_set places at p) k Gone)) [
+        | inl e ↦ rw e (s.are at ∙ sym same ∙ ap test (sym (get_or-set_same places at p Gone within)))
+        | inr other ↦ s.are k ∙ ap test (sym (get_or-set_other places at k p Gone other))
+      ];
+  room = omega (arith, length-set places at p, s.room);
 }
 
-pub placed_copy : (places : List (Place ℕ)) (live copies new : List ℕ) (at mark : ℕ) (p : Place ℕ) → ArePlacesMarked places live copies → at < length places
-    → is_live p ≡ is_live (slice_index_or places at Gone) → ChangesMark at mark copies new → mark ≡ one_if (has_copy p) → ArePlacesMarked (slice_set places at p) live new
-placed_copy places live copies new at mark p s within same changes fits = record {
-  live_is = same_test is_live places live at p within s.live_is same;
-  copies_is = new_test has_copy places copies new at mark p within s.copies_is changes fits;
-  live_room = omega (arith, length-set places at p, s.live_room);
-  copies_room = omega (arith, length-set places at p, s.copies_room, changes.len);
+-- or its mark changes with it
+new_marked : (test : Place ℕ → Bool) (places : List (Place ℕ)) (old new : List ℕ) (at : ℕ) (mark : Bool) (p : Place ℕ) → AreMarked test places old → at < length places
+    → ChangesMark at mark old new → mark ≡ test p → AreMarked test (slice_set places at p) new
+new_marked test places old new at mark p s within changes fits = record {
+  are = λ k.
+      elim (cases_eq k at) as (λ _. marked new k ≡ test (slice_index_or (slice_set places at p) k Gone)) [
+        | inl e ↦ rw e (changes.here ∙ fits ∙ ap test (sym (get_or-set_same places at p Gone within)))
+        | inr other ↦ changes.others k other ∙ s.are k ∙ ap test (sym (get_or-set_other places at k p Gone other))
+      ];
+  room = omega (arith, length-set places at p, s.room, changes.len);
 }
 
-pub placed_live : (places : List (Place ℕ)) (live copies new : List ℕ) (at mark : ℕ) (p : Place ℕ) → ArePlacesMarked places live copies → at < length places
-    → has_copy p ≡ has_copy (slice_index_or places at Gone) → ChangesMark at mark live new → mark ≡ one_if (is_live p) → ArePlacesMarked (slice_set places at p) new copies
-placed_live places live copies new at mark p s within same changes fits = record {
-  live_is = new_test is_live places live new at mark p within s.live_is changes fits;
-  copies_is = same_test has_copy places copies at p within s.copies_is same;
-  live_room = omega (arith, length-set places at p, s.live_room, changes.len);
-  copies_room = omega (arith, length-set places at p, s.copies_room);
+-- all places are fresh
+fresh_marked : (test : Place ℕ → Bool) (n : ℕ) (marks : List ℕ) → test Gone ≡ false → ((k : ℕ) → k < n → marked marks k ≡ test (Live false None)) → IsUnmarkedFrom n marks
+    → n ≤ 64 * length marks → AreMarked test (replicate n (Live false None)) marks
+fresh_marked test n marks gone on rest room =
+    let all : List (Place ℕ) = replicate n (Live false None) in
+    record {
+      are = λ k. elim (cases_lt k n) as (λ _. marked marks k ≡ test (slice_index_or all k Gone)) [
+        | inl below ↦ on k below ∙ ap test (sym (get_or-replicate n k (Live false None) Gone below))
+        | inr le ↦ rest k le ∙ sym gone ∙ ap test (sym (get_or_past all k Gone (omega (arith, length-replicate {A = Place ℕ} n (Live false None)))))
+      ];
+      room = omega (arith, length-replicate {A = Place ℕ} n (Live false None), room);
+    }
+
+pub forked_at : (places : List (Place ℕ)) (k : ℕ) → slice_index_or (map unconsumed places) k Gone ≡ unconsumed (slice_index_or places k Gone)
+forked_at [] k = refl
+forked_at (p ∷ places) zero = refl
+forked_at (p ∷ places) (suc k) = forked_at places k
+
+-- all are of a child's map
+forked_marked : (test : Place ℕ → Bool) (places : List (Place ℕ)) (marks : List ℕ) → ((p : Place ℕ) → test (unconsumed p) ≡ test p) → AreMarked test places marks
+    → AreMarked test (map unconsumed places) marks
+forked_marked test places marks same s = record {
+  are = λ k. s.are k ∙ sym (same (slice_index_or places k Gone)) ∙ ap test (sym (forked_at places k));
+  room = omega (arith, length-map places unconsumed, s.room);
 }
 
 pub copy_live : (page : ℕ) (p : Place ℕ) → is_live (with_copy page p) ≡ is_live p
 copy_live page Gone = refl
 copy_live page (Live was copy) = refl
 
-pub copy_some : (page : ℕ) (p : Place ℕ) → is_live p ≡ true → 1 ≡ one_if (has_copy (with_copy page p))
+pub copy_some : (page : ℕ) (p : Place ℕ) → is_live p ≡ true → true ≡ has_copy (with_copy page p)
 copy_some page Gone live = cc
 copy_some page (Live was copy) live = refl
 
@@ -85,35 +83,6 @@ live_within [] at live = cc
 live_within (p ∷ places) zero live = omega arith
 live_within (p ∷ places) (suc at) live = let rest = live_within places at live in omega arith
 
--- a live place got a copy
-pub placed_copied : (places : List (Place ℕ)) (live copies new : List ℕ) (at page : ℕ) → ArePlacesMarked places live copies
-    → is_live (slice_index_or places at Gone) ≡ true → ChangesMark at 1 copies new → ArePlacesMarked (slice_set places at (with_copy page (slice_index_or places at Gone))) live new
-placed_copied places live copies new at page s here changes =
-    placed_copy places live copies new at 1 (with_copy page (slice_index_or places at Gone)) s (live_within places at here)
-    (copy_live page (slice_index_or places at Gone)) changes (copy_some page (slice_index_or places at Gone) here)
-
--- ---- all places
-
-pub placed_fresh : (n : ℕ) (live copies : List ℕ) → ((k : ℕ) → k < n → mark_at live k ≡ 1) → IsUnmarkedFrom n live → IsUnmarkedFrom 0 copies → n ≤ 64 * length live → n ≤ 64 * length copies
-    → ArePlacesMarked (replicate n (Live false None)) live copies
-placed_fresh n live copies marked rest blank live_room copies_room =
-    let fresh : Place ℕ = Live false None in
-    let all : List (Place ℕ) = replicate n fresh in
-    let at : (k : ℕ) → k < n → slice_index_or all k Gone ≡ fresh = λ k below. get_or-replicate n k fresh Gone below in
-    let past : (k : ℕ) → n ≤ k → slice_index_or all k Gone ≡ Gone = λ k le. get_or_past all k Gone (omega (arith, length-replicate n fresh)) in
-    record {
-      live_is = λ k. elim (cases_lt k n) as (λ _. mark_at live k ≡ one_if (is_live (slice_index_or all k Gone))) [
-        | inl below ↦ rw (at k below) (marked k below)
-        | inr le ↦ rw (past k le) (rest k le)
-      ];
-      copies_is = λ k. elim (cases_lt k n) as (λ _. mark_at copies k ≡ one_if (has_copy (slice_index_or all k Gone))) [
-        | inl below ↦ rw (at k below) (blank k (omega arith))
-        | inr le ↦ rw (past k le) (blank k (omega arith))
-      ];
-      live_room = omega (arith, length-replicate n fresh);
-      copies_room = omega (arith, length-replicate n fresh);
-    }
-
 live_forked : (p : Place ℕ) → is_live (unconsumed p) ≡ is_live p
 live_forked Gone = refl
 live_forked (Live was copy) = refl
@@ -121,19 +90,6 @@ live_forked (Live was copy) = refl
 copy_forked : (p : Place ℕ) → has_copy (unconsumed p) ≡ has_copy p
 copy_forked Gone = refl
 copy_forked (Live was copy) = refl
-
-pub forked_at : (places : List (Place ℕ)) (k : ℕ) → slice_index_or (map unconsumed places) k Gone ≡ unconsumed (slice_index_or places k Gone)
-forked_at [] k = refl
-forked_at (p ∷ places) zero = refl
-forked_at (p ∷ places) (suc k) = forked_at places k
-
-pub placed_forked : (places : List (Place ℕ)) (live copies : List ℕ) → ArePlacesMarked places live copies → ArePlacesMarked (map unconsumed places) live copies
-placed_forked places live copies s = record {
-  live_is = λ k. s.live_is k ∙ ap one_if (sym (live_forked (slice_index_or places k Gone)) ∙ ap is_live (sym (forked_at places k)));
-  copies_is = λ k. s.copies_is k ∙ ap one_if (sym (copy_forked (slice_index_or places k Gone)) ∙ ap has_copy (sym (forked_at places k)));
-  live_room = omega (arith, length-map places unconsumed, s.live_room);
-  copies_room = omega (arith, length-map places unconsumed, s.copies_room);
-}
 
 any_at : (places : List (Place ℕ)) (k : ℕ) → is_live (slice_index_or places k Gone) ≡ true → list_any is_live places ≡ true
 any_at [] k live = live
@@ -145,10 +101,9 @@ any_none [] none = refl
 any_none (p ∷ places) none = rw (none 0) (any_none places (λ k. none (suc k)))
 
 -- whether a live place is left is whether a mark is
-pub some_live : (found : Option ℕ) (places : List (Place ℕ)) (live copies : List ℕ) → ArePlacesMarked places live copies
-    → IfSome found (λ at. IsLowest 0 at live) → IfNone found (IsUnmarkedFrom 0 live) → is_some found ≡ list_any is_live places
-some_live None places live copies s some none = sym (any_none places (λ k. unmarked (is_live (slice_index_or places k Gone)) (sym (s.live_is k) ∙ none k (omega arith))))
-some_live (Some at) places live copies s some none = sym (any_at places at (marked (is_live (slice_index_or places at Gone)) (sym (s.live_is at) ∙ some.marked)))
+pub some_live : (found : Option ℕ) (places : List (Place ℕ)) (live : List ℕ) → AreMarked is_live places live → FindsFrom live 0 found → is_some found ≡ list_any is_live places
+some_live None places live s none = sym (any_none places (λ k. sym (s.are k) ∙ none k (omega arith)))
+some_live (Some at) places live s found = sym (any_at places at (sym (s.are at) ∙ found.here))
 
 -- ---- how many have a copy
 
@@ -180,12 +135,37 @@ count_forked (p ∷ places) =
 
 -- ---- places with their marks and their count
 
-pub counted_fresh : (n : ℕ) (live copies : List ℕ) → ((k : ℕ) → k < n → mark_at live k ≡ 1) → IsUnmarkedFrom n live → IsUnmarkedFrom 0 copies → n ≤ 64 * length live → n ≤ 64 * length copies
+pub counted_fresh : (n : ℕ) (live copies : List ℕ) → ((k : ℕ) → k < n → marked live k ≡ true) → IsUnmarkedFrom n live → IsUnmarkedFrom 0 copies → n ≤ 64 * length live → n ≤ 64 * length copies
     → AreCopiesCounted 0 (replicate n (Live false None)) live copies
-counted_fresh n live copies marked rest blank live_room copies_room = record { placed = placed_fresh n live copies marked rest blank live_room copies_room; count_is = sym (count_fresh n) }
+counted_fresh n live copies on rest blank live_room copies_room = record {
+  live_are = fresh_marked is_live n live refl on rest live_room;
+  copies_are = fresh_marked has_copy n copies refl (λ k below. blank k (omega arith)) (λ k from. blank k (omega arith)) copies_room;
+  count_is = sym (count_fresh n);
+}
 
 pub counted_forked : (count : ℕ) (places : List (Place ℕ)) (live copies : List ℕ) → AreCopiesCounted count places live copies → AreCopiesCounted count (map unconsumed places) live copies
-counted_forked count places live copies s = record { placed = placed_forked places live copies s.placed; count_is = s.count_is ∙ sym (count_forked places) }
+counted_forked count places live copies s = record {
+  live_are = forked_marked is_live places live live_forked s.live_are;
+  copies_are = forked_marked has_copy places copies copy_forked s.copies_are;
+  count_is = s.count_is ∙ sym (count_forked places);
+}
+
+-- a reservation was consumed
+pub counted_consumed : (count : ℕ) (places : List (Place ℕ)) (live copies : List ℕ) (at : ℕ) → AreCopiesCounted count places live copies → at < length places →
+    AreCopiesCounted count (slice_set places at (consumed (slice_index_or places at Gone))) live copies
+counted_consumed count places live copies at s within = record {
+  live_are = same_marked is_live places live at (consumed (slice_index_or places at Gone)) s.live_are within (live_as (slice_index_or places at Gone));
+  copies_are = same_marked has_copy places copies at (consumed (slice_index_or places at Gone)) s.copies_are within (copy_as (slice_index_or places at Gone));
+  count_is = s.count_is ∙ sym (count_same places at (consumed (slice_index_or places at Gone)) within (copy_as (slice_index_or places at Gone)));
+}
+  where
+    live_as : (p : Place ℕ) → is_live (consumed p) ≡ is_live p
+    live_as Gone = refl
+    live_as (Live was copy) = refl
+
+    copy_as : (p : Place ℕ) → has_copy (consumed p) ≡ has_copy p
+    copy_as Gone = refl
+    copy_as (Live was copy) = refl
 
 copy_none : (p : Place ℕ) → copy_of p ≡ None → has_copy p ≡ false
 copy_none p e = ap (λ (o : Option ℕ). is_some o) e
@@ -196,10 +176,12 @@ one_at_most false = omega arith
 
 -- a place got a copy: it was bare, or it had another
 pub counted_copied : (count more : ℕ) (places : List (Place ℕ)) (live copies new : List ℕ) (at page : ℕ) (bare : Bool) → AreCopiesCounted count places live copies
-    → is_live (slice_index_or places at Gone) ≡ true → ChangesMark at 1 copies new → more ≡ bool_byte bare → bare ≡ not (has_copy (slice_index_or places at Gone))
+    → is_live (slice_index_or places at Gone) ≡ true → ChangesMark at true copies new → more ≡ bool_byte bare → bare ≡ not (has_copy (slice_index_or places at Gone))
     → AreCopiesCounted (count + more) (slice_set places at (with_copy page (slice_index_or places at Gone))) live new
 counted_copied count more places live copies new at page bare s here changes more_is bare_is = record {
-  placed = placed_copied places live copies new at page s.placed here changes;
+  live_are = same_marked is_live places live at (with_copy page (slice_index_or places at Gone)) s.live_are within (copy_live page (slice_index_or places at Gone));
+  copies_are = new_marked has_copy places copies new at true (with_copy page (slice_index_or places at Gone)) s.copies_are within changes
+      (copy_some page (slice_index_or places at Gone) here);
   count_is = by (has_copy (slice_index_or places at Gone)) refl (more_is ∙ ap bool_byte bare_is);
 }
   where
@@ -207,7 +189,7 @@ counted_copied count more places live copies new at page bare s here changes mor
     within = live_within places at here
 
     some : has_copy (with_copy page (slice_index_or places at Gone)) ≡ true
-    some = marked (has_copy (with_copy page (slice_index_or places at Gone))) (sym (copy_some page (slice_index_or places at Gone) here))
+    some = sym (copy_some page (slice_index_or places at Gone) here)
 
     by : (b : Bool) → has_copy (slice_index_or places at Gone) ≡ b → more ≡ bool_byte (not (has_copy (slice_index_or places at Gone))) →
         count + more ≡ count_by has_copy (slice_set places at (with_copy page (slice_index_or places at Gone)))
@@ -219,14 +201,15 @@ counted_copied count more places live copies new at page bare s here changes mor
 
 -- a copy went
 pub counted_bare : (count : ℕ) (places : List (Place ℕ)) (live copies new : List ℕ) (at : ℕ) → AreCopiesCounted count places live copies
-    → is_some (copy_of (slice_index_or places at Gone)) ≡ true → ChangesMark at 0 copies new
+    → is_some (copy_of (slice_index_or places at Gone)) ≡ true → ChangesMark at false copies new
     → AreCopiesCounted (count - 1) (slice_set places at (without_copy (slice_index_or places at Gone))) live new
 counted_bare count places live copies new at s here changes =
     let within = live_within places at (copied_live (slice_index_or places at Gone) here) in
     let step = count_less places at (without_copy (slice_index_or places at Gone)) within (bare_copy (slice_index_or places at Gone)) here in
     record {
-      placed = placed_copy places live copies new at 0 (without_copy (slice_index_or places at Gone)) s.placed within
-          (bare_live (slice_index_or places at Gone)) changes (ap one_if (sym (bare_copy (slice_index_or places at Gone))));
+      live_are = same_marked is_live places live at (without_copy (slice_index_or places at Gone)) s.live_are within (bare_live (slice_index_or places at Gone));
+      copies_are = new_marked has_copy places copies new at false (without_copy (slice_index_or places at Gone)) s.copies_are within changes
+          (sym (bare_copy (slice_index_or places at Gone)));
       count_is = omega (arith, step, s.count_is);
     }
   where
@@ -244,8 +227,12 @@ counted_bare count places live copies new at s here changes =
 
 -- a place without a copy left
 pub counted_left : (count : ℕ) (places : List (Place ℕ)) (live copies new : List ℕ) (at : ℕ) → AreCopiesCounted count places live copies
-    → is_live (slice_index_or places at Gone) ≡ true → copy_of (slice_index_or places at Gone) ≡ None → ChangesMark at 0 live new → AreCopiesCounted count (slice_set places at Gone) new copies
+    → is_live (slice_index_or places at Gone) ≡ true → copy_of (slice_index_or places at Gone) ≡ None → ChangesMark at false live new → AreCopiesCounted count (slice_set places at Gone) new copies
 counted_left count places live copies new at s here clear changes =
     let within = live_within places at here in
     let none = sym (copy_none (slice_index_or places at Gone) clear) in
-    record { placed = placed_live places live copies new at 0 Gone s.placed within none changes refl; count_is = s.count_is ∙ sym (count_same places at Gone within none) }
+    record {
+      live_are = new_marked is_live places live new at false Gone s.live_are within changes refl;
+      copies_are = same_marked has_copy places copies at Gone s.copies_are within none;
+      count_is = s.count_is ∙ sym (count_same places at Gone within none);
+    }

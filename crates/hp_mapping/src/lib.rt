@@ -1,7 +1,6 @@
 //! A task's map of a range of a file.
 #![tactic(auto)]
 
-mod bits;
 mod dense;
 mod flags;
 mod mapping;

@@ -1,6 +1,7 @@
 //! The marks of a map, few or many.
-ghost use Rattle.std.specs.Prelude.{◌≡◌, ℕ, ◌*◌, ◌<◌, ◌≤◌, length, IfOk, IfSome, IfNone};
-ghost use Rattle.hp_mapping.specs.Marks.{mark_at, IsUnmarkedFrom, IsLowest, ChangesMark};
+ghost use Rattle.std.specs.Prelude.{◌≡◌, ℕ, ◌*◌, ◌<◌, ◌≤◌, true, false, length, IfOk};
+ghost use Rattle.hp_marks.specs.Marks.{marked, FindsFrom};
+ghost use Rattle.hp_mapping.specs.Marks.{IsUnmarkedFrom, ChangesMark};
 
 use crate::summed::Summed;
 use crate::word::Word;
@@ -47,7 +48,7 @@ impl Marks {
 
     /// Marks of all numbers below `count`.
     pub(crate) fn all(alloc: Global, count: usize) -> Result<Self, AllocError>
-        ensures marked { IfOk result (λ m. (k : ℕ) → k < count → mark_at m k ≡ 1) }
+        ensures marked { IfOk result (λ m. (k : ℕ) → k < count → marked m k ≡ true) }
         ensures blank { IfOk result (λ m. IsUnmarkedFrom count m) }
         ensures room { IfOk result (λ m. count ≤ 64 * length m) }
     {
@@ -72,7 +73,7 @@ impl Marks {
 
     pub(crate) fn mark(&mut self, at: usize)
         requires { at < 64 * length self.old }
-        ensures { ChangesMark at 1 self.old self.new }
+        ensures { ChangesMark at true self.old self.new }
     {
         match &mut self.form {
             Form::Few(word) => word.mark(at),
@@ -82,7 +83,7 @@ impl Marks {
 
     pub(crate) fn unmark(&mut self, at: usize)
         requires { at < 64 * length self.old }
-        ensures { ChangesMark at 0 self.old self.new }
+        ensures { ChangesMark at false self.old self.new }
     {
         match &mut self.form {
             Form::Few(word) => word.unmark(at),
@@ -92,8 +93,7 @@ impl Marks {
 
     /// The lowest mark from `from` on.
     pub(crate) fn next(&self, from: usize) -> Option<usize>
-        ensures some { IfSome result (λ at. IsLowest from at self.now) }
-        ensures none { IfNone result (IsUnmarkedFrom from self.now) }
+        ensures { FindsFrom self.now from result }
     {
         match &self.form {
             Form::Few(word) => word.next(from),

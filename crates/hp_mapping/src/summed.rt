@@ -1,8 +1,11 @@
 //! Many marks, which are found without a step for each number that has none.
-ghost use Rattle.std.specs.Prelude.{◌≡◌, ℕ, ◌*◌, ◌<◌, ◌≤◌, length, IfOk, IfSome, IfNone};
-ghost use Rattle.hp_mapping.specs.Marks.{mark_at, IsUnmarkedFrom, IsLowest, ChangesMark};
+ghost use Rattle.std.specs.Prelude.{◌≡◌, ℕ, ◌*◌, ◌<◌, ◌≤◌, true, false, length, IfOk};
+ghost use Rattle.hp_marks.specs.Marks.{marked, FindsFrom};
+ghost use Rattle.hp_mapping.specs.Marks.{IsUnmarkedFrom, ChangesMark};
 
-use crate::words::Words;
+use crate::words::{all_marks, no_marks};
+use hp_marks::marks::{WORD, change_mark, first_from, first_in_word, lowest_in};
+use smallvec::SmallVec;
 use std::alloc::{AllocError, Global};
 use std::marker::Model;
 
@@ -10,8 +13,8 @@ use std::marker::Model;
 /// 4,096 numbers at a step. Contracts see the words.
 #[derive(Drop)]
 pub(crate) struct Summed {
-    words: Words,
-    above: Words,
+    words: SmallVec<u64, 1>,
+    above: SmallVec<u64, 1>,
 }
 
 impl Model for Summed {
@@ -20,9 +23,9 @@ impl Model for Summed {
 
     ghost Value = { List ℕ };
 
-    ghost view = { λ m. m.words };
+    ghost view = { λ m. m.words.items };
 
-    ghost invariant = { λ m. IsSummed m.words m.above };
+    ghost invariant = { λ m. IsSummed m.words.items m.above.items };
 }
 
 impl Summed {
@@ -31,19 +34,19 @@ impl Summed {
         ensures blank { IfOk result (λ m. IsUnmarkedFrom 0 m) }
         ensures room { IfOk result (λ m. count ≤ 64 * length m) }
     {
-        let words = Words::new(alloc, count)?;
-        let above = Words::new(alloc, words.len())?;
+        let words = no_marks(alloc, count)?;
+        let above = no_marks(alloc, words.len())?;
         Ok(Summed { words, above })
     }
 
     /// Marks of all numbers below `count`.
     pub(crate) fn all(alloc: Global, count: usize) -> Result<Self, AllocError>
-        ensures marked { IfOk result (λ m. (k : ℕ) → k < count → mark_at m k ≡ 1) }
+        ensures marked { IfOk result (λ m. (k : ℕ) → k < count → marked m k ≡ true) }
         ensures blank { IfOk result (λ m. IsUnmarkedFrom count m) }
         ensures room { IfOk result (λ m. count ≤ 64 * length m) }
     {
-        let words = Words::all(alloc, count)?;
-        let above = Words::all(alloc, count.div_ceil(64))?;
+        let words = all_marks(alloc, count)?;
+        let above = all_marks(alloc, count.div_ceil(WORD))?;
         Ok(Summed { words, above })
     }
 
@@ -51,37 +54,38 @@ impl Summed {
     pub(crate) fn copied(&self) -> Result<Self, AllocError>
         ensures { IfOk result (λ m. m ≡ self.now) }
     {
-        let words = self.words.copied()?;
-        let above = self.above.copied()?;
+        let words = SmallVec::from_slice(*self.words.allocator(), self.words.as_slice())?;
+        let above = SmallVec::from_slice(*self.above.allocator(), self.above.as_slice())?;
         Ok(Summed { words, above })
     }
 
     pub(crate) fn mark(&mut self, at: usize)
         requires { at < 64 * length self.old }
-        ensures { ChangesMark at 1 self.old self.new }
+        ensures { ChangesMark at true self.old self.new }
     {
-        self.words.mark(at);
-        self.above.mark(at / 64);
+        change_mark(&mut self.words, at, false, true);
+        change_mark(&mut self.above, at / WORD, false, true);
     }
 
     pub(crate) fn unmark(&mut self, at: usize)
         requires { at < 64 * length self.old }
-        ensures { ChangesMark at 0 self.old self.new }
+        ensures { ChangesMark at false self.old self.new }
     {
-        if self.words.unmark(at) {
-            self.above.unmark(at / 64);
+        change_mark(&mut self.words, at, true, false);
+        if self.words.as_slice()[at / WORD] == 0 {
+            change_mark(&mut self.above, at / WORD, true, false);
         }
     }
 
     /// The lowest mark from `from` on.
     pub(crate) fn next(&self, from: usize) -> Option<usize>
-        ensures some { IfSome result (λ at. IsLowest from at self.now) }
-        ensures none { IfNone result (IsUnmarkedFrom from self.now) }
+        ensures { FindsFrom self.now from result }
     {
-        if let Some(at) = self.words.next_in_word(from) {
+        let words = self.words.as_slice();
+        if let Some(at) = first_in_word(words, from) {
             return Some(at);
         }
-        let word = self.above.next(from / 64 + 1)?;
-        Some(self.words.lowest_in(word))
+        let word = first_from(self.above.as_slice(), from / WORD + 1)?;
+        Some(lowest_in(words, word))
     }
 }

@@ -1,34 +1,36 @@
 //! Marks in a word.
-ghost use Rattle.std.specs.Prelude.{◌*◌, ◌<◌, ◌≤◌, ◌≡◌, ℕ, length, IfSome, IfNone};
-ghost use Rattle.hp_mapping.specs.Marks.{mark_at, IsUnmarkedFrom, IsLowest, ChangesMark};
+ghost use Rattle.std.specs.Prelude.{◌*◌, ◌<◌, ◌≡◌, ℕ, true, false, length};
+ghost use Rattle.hp_marks.specs.Marks.{marked, FindsFrom};
+ghost use Rattle.hp_mapping.specs.Marks.{IsUnmarkedFrom, ChangesMark};
 
-use crate::bits::{bits_below, lowest_from, with_bit, without_bit};
+use crate::words::bits_below;
+use hp_marks::marks::{first_in_word, set_mark};
 use std::marker::Model;
 
 /// A mark for each number below 64. Contracts see the word as the only one of a list.
 #[derive(Drop)]
 pub(crate) struct Word {
-    bits: u64,
+    bits: [u64; 1],
 }
 
 impl Model for Word {
-    ghost use Rattle.std.specs.Prelude.{ℕ, List, ◌∷◌, []};
+    ghost use Rattle.std.specs.Prelude.{ℕ, List};
 
     ghost Value = { List ℕ };
 
-    ghost view = { λ w. w.bits ∷ [] };
+    ghost view = { λ w. w.bits };
 }
 
 impl Word {
     /// Marks of all numbers below `count`.
     pub(crate) fn all(count: usize) -> Self
         requires { count < 64 }
-        ensures marked { (k : ℕ) → k < count → mark_at result k ≡ 1 }
+        ensures marked { (k : ℕ) → k < count → marked result k ≡ true }
         ensures blank { IsUnmarkedFrom count result }
         ensures room { length result ≡ 1 }
     {
         Word {
-            bits: bits_below(count),
+            bits: [bits_below(count)],
         }
     }
 
@@ -41,28 +43,22 @@ impl Word {
 
     pub(crate) fn mark(&mut self, at: usize)
         requires { at < 64 * length self.old }
-        ensures { ChangesMark at 1 self.old self.new }
+        ensures { ChangesMark at true self.old self.new }
     {
-        self.bits = with_bit(self.bits, at);
+        set_mark(&mut self.bits, at, true);
     }
 
     pub(crate) fn unmark(&mut self, at: usize)
         requires { at < 64 * length self.old }
-        ensures { ChangesMark at 0 self.old self.new }
+        ensures { ChangesMark at false self.old self.new }
     {
-        self.bits = without_bit(self.bits, at);
+        set_mark(&mut self.bits, at, false);
     }
 
     /// The lowest mark from `from` on.
     pub(crate) fn next(&self, from: usize) -> Option<usize>
-        ensures some { IfSome result (λ at. IsLowest from at self.now) }
-        ensures none { IfNone result (IsUnmarkedFrom from self.now) }
+        ensures { FindsFrom self.now from result }
     {
-        let bits = self.bits;
-        if from < 64 {
-            lowest_from(bits, from)
-        } else {
-            None
-        }
+        first_in_word(&self.bits, from)
     }
 }

@@ -10,6 +10,7 @@ use Rattle.hp_inode.specs.contracts.indices.Indices as Indices
 use Rattle.hp_inode.specs.contracts.Inode as Inode
 use Rattle.hp_inode.specs.contracts.page_block.PageBlock as PageBlock
 use Rattle.hp_inode.specs.contracts.table.PageTable as PageTable
+use Rattle.hp_inode.specs.declared.block.Block.{Ghosts as BlockGhosts}
 use Rattle.hp_mapping.specs.contracts.dense.Dense as Dense
 use Rattle.hp_mapping.specs.contracts.mapping.Mapping as Mapping
 use Rattle.hp_mapping.specs.contracts.marks.Marks as Marks
@@ -17,8 +18,6 @@ use Rattle.hp_mapping.specs.contracts.places.Places as Places
 use Rattle.hp_mapping.specs.contracts.row.Row as Row
 use Rattle.hp_mapping.specs.contracts.sparse.Sparse as Sparse
 use Rattle.hp_mapping.specs.contracts.summed.Summed as Summed
-use Rattle.hp_mapping.specs.contracts.words.Words as Words
-use Rattle.hp_inode.specs.declared.block.Block.{Ghosts as BlockGhosts}
 use Rattle.hp_model.specs.declared.naming.Naming.{Ghosts}
 use Rattle.hp_mount.specs.contracts.mount.Mount as Mount
 use Rattle.hp_file.specs.contracts.file.File as File
@@ -38,11 +37,8 @@ use Rattle.hp_store.specs.contracts.store.PageStore as PageStore
 use Rattle.hp_subpool.specs.contracts.subpool.Subpool as Subpool
 use Rattle.std.proofs.Crossing.{crosses}
 
-words_send : IsSend Words.the_row
-words_send = search (sendable, crosses) depth 30
-
 summed_send : IsSend Summed.the_row
-summed_send = search (sendable, words_send) depth 30
+summed_send = search (sendable, crosses) depth 30
 
 marks_send : IsSend Marks.the_row
 marks_send = search (sendable, crosses, summed_send) depth 30

@@ -1,5 +1,5 @@
 use Rattle.std.proofs.Common.{arith, rules, ◌≡◌, ◌*◌, ◌+◌, ◌-◌, ◌<◌, ◌^◌, get_or, set, count_ones}
-use Rattle.hp_inode.proofs.Bits.{full_ones}
+use Rattle.hp_marks.proofs.Bits.{full_ones}
 use Rattle.hp_inode.proofs.Removed.{joined, removed_word, not_begun}
 use Rattle.hp_inode.proofs.entry_block.clear_full.Goals as goal
 

@@ -1,5 +1,5 @@
 use Rattle.std.proofs.Common.{ℕ, ◌≡◌, ◌*◌, ◌-◌, ◌<◌, ◌≤◌, true}
-use Rattle.hp_inode.specs.Marks.{marked}
+use Rattle.hp_marks.specs.Marks.{marked}
 use Rattle.hp_inode.proofs.entry_block.full_to.Given as goal
 
 abbrev pub invariant-loop-at : goal.invariant-loop-at

@@ -2,7 +2,7 @@ use Rattle.std.proofs.Common.{◌-◌, ◌<◌, ◌^◌, None, get_or, ap, ◌�
 use Rattle.std.specs.List.{count_by, range_with_len}
 use Rattle.std.specs.Option.{is_some}
 use Rattle.hp_model.proofs.Counting.{count_alike}
-use Rattle.hp_inode.specs.Marks.{marked}
+use Rattle.hp_marks.specs.Marks.{marked}
 use Rattle.hp_inode.proofs.Removed.{counted_in_word}
 use Rattle.hp_inode.proofs.chunk.Chunk.count.Goals as goal
 

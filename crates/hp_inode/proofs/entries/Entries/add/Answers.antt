@@ -3,7 +3,7 @@ use Rattle.std.proofs.Math.Bool.{or-false}
 use Rattle.hp_model.specs.beside.Ranges.{within}
 use Rattle.hp_inode.specs.Blocks.{has_place}
 use Rattle.hp_inode.specs.Later.{contents}
-use Rattle.hp_inode.specs.Marks.{marked}
+use Rattle.hp_marks.specs.Marks.{marked}
 use Rattle.hp_inode.proofs.Blocks.{room_for, added, changed_there, near_changed, near_room, others_stay_there}
 use Rattle.hp_inode.proofs.Later.{block_there}
 use Rattle.hp_inode.proofs.entries.Entries.add.Goals as goal

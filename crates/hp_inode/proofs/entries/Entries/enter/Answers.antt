@@ -2,7 +2,7 @@ use Rattle.std.proofs.Common.{◌+◌, ◌/◌, ◌%◌, ◌||◌, [], set, Some
 use Rattle.std.proofs.lemmas.Result.{on_ok_weaker}
 use Rattle.hp_model.specs.beside.Ranges.{within}
 use Rattle.hp_inode.specs.Later.{contents}
-use Rattle.hp_inode.specs.Marks.{marked}
+use Rattle.hp_marks.specs.Marks.{marked}
 use Rattle.hp_inode.proofs.Blocks.{changed_there, others_stay_there, part_added}
 use Rattle.hp_inode.proofs.entries.Entries.enter.Goals as goal
 

@@ -1,6 +1,6 @@
 use Rattle.std.proofs.Common.{ap, [], length, arith}
 use Rattle.std.proofs.lemmas.Result.{on_ok_weaker}
-use Rattle.hp_inode.specs.Marks.{marked}
+use Rattle.hp_marks.specs.Marks.{marked}
 use Rattle.hp_inode.proofs.Blocks.{others_stay_there, seen_there}
 use Rattle.hp_inode.proofs.Later.{here_now}
 use Rattle.hp_inode.proofs.entries.Entries.make_in.Goals as goal

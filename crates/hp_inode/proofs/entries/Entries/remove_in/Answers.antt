@@ -1,7 +1,7 @@
 use Rattle.std.proofs.Common.{◌&&◌, not, [], refl, sym, ap, ◌∙◌}
 use Rattle.hp_model.specs.beside.Ranges.{within}
 use Rattle.hp_inode.specs.EntryBlock.{count_in}
-use Rattle.hp_inode.specs.Marks.{marked}
+use Rattle.hp_marks.specs.Marks.{marked}
 use Rattle.hp_inode.proofs.Blocks.{changed_there, none_counted, others_stay_there, was_there}
 use Rattle.hp_inode.proofs.Later.{none_there}
 use Rattle.hp_inode.proofs.entries.Entries.remove_in.Goals as goal

@@ -1,7 +1,7 @@
 use Rattle.std.proofs.Common.{◌+◌, ◌/◌, ◌%◌, ◌&&◌, not, [], set, Some, refl, arith}
 use Rattle.hp_model.specs.beside.Ranges.{within}
 use Rattle.hp_inode.specs.Later.{contents}
-use Rattle.hp_inode.specs.Marks.{marked}
+use Rattle.hp_marks.specs.Marks.{marked}
 use Rattle.hp_inode.proofs.Blocks.{changed_there, others_stay_there, part_out}
 use Rattle.hp_inode.proofs.entries.Entries.take_out.Goals as goal
 

@@ -1,8 +1,8 @@
 use Rattle.std.proofs.Common.{◌∙◌, ◌/◌, ◌%◌, ◌*◌, ◌≤◌, ap, sym, arith, eqb, get_or, length}
 use Rattle.std.proofs.lemmas.Bool.{le-ltb}
 use Rattle.std.proofs.lemmas.Nat.Bits.{shr_and_one}
-use Rattle.hp_inode.specs.Marks.{marked}
-use Rattle.hp_inode.proofs.Words.{unmarked_past}
+use Rattle.hp_marks.specs.Marks.{marked}
+use Rattle.hp_marks.proofs.Words.{unmarked_past}
 use Rattle.hp_inode.proofs.entry_block.EntryBlock.contains.Goals as goal
 
 pub returns-then-at-words : goal.returns-then-at-words

@@ -1,7 +1,8 @@
 use Rattle.std.proofs.Common.{arith, sym, ap, ◌∙◌, ◌<◌, ◌^◌, ◌*◌, ◌+◌, ◌-◌, ◌/◌, ◌≡◌, bit_and, get_or, count_ones}
 use Rattle.std.specs.List.{count_by, range_with_len}
-use Rattle.hp_inode.specs.Marks.{marked}
-use Rattle.hp_inode.proofs.Spread.{ours, counted_none, counted_few, counted_full, counted_next, counted_end, bit_marked}
+use Rattle.hp_marks.specs.Marks.{marked}
+use Rattle.hp_marks.proofs.Range.{bit_marked}
+use Rattle.hp_inode.proofs.Spread.{ours, counted_none, counted_few, counted_full, counted_next, counted_end}
 use Rattle.hp_inode.proofs.entry_block.EntryBlock.count.Goals as goal
 
 pub loop-next-init : goal.loop-next-init

@@ -2,7 +2,7 @@ use Rattle.std.proofs.Common.{arith, ◌-◌}
 use Rattle.std.specs.List.{range_with_len}
 use Rattle.std.proofs.lemmas.List.FromFn.{length-range_with_len}
 use Rattle.hp_model.proofs.Counting.{count_not}
-use Rattle.hp_inode.specs.Marks.{marked}
+use Rattle.hp_marks.specs.Marks.{marked}
 use Rattle.hp_inode.proofs.entry_block.EntryBlock.missing.Goals as goal
 
 pub overflow_sub-result : goal.overflow_sub-result

@@ -2,7 +2,7 @@ use Rattle.std.proofs.Common.{arith, rules, sym, ap, ◌∙◌, ◌<◌, ◌≤�
 use Rattle.std.proofs.lemmas.List.{length-set}
 use Rattle.std.proofs.lemmas.Bool.Decides.{nat_tests}
 use Rattle.hp_inode.specs.EntryBlock.{IsRemoved}
-use Rattle.hp_inode.specs.Marks.{marked}
+use Rattle.hp_marks.specs.Marks.{marked}
 use Rattle.hp_inode.proofs.Spread.{cleared_entries}
 use Rattle.hp_inode.proofs.Removed.{removed_in_word}
 use Rattle.hp_inode.proofs.Tables.{written_back}

@@ -1,7 +1,7 @@
 use Rattle.std.proofs.Common.{rules, ap, ◌∙◌, ◌≡◌, ◌&&◌, not, ◌*◌, ℕ, length}
 use Rattle.hp_model.specs.beside.Ranges.{within}
 use Rattle.hp_inode.specs.EntryBlock.{IsRemoved}
-use Rattle.hp_inode.specs.Marks.{marked}
+use Rattle.hp_marks.specs.Marks.{marked}
 use Rattle.hp_inode.proofs.Removed.{removed_entries}
 use Rattle.hp_inode.proofs.Tables.{written_back}
 use Rattle.hp_inode.proofs.entry_block.EntryBlock.remove_words.Goals as goal

@@ -1,6 +1,6 @@
 use Rattle.std.proofs.Common.{rules, ap, ◌∙◌, ◌≡◌, ℕ, true, false, not, eqb, length, arith}
 use Rattle.std.proofs.lemmas.Bool.Decides.{nat_tests}
-use Rattle.hp_inode.specs.Marks.{marked}
+use Rattle.hp_marks.specs.Marks.{marked}
 use Rattle.hp_inode.proofs.Alone.{one_gone, put_out}
 use Rattle.hp_inode.proofs.Tables.{written_back}
 use Rattle.hp_inode.proofs.entry_block.EntryBlock.take_out.Goals as goal

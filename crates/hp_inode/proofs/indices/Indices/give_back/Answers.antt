@@ -1,6 +1,6 @@
 use Rattle.std.proofs.Common.{◌≡◌, ◌%◌, [], false, get_or, refl, ap, ◌∙◌}
 use Rattle.hp_inode.specs.Blocks.{entered_at}
-use Rattle.hp_inode.specs.Marks.{marked}
+use Rattle.hp_marks.specs.Marks.{marked}
 use Rattle.hp_inode.proofs.Readying.{pageless_in}
 use Rattle.hp_inode.proofs.indices.Indices.give_back.Goals as goal
 

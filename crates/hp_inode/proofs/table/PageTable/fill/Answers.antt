@@ -1,7 +1,7 @@
 use Rattle.std.proofs.Common.{ℕ, ◌≡◌, ◌/◌, ◌%◌, [], set, Some, get_or, refl, ap, ◌∙◌, arith}
 use Rattle.hp_inode.specs.Later.{contents}
 use Rattle.hp_inode.specs.Rows.{page_in, has_slot}
-use Rattle.hp_inode.proofs.Blocks.{as_before, few_there, kept_blocks, length_there, others_stay, others_stay_there, seen_there, table_set}
+use Rattle.hp_inode.proofs.Blocks.{all_there, few_there, kept_blocks, length_there, others_stay, others_stay_there, seen_there, table_set}
 use Rattle.hp_inode.proofs.Later.{here_now}
 use Rattle.hp_inode.proofs.table.PageTable.fill.Goals as goal
 
@@ -39,8 +39,4 @@ returns-clause-others c =
 pub returns-clause-slots : goal.returns-clause-slots
 returns-clause-slots c =
     let blocks = c.self.inside.blocks in
-    let at = c.args.i / 65536 in
-    let was = c.at_mut.result.now in
-    let is = c.at_mut.ensures.value in
-    rw (← c.self.view_is) (as_before has_slot (contents [] blocks) (contents [] (set blocks at (Some c.fill.new.self))) at (others_stay_there blocks blocks (λ j. refl) at was c.fill.new.self is)
-    (λ k. seen_there blocks blocks (λ j. refl) at was c.fill.new.self is (λ block. has_slot block k) (c.fill.ensures.slots k)))
+    rw (← c.self.view_is) (all_there has_slot blocks blocks (λ j. refl) (c.args.i / 65536) c.at_mut.result.now c.fill.new.self c.at_mut.ensures.value c.fill.ensures.slots)

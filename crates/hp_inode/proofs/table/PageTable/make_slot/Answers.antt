@@ -1,7 +1,7 @@
 use Rattle.std.proofs.Common.{◌≡◌, ◌/◌, ◌%◌, true, [], set, Some, OnOk, subst, sym, ap, ◌∙◌, arith}
 use Rattle.hp_inode.specs.Later.{contents}
-use Rattle.hp_inode.specs.Rows.{Rows, has_slot}
-use Rattle.hp_inode.proofs.Blocks.{others_stay_there, pages_there, slots_stay, table_there, was_there}
+use Rattle.hp_inode.specs.Rows.{Rows, has_slot, page_in}
+use Rattle.hp_inode.proofs.Blocks.{all_there, others_stay_there, slots_stay, table_there, was_there}
 use Rattle.hp_inode.proofs.Later.{here_now}
 use Rattle.hp_inode.proofs.table.PageTable.make_slot.Goals as goal
 
@@ -13,7 +13,7 @@ invariant_of-self-2 c =
 
 pub returns-clause-pages : goal.returns-clause-pages
 returns-clause-pages c =
-    rw (← c.self.view_is) (pages_there c.self.inside.blocks c.make.new.self c.make.ensures.same (c.args.i / 65536) c.at_mut.result.now c.make_slot.new.self c.at_mut.ensures.value
+    rw (← c.self.view_is) (all_there page_in c.self.inside.blocks c.make.new.self c.make.ensures.same (c.args.i / 65536) c.at_mut.result.now c.make_slot.new.self c.at_mut.ensures.value
     c.make_slot.ensures.pages)
 
 pub returns-clause-kept : goal.returns-clause-kept

@@ -1,7 +1,7 @@
 use Rattle.std.proofs.Common.{◌+◌, ◌/◌, ◌%◌, ◌≤◌, [], set, Some, refl, sym, ap, ◌∙◌, arith}
 use Rattle.hp_inode.specs.Later.{contents}
 use Rattle.hp_inode.specs.Rows.{has_slot, page_in}
-use Rattle.hp_inode.proofs.Blocks.{as_before, few_there, near_below, others_stay_there, pages_there, seen_there, slots_below, slots_made, slots_stay, table_there}
+use Rattle.hp_inode.proofs.Blocks.{all_there, as_before, few_there, near_below, others_stay_there, seen_there, slots_below, slots_made, slots_stay, table_there}
 use Rattle.hp_inode.proofs.Later.{block_there, here_now}
 use Rattle.hp_inode.proofs.table.PageTable.make_slots.Goals as goal
 
@@ -16,7 +16,7 @@ invariant_of-self c =
 pub returns-then-b-le-BLOCK-clause-pages : goal.returns-then-b-le-BLOCK-clause-pages
 returns-then-b-le-BLOCK-clause-pages c =
     let blocks = c.self.inside.blocks in
-    rw (← c.self.view_is) (pages_there blocks blocks (λ j. refl) 0 c.first_mut.result.now c.make_slots.new.self c.first_mut.ensures.value c.make_slots.ensures.pages)
+    rw (← c.self.view_is) (all_there page_in blocks blocks (λ j. refl) 0 c.first_mut.result.now c.make_slots.new.self c.first_mut.ensures.value c.make_slots.ensures.pages)
 
 pub returns-then-b-le-BLOCK-clause-kept : goal.returns-then-b-le-BLOCK-clause-kept
 returns-then-b-le-BLOCK-clause-kept c =

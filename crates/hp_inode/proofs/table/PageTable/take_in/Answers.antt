@@ -1,7 +1,7 @@
 use Rattle.std.proofs.Common.{[], set, Some, refl, arith}
 use Rattle.hp_inode.specs.Later.{contents}
 use Rattle.hp_inode.specs.Rows.{has_slot}
-use Rattle.hp_inode.proofs.Blocks.{as_before, few_there, length_there, others_stay_there, seen_there, table_after, was_there}
+use Rattle.hp_inode.proofs.Blocks.{all_there, few_there, length_there, others_stay_there, seen_there, table_after, was_there}
 use Rattle.hp_inode.proofs.Later.{all_now, here_now}
 use Rattle.hp_inode.proofs.table.PageTable.take_in.Goals as goal
 
@@ -30,12 +30,7 @@ returns-clause-taken c =
 pub returns-clause-slots : goal.returns-clause-slots
 returns-clause-slots c =
     let blocks = c.self.inside.blocks in
-    let at = c.args.at in
-    let was = c.at_mut.result.now in
-    let new = c.take_first.new.self in
-    let is = c.at_mut.ensures.value in
-    rw (← c.self.view_is) (as_before has_slot (contents [] blocks) (contents [] (set blocks at (Some new))) at (others_stay_there blocks blocks (λ j. refl) at was new is)
-    (λ k. seen_there blocks blocks (λ j. refl) at was new is (λ block. has_slot block k) (c.take_first.ensures.slots k)))
+    rw (← c.self.view_is) (all_there has_slot blocks blocks (λ j. refl) c.args.at c.at_mut.result.now c.take_first.new.self c.at_mut.ensures.value c.take_first.ensures.slots)
 
 pub returns-clause-others : goal.returns-clause-others
 returns-clause-others c =

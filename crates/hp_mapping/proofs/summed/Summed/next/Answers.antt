@@ -1,12 +1,14 @@
-use Rattle.std.proofs.Common.{◌+◌, ◌*◌, ◌/◌, arith}
-use Rattle.hp_mapping.specs.Marks.{IsUnmarked}
-use Rattle.hp_mapping.proofs.MarkedWords.{blank_words, lowest_after}
+use Rattle.std.proofs.Common.{ℕ, ◌≡◌, ◌+◌, ◌*◌, ◌/◌, ◌<◌, ◌≤◌, false}
+use Rattle.hp_marks.specs.Marks.{marked, IsFirstFrom}
+use Rattle.hp_mapping.proofs.SummedWords.{found_above}
 use Rattle.hp_mapping.proofs.summed.Summed.next.Goals as goal
 
-pub returns-clause-some : goal.returns-clause-some
-returns-clause-some c =
-    let above = c.in_ok-word.ensures.some in
-    let first : IsUnmarked c.args.from (64 * (c.args.from / 64 + 1)) c.self.inside.words =
-    λ k from below. c.in_default.ensures.none k from (omega arith) in
-    let blank = blank_words c.self.inside.words c.self.inside.above c.args.from (c.args.from / 64 + 1) c.in_ok-word.word c.self.invariant first above.blank in
-    rw (← c.self.view_is) (lowest_after c.self.inside.words c.args.from c.in_ok-word.word c.lowest_in.result (omega (arith, above.from)) blank c.lowest_in.ensures.lowest)
+pub returns : goal.returns
+returns c =
+    let s = c.self.inside in
+    let from = c.args.from in
+    let at = c.in_ok-word.word in
+    let none : (k : ℕ) → from ≤ k → k < 64 * (from / 64) + 64 → marked s.words.items k ≡ false = rw (← c.as_slice-words.ensures) c.in_default.ensures in
+    let word : IsFirstFrom s.above.items (from / 64 + 1) at = rw (← c.as_slice.ensures) c.in_ok-word.ensures in
+    let first : IsFirstFrom s.words.items (64 * at) c.lowest_in.result = rw (← c.as_slice-words.ensures) c.lowest_in.ensures in
+    rw (← c.self.view_is) (found_above s.words.items s.above.items from c.self.invariant none at c.lowest_in.result word first)

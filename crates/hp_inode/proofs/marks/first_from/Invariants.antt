@@ -1,6 +1,0 @@
-use Rattle.std.proofs.Common.{ℕ, ◌≡◌, ◌*◌, ◌<◌, ◌≤◌, false}
-use Rattle.hp_inode.specs.Marks.{marked}
-use Rattle.hp_inode.proofs.marks.first_from.Given as goal
-
-abbrev pub invariant-loop-at : goal.invariant-loop-at
-invariant-loop-at l = (k : ℕ) → l.n ≤ k → k < 64 * l.at → marked l.words k ≡ false

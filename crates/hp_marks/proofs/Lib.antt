@@ -1,0 +1,4 @@
+pub mod Bits
+pub mod Cleared
+pub mod Range
+pub mod Words

@@ -1,0 +1,10 @@
+use Rattle.std.proofs.Common.{ℕ, ◌≡◌, ◌*◌, ◌<◌, ◌≤◌, ◌&&◌, not}
+use Rattle.hp_model.specs.beside.Ranges.{within}
+use Rattle.hp_marks.specs.Marks.{marked}
+use Rattle.hp_marks.proofs.marks.clear_marks.Given as goal
+
+abbrev pub invariant-loop-at : goal.invariant-loop-at
+invariant-loop-at l = record {
+  done : (k : ℕ) → k < 64 * l.at → marked l.words k ≡ (marked l.fn.words k && not (within l.a l.b k));
+  rest : (k : ℕ) → 64 * l.at ≤ k → marked l.words k ≡ marked l.fn.words k;
+}
