@@ -141,6 +141,14 @@ pub near : (words : WordBlocks) (k : ℕ) → k < 65536 → entered_at words k �
 near words k lt =
     ap (λ q. marked (get_or words q []) (k % 65536)) {x = k / 65536} {y = 0} (omega (arith, lt)) ∙ ap (marked (get_or words 0 [])) {x = k % 65536} {y = k} (omega (arith, lt))
 
+pub near_page : (rows : RowBlocks) (k : ℕ) → k < 65536 → page_at rows k ≡ page_in (get_or rows 0 []) k
+near_page rows k lt =
+    ap (λ q. page_in (get_or rows q []) (k % 65536)) {x = k / 65536} {y = 0} (omega (arith, lt)) ∙ ap (page_in (get_or rows 0 [])) {x = k % 65536} {y = k} (omega (arith, lt))
+
+pub near_slot : (rows : RowBlocks) (k : ℕ) → k < 65536 → has_slot_at rows k ≡ has_slot (get_or rows 0 []) k
+near_slot rows k lt =
+    ap (λ q. has_slot (get_or rows q []) (k % 65536)) {x = k / 65536} {y = 0} (omega (arith, lt)) ∙ ap (has_slot (get_or rows 0 [])) {x = k % 65536} {y = k} (omega (arith, lt))
+
 module _ (words : WordBlocks) (a b : ℕ) (le : b ≤ 65536) where
   pub near_counted : count_in (get_or words 0 []) a b ≡ entered_count words a b
   near_counted = alike_in (marked (get_or words 0 [])) (entered_at words) a (b - a) (λ k low high. sym (near words k (omega (arith, low, high, le))))
@@ -400,6 +408,25 @@ module _ (blocks kept : List (Option Rows)) (alike : (j : ℕ) → get_or (conte
       (kept_blocks (contents [] blocks) (contents [] (set kept at (Some now))) at (others_stay_there blocks kept alike at old now is)
       (omega (arith, few, length_there blocks kept alike at old now is))
       (λ k past. seen_there blocks kept alike at old now is (λ block. page_in block k) (pages k)) was.blocks) (all_there page_in blocks kept alike at old now is pages) was
+
+-- a block gets or loses the page of one index
+module _ (blocks : List (Option Rows)) (at : ℕ) (old now : Rows) (is : get_or blocks at None ≡ Some old) (i place : ℕ) (block_is : i / 65536 ≡ at) (place_is : i % 65536 ≡ place)
+    (same : (k : ℕ) → (k ≡ place → ⊥) → page_in now k ≡ page_in old k) where
+  same_in : (k : ℕ) → (k ≡ place → ⊥) → page_in (get_or (contents [] (set blocks at (Some now))) at []) k ≡ page_in (get_or (contents [] blocks) at []) k
+  same_in k differs = seen_there blocks blocks (λ j. refl) at old now is (λ block. page_in block k) (same k differs)
+
+  pub others_set : (k : ℕ) → (k ≡ i → ⊥) → page_at (contents [] (set blocks at (Some now))) k ≡ page_at (contents [] blocks) k
+  others_set = others_stay (contents [] blocks) (contents [] (set blocks at (Some now))) at (others_stay_there blocks blocks (λ j. refl) at old now is) i place block_is place_is same_in
+
+  pub page_set : (page : Option ℕ) → page_in now place ≡ page → page_at (contents [] (set blocks at (Some now))) i ≡ page
+  page_set page here = ap (λ q. page_in (get_or (contents [] (set blocks at (Some now))) q []) (i % 65536)) block_is
+      ∙ ap (page_in (get_or (contents [] (set blocks at (Some now))) at [])) place_is ∙ ap (λ block. page_in block place) (here_now [] blocks at old now is) ∙ here
+
+  pub blocks_set : (low high after : ℕ) → after ≡ min high i → IsRowTable (contents [] blocks) low high → IsRowTable (contents [] (set blocks at (Some now))) low after
+  blocks_set low high after after_is was = table_set (contents [] blocks) (contents [] (set blocks at (Some now))) low high after i after_is
+      (kept_blocks (contents [] blocks) (contents [] (set blocks at (Some now))) at (others_stay_there blocks blocks (λ j. refl) at old now is)
+      (omega (arith, few_there blocks was.blocks.few, length_there blocks blocks (λ j. refl) at old now is))
+      (λ k past. same_in k (λ here. absurd (omega (arith, past, here, place_is)))) was.blocks) others_set was
 
 -- ---- a block without a page that is given back
 

@@ -1,5 +1,5 @@
 //! The blocks of a file by number.
-ghost use Rattle.std.specs.Prelude.{ℕ, ◌≡◌, ◌≢◌, ◌<◌, ◌≤◌, ◌∷◌, [], length, MatchOption, OnOk, IsSome, Some, None};
+ghost use Rattle.std.specs.Prelude.{ℕ, ◌≡◌, ◌≢◌, ◌+◌, ◌<◌, ◌≤◌, ◌∷◌, [], length, MatchOption, OnOk, IsSome, Some, None};
 ghost use Rattle.std.specs.List.{slice_index_or};
 ghost use Rattle.std.specs.Option.{is_some};
 ghost use Rattle.hp_inode.specs.Blocks.{most_blocks};
@@ -48,14 +48,12 @@ impl<B: Block> BlockList<B> {
         }
     }
 
-    /// How many blocks there are, up to the last that has been made.
+    /// The number of the last block that there is a place for.
     #[inline(always)]
-    pub fn len(&self) -> usize
-        ensures { result ≡ length self.now }
+    pub fn last(&self) -> usize
+        ensures { length self.now ≡ result + 1 }
     {
-        // fewer than 65,536
-        let _ = &self.places;
-        self.places.len() + 1
+        self.places.len()
     }
 
     /// The block, if it was made.
@@ -75,6 +73,13 @@ impl<B: Block> BlockList<B> {
             return None;
         }
         Some(&self.made[n - 1])
+    }
+
+    #[inline(always)]
+    pub fn first(&self) -> &B
+        ensures { slice_index_or self.now 0 None ≡ Some result.now }
+    {
+        &self.first
     }
 
     /// Whether the block was made.

@@ -53,6 +53,9 @@ impl Entries {
     pub fn contains(&self, i: u64) -> bool
         ensures { result ≡ entered_at self.now i }
     {
+        if i < BLOCK {
+            return self.blocks.first().contains(i);
+        }
         match self.block(i / BLOCK) {
             Some(block) => block.contains(i % BLOCK),
             None => false,
@@ -90,7 +93,7 @@ impl Entries {
 
     /// How many blocks there are places for.
     pub fn blocks(&self) -> u64 {
-        self.blocks.len() as u64
+        (self.blocks.last() as u64).saturating_add(1)
     }
 
     /// Whether a block has room for an index, and none in the set.
@@ -173,6 +176,9 @@ impl Entries {
             ≡ (entered_at self.old k || within i (i + 1) k)) }
         ensures err { OnErr result ((k : ℕ) → entered_at self.new k ≡ entered_at self.old k) }
     {
+        if i < BLOCK {
+            return self.blocks.first_mut().enter(i);
+        }
         let at = (i / BLOCK) as usize;
         self.blocks.make(at)?;
         self.blocks.at_mut(at).enter(i % BLOCK)
@@ -185,6 +191,10 @@ impl Entries {
         ensures { (k : ℕ) → entered_at self.new k
             ≡ (entered_at self.old k && not (within i (i + 1) k)) }
     {
+        if i < BLOCK {
+            self.blocks.first_mut().take_out(i);
+            return;
+        }
         self.blocks.at_mut((i / BLOCK) as usize).take_out(i % BLOCK);
     }
 

@@ -58,6 +58,9 @@ impl PageTable {
     pub fn page_at(&self, i: u64) -> Option<PageNo>
         ensures { result ≡ page_at self.now i }
     {
+        if i < BLOCK {
+            return self.blocks.first().page_at(i);
+        }
         self.block(i / BLOCK)?.page_at(i % BLOCK)
     }
 
@@ -84,6 +87,10 @@ impl PageTable {
         ensures slots { (k : ℕ) → has_slot_at self.new k ≡ has_slot_at self.old k }
     {
         self.bare_to = self.bare_to.min(i);
+        if i < BLOCK {
+            self.blocks.first_mut().fill(i, page);
+            return;
+        }
         self.blocks
             .at_mut((i / BLOCK) as usize)
             .fill(i % BLOCK, page);
@@ -114,11 +121,11 @@ impl PageTable {
         ensures none { result ≡ None → self.new ≡ self.old }
         ensures slots { (k : ℕ) → has_slot_at self.new k ≡ has_slot_at self.old k }
     {
-        if self.blocks.len() == 1 {
+        if self.blocks.last() == 0 {
             return self.take_in(0, a, b);
         }
         let (mut at, mut from) = (a / BLOCK, a % BLOCK);
-        while at < self.blocks.len() as u64 && at * BLOCK < b {
+        while at <= self.blocks.last() as u64 && at * BLOCK < b {
             if let Some((k, page)) = self.take_in(at, from, b - at * BLOCK) {
                 return Some((at * BLOCK + k, page));
             }
@@ -184,6 +191,9 @@ impl PageTable {
         ensures kept { (k : ℕ) → has_slot_at self.old k ≡ true → has_slot_at self.new k ≡ true }
         ensures made { OnOk result (has_slot_at self.new i ≡ true) }
     {
+        if i < BLOCK {
+            return self.blocks.first_mut().make_slot(i);
+        }
         let at = (i / BLOCK) as usize;
         self.blocks.make(at)?;
         self.blocks.at_mut(at).make_slot(i % BLOCK)

@@ -1,7 +1,7 @@
 use Rattle.std.proofs.Common.{[], set, Some, refl, arith}
 use Rattle.hp_inode.specs.Later.{contents}
 use Rattle.hp_inode.specs.Rows.{has_slot}
-use Rattle.hp_inode.proofs.Blocks.{all_there, few_there, length_there, others_stay_there, seen_there, table_after, was_there}
+use Rattle.hp_inode.proofs.Blocks.{all_there, few_there, length_there, others_stay_there, table_after, was_there}
 use Rattle.hp_inode.proofs.Later.{all_now, here_now}
 use Rattle.hp_inode.proofs.table.PageTable.take_in.Goals as goal
 
