@@ -1,5 +1,5 @@
 -- One index alone: put in, taken out, and counted.
-use Rattle.std.proofs.Common.{◌≡◌, ℕ, ◌+◌, ◌-◌, ◌*◌, ◌/◌, ◌%◌, ◌<◌, ◌≤◌, Bool, true, false, not, ◌&&◌, ◌||◌, eqb, cond, List, length, get_or, sym, ap, ◌∙◌, arith, ⊎_elim}
+use Rattle.std.proofs.Common.{◌≡◌, ℕ, ◌+◌, ◌-◌, ◌/◌, ◌%◌, ◌<◌, ◌≤◌, Bool, true, false, not, ◌&&◌, ◌||◌, eqb, cond, List, length, get_or, sym, ap, ◌∙◌, arith, ⊎_elim}
 use Rattle.std.specs.Int.{bit_at}
 use Rattle.std.specs.List.{range_with_len, count_by}
 use Rattle.std.proofs.Math.Bool.{or-false, or-true, and-true, and-false}
@@ -10,7 +10,6 @@ use Rattle.hp_model.proofs.Ranges.{within-true, within-below, within-past}
 use Rattle.hp_model.specs.beside.Ranges.{within}
 use Rattle.hp_inode.specs.EntryBlock.{IsEntries}
 use Rattle.hp_marks.specs.Marks.{marked}
-use Rattle.hp_marks.proofs.Words.{unmarked_past}
 
 module _ (old new : ℕ → Bool) (i : ℕ) (others : (k : ℕ) → (k ≡ i → ⊥) → new k ≡ old k) where
   not_alone : (k : ℕ) → (k ≡ i → ⊥) → within i (i + 1) k ≡ false
@@ -39,13 +38,6 @@ count_one p i =
     let one : i + 1 - i ≡ 1 = omega arith in
     let first = count_cons p i (range_with_len (i + 1) 0) in
     omega (arith, ap (λ n. count_by p (range_with_len i n)) one, first)
-
--- a mark lies in a word that there is
-pub word_there : (words : List ℕ) (i : ℕ) → marked words i ≡ true → i < 64 * length words
-word_there words i on = ⊎_elim
-    (λ (lt : i < 64 * length words). lt)
-    (λ (past : 64 * length words ≤ i). absurd (true≢false (sym on ∙ unmarked_past words i past)))
-    (cases_lt i (64 * length words))
 
 -- in a word that is zero there is no mark
 pub zero_unmarked : (words : List ℕ) (k : ℕ) → get_or words (k / 64) 0 ≡ 0 → marked words k ≡ false

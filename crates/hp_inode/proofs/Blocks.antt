@@ -4,10 +4,10 @@ use Rattle.std.proofs.Common.{List, [], length, get_or, set, cond, None, sym, re
 use Rattle.std.specs.Option.{is_some, unwrap_or}
 use Rattle.std.specs.List.{range_with_len, count_by}
 use Rattle.std.proofs.Math.Bool.{or-false, and-true}
-use Rattle.std.proofs.lemmas.Bool.{cases_lt, cases_eq, cases_Bool, ltb-true, false≢true}
+use Rattle.std.proofs.lemmas.Bool.{cases_lt, cases_eq, ltb-true, false≢true}
 use Rattle.std.proofs.lemmas.Bool.Decides.{nat_tests}
-use Rattle.std.proofs.lemmas.List.{get_or_past, length-map, length-set, nil_from_length}
-use Rattle.hp_inode.proofs.Later.{block_there, here_now, none_there, others_now}
+use Rattle.std.proofs.lemmas.List.{get_or_past, length-map, length-set}
+use Rattle.hp_inode.proofs.Later.{block_there, here_now, others_now}
 use Rattle.std.proofs.lemmas.List.FromFn.{length-range_with_len}
 use Rattle.std.proofs.lemmas.List.Sums.{count_by-le-length}
 use Rattle.hp_model.proofs.Counting.{alike_in, count_cons, count_not, count_split, count_outside}
@@ -26,13 +26,6 @@ use Rattle.hp_marks.proofs.Words.{unmarked_past}
 -- all blocks but one are as they were
 abbrev pub KeepsOthers : {X : Type 0} → List (List X) → List (List X) → ℕ → Type 0
 KeepsOthers old new q = (j : ℕ) → j ≢ q → get_or new j [] ≡ get_or old j []
-
--- what is not empty was made
-pub made_of : {X : Type 0} (blocks : List (Option (List X))) (at : ℕ) → 0 < length (get_or (contents [] blocks) at []) → IsSome (get_or blocks at None)
-made_of blocks at long = ⊎_elim
-    (λ (some : is_some (get_or blocks at None) ≡ true). some)
-    (λ (none : is_some (get_or blocks at None) ≡ false). absurd (omega (arith, long, ap length (none_there [] blocks at none))))
-    (cases_Bool (is_some (get_or blocks at None)))
 
 -- of blocks that hold the same, one changes
 module _ {X : Type 0} (blocks kept : List (Option (List X))) (alike : (j : ℕ) → get_or (contents [] kept) j [] ≡ get_or (contents [] blocks) j []) (at : ℕ)
@@ -256,14 +249,6 @@ module _ (old new : RowBlocks) (q : ℕ) (others : KeepsOthers old new q) where
       (λ (other : k / 65536 ≢ q). ap (λ block. page_in block (k % 65536)) (others (k / 65536) other))
       (cases_eq (k / 65536) q)
 
-pub slotted : (rows : Rows) (i : ℕ) → has_slot rows i ≡ true → 0 < length rows
-slotted rows i has = ⊎_elim
-    (λ (none : length rows ≡ 0).
-    let nowhere : has_slot [] i ≡ true = sym (ap (λ block. has_slot block i) (nil_from_length rows none)) ∙ has in
-    absurd (omega (arith, ltb-true (i % 64) 0 nowhere)))
-    (λ (some : length rows ≢ 0). omega (arith, some))
-    (cases_eq (length rows) 0)
-
 -- ---- slots that are made
 
 module _ (start old new : RowBlocks) (a at count : ℕ) (low : a ≤ at) (fits : at % 65536 + count ≤ 65536) (others : KeepsOthers old new (at / 65536)) where
@@ -427,16 +412,3 @@ module _ (blocks : List (Option Rows)) (at : ℕ) (old now : Rows) (is : get_or 
       (kept_blocks (contents [] blocks) (contents [] (set blocks at (Some now))) at (others_stay_there blocks blocks (λ j. refl) at old now is)
       (omega (arith, few_there blocks was.blocks.few, length_there blocks blocks (λ j. refl) at old now is))
       (λ k past. same_in k (λ here. absurd (omega (arith, past, here, place_is)))) was.blocks) others_set was
-
--- ---- a block without a page that is given back
-
-module _ (old new : RowBlocks) (at : ℕ) (others : KeepsOthers old new at) (gone : get_or new at [] ≡ []) (none : (k : ℕ) → k / 65536 ≡ at → page_at old k ≡ None) where
-  pages_left : (k : ℕ) → page_at new k ≡ page_at old k
-  pages_left k = ⊎_elim
-      (λ (same : k / 65536 ≡ at). ap (λ n. page_in (get_or new n []) (k % 65536)) same ∙ ap (λ block. page_in block (k % 65536)) gone ∙ sym (none k same))
-      (λ (other : k / 65536 ≢ at). ap (λ block. page_in block (k % 65536)) (others (k / 65536) other))
-      (cases_eq (k / 65536) at)
-
-  pub table_left : (low high : ℕ) → length new ≤ 65536 → IsRowTable old low high → IsRowTable new low high
-  table_left low high few was =
-      table_as_before old new low high (kept_blocks old new at others few (λ k past. ap (λ block. page_in block k) gone ∙ sym (was.blocks.within at k past)) was.blocks) pages_left was
