@@ -19,7 +19,7 @@ use std::sync::Wait;
 // the pool: so that nobody waits long for the slot. How many were done.
 pub(crate) fn held_accesses<N: Naming + Places, R: Wait, G: Gate, const K: usize>(
     shared: &Shared<N, K>,
-    ways: &Ways<'_, N, R, G, Trace<PoolEntry, K>>,
+    ways: &Ways<'_, N, R, G, K>,
     member: &mut Member<N, K>,
     slot: &mut SeatedSlot<N, Trace<SlotEntry, K>>,
     at: usize,
@@ -47,7 +47,7 @@ pub(crate) fn held_accesses<N: Naming + Places, R: Wait, G: Gate, const K: usize
 #[inline(always)]
 fn held_access<N: Naming + Places, R: Wait, G: Gate, const K: usize>(
     shared: &Shared<N, K>,
-    ways: &Ways<'_, N, R, G, Trace<PoolEntry, K>>,
+    ways: &Ways<'_, N, R, G, K>,
     member: &mut Member<N, K>,
     slot: &mut SeatedSlot<N, Trace<SlotEntry, K>>,
     at: usize,

@@ -1,9 +1,11 @@
 //! What a session has of the machine: its seat in the history, and its receipts where entries are kept.
-ghost use Rattle.std.specs.Prelude.{ℕ, ◌≡◌, ◌==◌, ◌+◌, ◌<◌, ◌≤◌, ◌∷◌, ◌++◌, [], length, true, false, Ok, IfSome, IfNone, vec_len, vec_capacity};
+ghost use Rattle.std.specs.Prelude.{ℕ, ◌≡◌, ◌==◌, ◌+◌, ◌<◌, ◌≤◌, ◌∷◌, ◌++◌, [], length, true, false, if◌then◌else◌, Ok, None, Some, IfSome, IfNone, vec_len, vec_capacity};
 ghost use Rattle.hp_model.specs.threads.JointRun.{option_cons};
 ghost use Rattle.hp_events.specs.Event.{event_of, shows_bytes};
 ghost use Rattle.hp_history.specs.History.{IsSession, number_in, receipts_in};
+ghost use Rattle.hp_history.specs.Sections.{pool_receipt};
 ghost use Rattle.hp_laws.specs.Answers.{lists_names};
+ghost use Rattle.hp_locked.specs.Told.{pool_reply};
 ghost use Rattle.hp_model.specs.beside.Told.{told_reply};
 ghost use Rattle.hp_model.specs.declared.answer.Answer.TheVariants.{Done, Home};
 ghost use Rattle.hp_model.specs.declared.event.Event.TheVariants.{Pool as OnPool, Slot as OnSlot, Tasks as OnTasks};
@@ -21,9 +23,9 @@ use atomic_table::Badge;
 use hp_events::MountEvent;
 use hp_events::copies::Copies;
 use hp_history::{History, Places, Token, View};
-use hp_locked::{Core, Gate};
-use hp_model::entry::{PoolEntry, Receipt, SlotEntry, TableEntry};
-use hp_model::event::{PoolEvent, TableEvent};
+use hp_locked::{Core, Gate, PoolTold};
+use hp_model::entry::{Part, PoolEntry, Receipt, SlotEntry, TableEntry};
+use hp_model::event::{Event, PoolEvent, TableEvent};
 use hp_model::names::Names;
 use hp_model::naming::Naming;
 use hp_model::refusal::Refusal;
@@ -74,6 +76,23 @@ fn keep(receipts: &mut Vec<Receipt>, receipt: Option<Receipt>)
     if let Some(receipt) = receipt {
         receipts.push_reserved(receipt);
     }
+}
+
+// The receipt of an event of the pool, where receipts are kept.
+#[inline(always)]
+fn receipt_of<const K: usize>(event: PoolEvent, told: PoolTold, place: u64) -> Option<Receipt>
+    ensures { result ≡ (if K == 1
+        then Some (pool_receipt event (pool_reply told) place) else None) }
+{
+    if K != 1 {
+        return None;
+    }
+    Some(Receipt {
+        part: Part::Pool,
+        place,
+        event: Event::Pool(event),
+        reply: told.reply(),
+    })
 }
 
 impl<N: Naming + Places, const K: usize> Member<N, K> {
@@ -187,8 +206,8 @@ impl<N: Naming + Places, const K: usize> Member<N, K> {
         *seat = mine.into_badge();
         match answered {
             Err(_full) => Err(Refusal::TraceFull),
-            Ok((told, receipt)) => {
-                keep(receipts, receipt);
+            Ok((told, place)) => {
+                keep(receipts, receipt_of::<K>(event, told, place));
                 told.told()
             }
         }
@@ -198,7 +217,7 @@ impl<N: Naming + Places, const K: usize> Member<N, K> {
     #[inline(always)]
     pub fn slot<'b, R: Wait, G: Gate>(
         &mut self,
-        ways: &Ways<'_, N, R, G, Trace<PoolEntry, K>>,
+        ways: &Ways<'_, N, R, G, K>,
         slot: &mut SeatedSlot<N, Trace<SlotEntry, K>>,
         alloc: Global,
         page_bytes: u64,
@@ -235,7 +254,7 @@ impl<N: Naming + Places, const K: usize> Member<N, K> {
     #[inline(always)]
     pub fn unnoted<'b, R: Wait, G: Gate>(
         &mut self,
-        ways: &Ways<'_, N, R, G, Trace<PoolEntry, K>>,
+        ways: &Ways<'_, N, R, G, K>,
         slot: &mut SeatedSlot<N, Trace<SlotEntry, K>>,
         page_bytes: u64,
         home: u64,

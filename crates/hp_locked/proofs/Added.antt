@@ -13,21 +13,20 @@ use Rattle.hp_model.specs.pool.PoolCounts.{IsSettled}
 use Rattle.hp_model.proofs.Sums.{idle_total}
 use Rattle.hp_pool.specs.Sums.{idle_pool}
 use Rattle.std.proofs.lemmas.Bool.{lt-ltb, ltb-true}
-use Rattle.hp_mount_door.specs.Door.{IsReady, GivesBack, by_node}
+use Rattle.hp_mount_door.specs.Door.{IsReady}
 use Rattle.std.specs.List.{sum}
 use Rattle.std.specs.Prelude.{IfSome, IfNone, is_some, ◌+◌, ◌*◌, ◌<◌, ◌≤◌}
-use Rattle.hp_model.specs.files.Page.{Page}
 use Rattle.hp_model.specs.declared.entry.Asked.{Asked}
 use Rattle.hp_model.specs.declared.section.Section.TheVariants.{GiveBack}
 use Rattle.hp_model.specs.pool.Pool.{granted_at, no_pages}
 use Rattle.hp_subpool.specs.Subpool.{Subpool}
 use Rattle.std.specs.Bool.{MatchBool}
 use Rattle.hp_trail.specs.Keeping.{has_room, one_less, with_entry}
-use Rattle.hp_locked.specs.Views.{DoorView, IsFresh, Asks, HasPlaces, IsAnswered, CoreView, IsCore, IsGiven, IsPlace, IsPoolTrail, IsSeated, IsTrailOf}
+use Rattle.hp_locked.specs.Views.{IsFresh, Asks, HasPlaces, IsAnswered, CoreView, IsCore, IsGiven, IsPlace, IsPoolTrail, IsSeated, IsTrailOf}
 use Rattle.atomic_table.specs.Seated.{TableId}
 use Rattle.hp_history.specs.declared.held.Held.{Held}
 use Rattle.hp_history.specs.declared.held.Held.TheVariants.{Pool as PoolPart}
-use Rattle.hp_history.specs.Sections.{IsEntered, pool_in, pool_next, pool_view}
+use Rattle.hp_history.specs.Sections.{pool_in, pool_next, pool_view}
 use Rattle.hp_model.specs.threads.Closing.{to_return}
 use Rattle.hp_laws.proofs.settled.Closing.{most_return, step_frames}
 use Rattle.hp_laws.proofs.sections.Lengths.{long_event}
@@ -234,21 +233,6 @@ may_note start o l extra p q puts counts k m core same falls less some =
     let few = less (omega (arith, is, falls, some)) in
     has_place l extra (to_return p) core.places (omega (arith, few))
 
--- what a door asked, as it is said of doors
-module _ {X : Type 0} (kept : Bool) (asked : X → Option Asked) (mine : X → List Held) (d e : X) (pages : List Page) (k : ℕ) (old new : CoreView) where
-  door_is : (t : Option Asked) → IsGiven (by_node pages) k old new t → asked e ≡ t → (t ≡ None → e ≡ d) → IsEntered kept (mine d) t (mine e)
-      → GivesBack (λ x s a y. Asks (asked y) s a × IsEntered kept (mine x) (asked y) (mine y)) pages k d e
-  door_is None given is stays went = record { some = λ l. absurd (omega (arith, l, given.1)); none = λ z. stays refl }
-  door_is (Some a) given is stays went = record {
-    some = λ l. subst (λ (o : Option Asked). Asks o (GiveBack (by_node pages) k) (granted_at 0) × IsEntered kept (mine d) o (mine e)) (sym is)
-        (asks_it a (GiveBack (by_node pages) k) (granted_at 0) given.1 given.2, went);
-    none = λ z. absurd (let l = given.3 in omega (arith, l, z));
-  }
-
-  pub door_gives : (puts : List ℕ) (m : ℕ) (t : Option Asked) → puts ≡ by_node pages → m ≡ k → IsGiven puts m old new t → asked e ≡ t →
-      (t ≡ None → e ≡ d) → IsEntered kept (mine d) t (mine e) → GivesBack (λ x s a y. Asks (asked y) s a × IsEntered kept (mine x) (asked y) (mine y)) pages k d e
-  door_gives puts m t same falls given = door_is t (subst (λ (x : List ℕ). IsGiven x k old new t) same (subst (λ (x : ℕ). IsGiven puts x old new t) falls given))
-
 -- an event leaves the pool ready
 pub event_ready : (p q : Pool) (e : PoolEvent) (r : Reply) → pool_event p e ≡ (r, q) → IsReady p → IsSettled q → IsReady q
 event_ready p q e r step ready is =
@@ -265,7 +249,3 @@ pub place_kept : (k : Bool) (o : Option (List PoolEntry)) (run : List PoolEntry)
     → is_some o ≡ k → IsTrailOf run o → ((es : List PoolEntry) → o ≡ Some es → place ≡ length es) → k ≡ true → place ≡ length run
 place_kept k None run place kept is at on = absurd (let no = kept in cc)
 place_kept k (Some es) run place kept is at on = at es refl ∙ ap length is
-
--- what a door's seat had and has, by the door's view
-pub went_by : (kept : Bool) (v d : DoorView) (t : Option Asked) (w : List Held) → v ≡ d → IsEntered kept v.mine t w → IsEntered kept d.mine t w
-went_by kept v d t w is went = subst (λ (x : DoorView). IsEntered kept x.mine t w) is went

@@ -3,3 +3,4 @@ pub mod Giving
 pub mod Rows
 pub mod Opening
 pub mod Small
+pub mod Doors

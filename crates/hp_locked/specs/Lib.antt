@@ -1,3 +1,4 @@
+pub mod Doors
 pub mod Views
 pub mod Opened
 pub mod Told

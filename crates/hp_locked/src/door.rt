@@ -1,5 +1,5 @@
 //! A session's door to the pool under its lock.
-ghost use Rattle.std.specs.Prelude.{◌≡◌, ◌<◌, ℕ, Bool, List, None, Option, Some, true, []};
+ghost use Rattle.std.specs.Prelude.{◌≡◌, ◌<◌, ◌==◌, ℕ, Bool, List, None, Option, Some, is_some, true, []};
 ghost use Rattle.hp_history.specs.declared.held.Held.{Held};
 ghost use Rattle.hp_history.specs.Sections.{IsEntered, IsFree};
 ghost use Rattle.hp_model.specs.declared.entry.Asked.{Asked as AskedValue};
@@ -11,6 +11,7 @@ ghost use Rattle.hp_locked.specs.Views.{Asks};
 
 use crate::gate::Gate;
 use crate::nodes::NodeLocks;
+use crate::noted::Noted;
 use crate::pool_core::Core;
 use hp_history::{History, Places, Token};
 use hp_model::entry::{Asked, PoolEntry};
@@ -21,46 +22,46 @@ use hp_mount_door::PoolDoor;
 use hp_nodes::Page;
 use hp_store::{PageBatch, PageStore};
 use hp_subpool::Subpool;
-use hp_trail::trail::Trail;
+use hp_trail::trace::Trace;
 use std::marker::Model;
 use std::sync::{Mutex, Wait};
 
-/// The pool and the frames behind their locks, and the section that this event entered; and the seat that has its slot and its
-/// session in the history.
+/// The pool and the frames behind their locks, for one event of a slot; the seat that has its slot and its session in the
+/// history; whether it entered a section of the pool, and where entries are kept which.
 ///
 /// Each call holds the pool's lock once, for its section. The page of a claim comes from under its node's lock, once the
 /// pool's is free again; pages that go back are given to their nodes before it is taken. So no two of these are held at once.
 #[derive(Drop)]
-pub struct Door<'a, N: Naming + Places, R: Wait, G: Gate, T: Trail<PoolEntry>> {
+pub struct Door<'a, N: Naming + Places, R: Wait, G: Gate, const K: usize> {
     rt: &'a R,
     gate: &'a G,
-    core: &'a Mutex<Core<N, T>>,
+    core: &'a Mutex<Core<N, Trace<PoolEntry, K>>>,
     nodes: &'a NodeLocks<N>,
     history: &'a History<N>,
     mine: Token,
-    asked: Option<Asked>,
+    noted: Noted<K>,
 }
 
-impl<'a, N: Naming + Places, R: Wait, G: Gate, T: Trail<PoolEntry>> Model for Door<'a, N, R, G, T> {
-    ghost use Rattle.std.specs.Prelude.{◌≡◌, None, []};
-    ghost use Rattle.hp_history.specs.Sections.{IsFree};
+impl<'a, N: Naming + Places, R: Wait, G: Gate, const K: usize> Model for Door<'a, N, R, G, K> {
+    ghost use Rattle.std.specs.Prelude.{◌==◌};
+    ghost use Rattle.hp_history.specs.Sections.{asked_in};
+    ghost use Rattle.hp_locked.specs.Doors.{IsDoor};
     ghost use Rattle.hp_locked.specs.Views.{DoorView};
 
     ghost Value = { DoorView };
 
-    ghost view = { λ d. record { asked = d.asked; mine = d.mine.me.0 } };
+    ghost view = { λ d. record { asked = asked_in d.mine.me.0; mine = d.mine.me.0 } };
 
-    ghost invariant = { λ d. (d.mine.table_id ≡ N.history) × (d.mine.me.1 ≡ [])
-        × (d.asked ≡ None → IsFree d.mine.me.0) };
+    ghost invariant = { λ d. IsDoor N.history (K == 1) d.mine.table_id d.mine.me d.noted };
 }
 
-impl<'a, N: Naming + Places, R: Wait, G: Gate, T: Trail<PoolEntry>> Door<'a, N, R, G, T> {
+impl<'a, N: Naming + Places, R: Wait, G: Gate, const K: usize> Door<'a, N, R, G, K> {
     /// A door that was not used.
     #[inline(always)]
     pub fn new(
         rt: &'a R,
         gate: &'a G,
-        core: &'a Mutex<Core<N, T>>,
+        core: &'a Mutex<Core<N, Trace<PoolEntry, K>>>,
         nodes: &'a NodeLocks<N>,
         history: &'a History<N>,
         mine: Token,
@@ -77,7 +78,7 @@ impl<'a, N: Naming + Places, R: Wait, G: Gate, T: Trail<PoolEntry>> Door<'a, N, 
             nodes,
             history,
             mine,
-            asked: None,
+            noted: Noted::new(),
         }
     }
 
@@ -100,8 +101,8 @@ impl<'a, N: Naming + Places, R: Wait, G: Gate, T: Trail<PoolEntry>> Door<'a, N, 
         requires ready { self.old.asked ≡ None }
         requires bytes { 0 < page_bytes }
         ensures { IsOpenedAt (λ d s a e. Asks e.asked s a
-            × IsEntered T.keeps d.mine e.asked e.mine)
-            (λ d. (d.asked ≡ None) × (T.keeps ≡ true)) page_bytes options.now
+            × IsEntered (K == 1) d.mine e.asked e.mine)
+            (λ d. (d.asked ≡ None) × ((K == 1) ≡ true)) page_bytes options.now
             self.old self.new (shown (λ s. s) result) }
     {
         let mine = &mut self.mine;
@@ -112,22 +113,29 @@ impl<'a, N: Naming + Places, R: Wait, G: Gate, T: Trail<PoolEntry>> Door<'a, N, 
         match opened {
             Err(_full) => Err(Refusal::TraceFull),
             Ok((share, asked)) => {
-                self.asked = Some(asked);
+                self.noted.note(Some(asked));
                 share
             }
         }
     }
 
-    /// The section that was entered.
-    pub fn asked_section(&self) -> Option<Asked>
-        ensures { result ≡ self.now.asked }
+    /// Whether the pool was entered.
+    #[inline(always)]
+    pub fn is_entered(&self) -> bool
+        ensures { result ≡ is_some self.now.asked }
     {
-        self.asked
+        self.noted.is_entered()
+    }
+
+    /// The section that was entered, where entries are kept.
+    pub fn asked_section(&self) -> Option<Asked>
+        ensures { (K == 1) ≡ true → result ≡ self.now.asked }
+    {
+        self.noted.section()
     }
 }
 
-impl<'a, N: Naming + Places, R: Wait, G: Gate, T: Trail<PoolEntry>> PoolDoor
-    for Door<'a, N, R, G, T> {
+impl<'a, N: Naming + Places, R: Wait, G: Gate, const K: usize> PoolDoor for Door<'a, N, R, G, K> {
     type Share = Subpool<N>;
 
     type Page = Page<N>;
@@ -150,9 +158,9 @@ impl<'a, N: Naming + Places, R: Wait, G: Gate, T: Trail<PoolEntry>> PoolDoor
 
     ghost is_ready = { λ d. d.asked ≡ None };
 
-    ghost took = { λ d s a e. Asks e.asked s a × IsEntered T.keeps d.mine e.asked e.mine };
+    ghost took = { λ d s a e. Asks e.asked s a × IsEntered (K == 1) d.mine e.asked e.mine };
 
-    ghost is_full = { λ d. (d.asked ≡ None) × (T.keeps ≡ true) };
+    ghost is_full = { λ d. (d.asked ≡ None) × ((K == 1) ≡ true) };
 
     ghost is_left = { λ d. Unit {0} };
 
@@ -168,7 +176,7 @@ impl<'a, N: Naming + Places, R: Wait, G: Gate, T: Trail<PoolEntry>> PoolDoor
             Err(_full) => Err(Refusal::TraceFull),
             Ok(None) => Ok(()),
             Ok(Some(asked)) => {
-                self.asked = Some(asked);
+                self.noted.note(Some(asked));
                 if asked.answer.granted {
                     Ok(())
                 } else {
@@ -188,11 +196,11 @@ impl<'a, N: Naming + Places, R: Wait, G: Gate, T: Trail<PoolEntry>> PoolDoor
             Err(_full) => Err(Refusal::TraceFull),
             Ok((claim, asked)) => match claim {
                 None => {
-                    self.asked = Some(asked);
+                    self.noted.note(Some(asked));
                     Err(Refusal::NoPages)
                 }
                 Some(claim) => {
-                    self.asked = Some(asked);
+                    self.noted.note(Some(asked));
                     Ok(self.nodes.redeem(self.rt, self.gate, claim))
                 }
             },
@@ -208,7 +216,7 @@ impl<'a, N: Naming + Places, R: Wait, G: Gate, T: Trail<PoolEntry>> PoolDoor
         match got {
             Err(_full) => Err(Refusal::TraceFull),
             Ok((claim, asked)) => {
-                self.asked = Some(asked);
+                self.noted.note(Some(asked));
                 Ok(self.nodes.redeem(self.rt, self.gate, claim))
             }
         }
@@ -230,11 +238,11 @@ impl<'a, N: Naming + Places, R: Wait, G: Gate, T: Trail<PoolEntry>> PoolDoor
             Err(_full) => Err(Refusal::TraceFull),
             Ok((parcel, asked)) => match parcel {
                 None => {
-                    self.asked = Some(asked);
+                    self.noted.note(Some(asked));
                     Err(Refusal::NoPages)
                 }
                 Some(parcel) => {
-                    self.asked = Some(asked);
+                    self.noted.note(Some(asked));
                     self.nodes.add_pages(self.rt, self.gate, parcel, batch);
                     Ok(())
                 }
@@ -245,8 +253,9 @@ impl<'a, N: Naming + Places, R: Wait, G: Gate, T: Trail<PoolEntry>> PoolDoor
     fn put(&mut self, share: &mut Subpool<N>, going: &mut PageStore<N>, reserves: u64) {
         let parcel = self.nodes.gather(self.rt, self.gate, going);
         let mut value = self.core.lock(self.rt);
-        let core: &mut Core<N, T> = &mut value;
-        self.asked = core.put(self.history, &mut self.mine, share, parcel, reserves);
+        let core: &mut Core<N, Trace<PoolEntry, K>> = &mut value;
+        let asked = core.put(self.history, &mut self.mine, share, parcel, reserves);
+        self.noted.note(asked);
     }
 
     fn limits(
@@ -263,7 +272,7 @@ impl<'a, N: Naming + Places, R: Wait, G: Gate, T: Trail<PoolEntry>> PoolDoor
         match set {
             Err(_full) => Err(Refusal::TraceFull),
             Ok((files, asked)) => {
-                self.asked = Some(asked);
+                self.noted.note(Some(asked));
                 files
             }
         }
@@ -274,8 +283,9 @@ impl<'a, N: Naming + Places, R: Wait, G: Gate, T: Trail<PoolEntry>> PoolDoor
         let parcel = self.nodes.gather(self.rt, self.gate, &mut spent);
         spent.close();
         let mut value = self.core.lock(self.rt);
-        let core: &mut Core<N, T> = &mut value;
-        self.asked = core.close(self.history, &mut self.mine, share, parcel);
+        let core: &mut Core<N, Trace<PoolEntry, K>> = &mut value;
+        let asked = core.close(self.history, &mut self.mine, share, parcel);
+        self.noted.note(asked);
     }
 }
 
@@ -289,9 +299,9 @@ pub trait SessionDoor: PoolDoor {
     // whether trails are kept
     ghost keeps: { Bool };
 
-    /// The section that was entered.
+    /// The section that was entered, where trails are kept.
     fn asked(&self) -> Option<Asked>
-        ensures { result ≡ asked self.now };
+        ensures { keeps ≡ true → result ≡ asked self.now };
 
     /// The section of a mount: reads nr, and commits the minimum that the options mean at it, for pages of so many bytes.
     /// The share and the limits, or BadOption, MinOverSize or NoPages; or TraceFull, and then there was none.
@@ -310,13 +320,13 @@ pub trait SessionDoor: PoolDoor {
         → Asks (asked e) s a × IsEntered keeps (mine d) (asked e) (mine e) };
 }
 
-impl<'a, N: Naming + Places, R: Wait, G: Gate, T: Trail<PoolEntry>> SessionDoor
-    for Door<'a, N, R, G, T> {
+impl<'a, N: Naming + Places, R: Wait, G: Gate, const K: usize> SessionDoor
+    for Door<'a, N, R, G, K> {
     ghost asked = { λ d. d.asked };
 
     ghost mine = { λ d. d.mine };
 
-    ghost keeps = { T.keeps };
+    ghost keeps = { K == 1 };
 
     ghost begins = { λ d ready. ready };
 

@@ -4,6 +4,7 @@
 mod door;
 mod gate;
 mod nodes;
+mod noted;
 mod noting;
 mod pool_core;
 mod pool_told;

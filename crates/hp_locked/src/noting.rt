@@ -1,19 +1,17 @@
 //! Entries of the pool's trail.
-ghost use Rattle.std.specs.Prelude.{◌≡◌, ◌∷◌, [], length, true, is_some, Some};
+ghost use Rattle.std.specs.Prelude.{◌≡◌, ◌∷◌, [], length, true, Some};
 ghost use Rattle.hp_history.specs.History.{IsSession};
 ghost use Rattle.hp_history.specs.Sections.{IsEntered, IsFree, pool_in, pool_next, pool_receipt, pool_view, pool_with, told_more};
-ghost use Rattle.hp_model.specs.declared.entry.Part.TheVariants.{Pool as AtPool};
 ghost use Rattle.hp_model.specs.declared.entry.PoolEntry.TheVariants.{OfPool, OfSlot};
-ghost use Rattle.hp_model.specs.declared.event.Event.TheVariants.{Pool as OnPool};
 ghost use Rattle.hp_trail.specs.Keeping.{has_room, one_less, with_entry};
-ghost use Rattle.hp_locked.specs.Told.{IsReceipt, pool_reply};
+ghost use Rattle.hp_locked.specs.Told.{pool_reply};
 ghost use Rattle.hp_locked.specs.Views.{IsPlace, IsTrailOf};
 
 use crate::pool_told::PoolTold;
 use atomic_table::Badge;
 use hp_history::{History, Places, Token, View};
-use hp_model::entry::{Asked, Part, PoolEntry, Receipt};
-use hp_model::event::{Event, PoolEvent};
+use hp_model::entry::{Asked, PoolEntry};
+use hp_model::event::PoolEvent;
 use hp_model::section::{PoolAnswer, Section};
 use hp_trail::trail::Trail;
 use std::marker::Brand;
@@ -59,7 +57,7 @@ pub(crate) fn note<N: Places, T: Trail<PoolEntry>>(
     asked
 }
 
-// Notes an event of the pool with its answer, and makes its receipt where entries are kept. The history has both.
+// Notes an event of the pool with its answer, and tells where. The history has both.
 #[inline(always)]
 pub(crate) fn note_event<N: Places, T: Trail<PoolEntry>>(
     trail: &mut T,
@@ -68,10 +66,11 @@ pub(crate) fn note_event<N: Places, T: Trail<PoolEntry>>(
     mine: &mut Token,
     event: PoolEvent,
     told: PoolTold,
-) -> Option<Receipt>
+) -> u64
     requires room { has_room true (T.left trail.old) (T.extra trail.old) ≡ true }
     requires pool { seat.old.table_id ≡ N.history }
     requires one { seat.old.views ≡ pool_view seat.old.views ∷ [] }
+    requires kept { IsTrailOf (pool_in seat.old.views) (T.entries trail.old) }
     requires named { mine.old.table_id ≡ N.history }
     requires session { IsSession mine.old.me.0 }
     requires alone { mine.old.me.1 ≡ [] }
@@ -79,9 +78,7 @@ pub(crate) fn note_event<N: Places, T: Trail<PoolEntry>>(
         (OfPool event (pool_reply told)) }
     ensures left { T.left trail.new ≡ one_less (T.left trail.old) }
     ensures extra { T.extra trail.new ≡ T.extra trail.old }
-    ensures receipt { IsReceipt (T.entries trail.old) AtPool (OnPool event) (pool_reply told)
-        result }
-    ensures given { is_some result ≡ T.keeps }
+    ensures place { T.keeps ≡ true → result ≡ length (pool_in seat.old.views) }
     ensures pool { seat.new.table_id ≡ N.history }
     ensures run { seat.new.views
         ≡ (pool_with event (pool_reply told) (pool_in seat.old.views) ∷ []) ∷ [] }
@@ -92,27 +89,11 @@ pub(crate) fn note_event<N: Places, T: Trail<PoolEntry>>(
       [],
     ) }
 {
-    let receipt = receipt_of(trail, event, told);
+    let place = trail.place();
     trail.push(PoolEntry::OfPool {
         event,
         reply: told.reply(),
     });
     history.answer_pool::<Brand, _>(seat, mine, (event, told));
-    receipt
-}
-
-fn receipt_of<T: Trail<PoolEntry>>(trail: &T, event: PoolEvent, told: PoolTold) -> Option<Receipt>
-    ensures receipt { IsReceipt (T.entries trail.now) AtPool (OnPool event) (pool_reply told)
-        result }
-    ensures given { is_some result ≡ T.keeps }
-{
-    if !trail.is_kept() {
-        return None;
-    }
-    Some(Receipt {
-        part: Part::Pool,
-        place: trail.place(),
-        event: Event::Pool(event),
-        reply: told.reply(),
-    })
+    place
 }

@@ -1,20 +1,18 @@
 //! The pool under its lock.
-ghost use Rattle.std.specs.Prelude.{◌≡◌, ◌*◌, ◌≤◌, ◌∷◌, [], length, true, false, is_some, IfOk, IfSome, OnErr};
+ghost use Rattle.std.specs.Prelude.{◌≡◌, ◌*◌, ◌≤◌, ◌∷◌, [], length, true, false, IfOk, OnErr};
 ghost use Rattle.hp_history.specs.declared.held.Held.TheVariants.{Pool as PoolPart};
 ghost use Rattle.hp_history.specs.History.{IsSession};
 ghost use Rattle.hp_history.specs.Sections.{pool_receipt, told_more};
 ghost use Rattle.hp_model.specs.threads.PoolRun.{IsPoolRun};
 ghost use Rattle.hp_model.specs.pool.NodeRows.{frames_of};
 ghost use Rattle.hp_model.specs.pool.Pool.{granted_at, no_pages};
-ghost use Rattle.hp_model.specs.declared.entry.Part.TheVariants.{Pool as AtPool};
-ghost use Rattle.hp_model.specs.declared.event.Event.TheVariants.{Pool as OfPool};
 ghost use Rattle.hp_model.specs.pool.Resize.{node_counts, pool_event};
 ghost use Rattle.hp_model.specs.text.Writing.{IsWithinLimits};
 ghost use Rattle.hp_mount_door.specs.Door.{IsReady};
 ghost use Rattle.hp_pool.specs.Sums.{idle_pool};
 ghost use Rattle.hp_subpool.specs.Subpool.{committed_of};
 ghost use Rattle.hp_trail.specs.Keeping.{has_room};
-ghost use Rattle.hp_locked.specs.Told.{IsPoolEventDone, IsReceipt, pool_reply};
+ghost use Rattle.hp_locked.specs.Told.{IsPoolEventDone, pool_reply};
 ghost use Rattle.hp_locked.specs.Views.{IsFresh, IsPoolTrail, IsTrailOf, frames_list};
 
 mod giving;
@@ -26,7 +24,7 @@ use crate::pool_told::PoolTold;
 use atomic_table::Badge;
 use hp_history::{History, Places, Token, View};
 use hp_model::answer::NodeCount;
-use hp_model::entry::{PoolEntry, Receipt};
+use hp_model::entry::PoolEntry;
 use hp_model::event::PoolEvent;
 use hp_model::naming::Naming;
 use hp_model::profile::MOST_OVERCOMMIT;
@@ -115,29 +113,25 @@ impl<N: Naming + Places, T: Trail<PoolEntry>> Core<N, T> {
         (pool, trail, seat.into_seat())
     }
 
-    /// An event of the pool alone: its answer, and its receipt where entries are kept. The session that asks is told of it in
-    /// the history. At `Err` the trail is full, and nothing changed.
+    /// An event of the pool alone: its answer, and its place where entries are kept. The session that asks is told of it in the
+    /// history. At `Err` the trail is full, and nothing changed.
     #[inline(always)]
     pub fn event(
         &mut self,
         history: &History<N>,
         mine: &mut Token,
         event: PoolEvent,
-    ) -> Result<(PoolTold, Option<Receipt>), Full>
+    ) -> Result<(PoolTold, u64), Full>
         requires named { mine.old.table_id ≡ N.history }
         requires session { IsSession mine.old.me.0 }
         requires alone { mine.old.me.1 ≡ [] }
         ensures done { IfOk result (λ r. IsPoolEventDone self.old self.new event (pool_reply r.0)) }
-        ensures receipt { IfOk result (λ r. IsReceipt self.old.entries AtPool (OfPool event)
-            (pool_reply r.0) r.1) }
-        ensures given { IfOk result (λ r. is_some r.1 ≡ T.keeps) }
+        ensures place { IfOk result (λ r. T.keeps ≡ true → r.1 ≡ length self.old.run) }
         ensures told { IfOk result (λ r. mine.new.me ≡ (
           told_more mine.old.me.0
               (pool_receipt event (pool_reply r.0) (length self.old.run)) ∷ [],
           [],
         )) }
-        ensures kept { IfOk result (λ r. IfSome r.1 (λ receipt.
-            receipt ≡ pool_receipt event (pool_reply r.0) (length self.old.run))) }
         ensures limits { IfOk result (λ r. IsWithinLimits (pool_reply r.0)) }
         ensures full { OnErr result (has_room false self.old.left self.old.extra ≡ false) }
         ensures keeps { OnErr result (T.keeps ≡ true) }
@@ -151,8 +145,8 @@ impl<N: Naming + Places, T: Trail<PoolEntry>> Core<N, T> {
         }
         let told = answered(pool, event);
         pool.law();
-        let receipt = note_event(trail, seat, history, mine, event, told);
-        Ok((told, receipt))
+        let place = note_event(trail, seat, history, mine, event, told);
+        Ok((told, place))
     }
 }
 

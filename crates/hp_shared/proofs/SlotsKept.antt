@@ -154,6 +154,12 @@ removes_none s e other = refl
 pub mount_event : (s : Slot) (home : ℕ) (e : MountEvent) → IsTrue (is_slot_event s (event_of home e))
 mount_event s home e = may_happen s (event_of home e) (mount_has_place 0 home e)
 
+-- an entry, where entries are kept, by the section that is told there
+pub entry_asked : (k : Bool) (entries : Option (List SlotEntry)) (e : SlotEvent) (reply : Reply) (a b : Option Asked) → is_some entries ≡ k → (k ≡ true → a ≡ b)
+    → with_entry entries (record { event = e; reply = reply; asked = a }) ≡ with_entry entries (record { event = e; reply = reply; asked = b })
+entry_asked k None e reply a b kept same = refl
+entry_asked k (Some es) e reply a b kept same = ap (λ (t : Option Asked). with_entry (Some es) (record { event = e; reply = reply; asked = t })) (same (sym kept))
+
 -- what is asked where the maps are that it goes by
 pub work_event : (s : Slot) (work : SlotWork) → has_maps_for work s ≡ true → IsTrue (is_slot_event s (asked_event work))
 work_event s (w.Mount options) has = refl

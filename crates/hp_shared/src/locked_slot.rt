@@ -180,6 +180,7 @@ impl<N: Naming, T: Trail<SlotEntry>> Slot<N, T> {
         requires another { IsAnother work }
         requires has { has_maps_for work self.old.mount ≡ true }
         requires copies { T.keeps ≡ true → AreCopiesFor work copies }
+        requires keeps { T.keeps ≡ true → D.keeps ≡ true }
         ensures done { IsSlotEvent (full_for (D.is_full door.new) work.entry) N.page_bytes
             self.old self.new (asked_event work.entry)
             (told_reply result.0) (D.asked door.new) result.1 }

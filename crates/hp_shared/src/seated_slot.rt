@@ -1,5 +1,5 @@
 //! A slot with its seat in the history.
-ghost use Rattle.std.specs.Prelude.{◌≡◌, ◌∷◌, ◌<◌, ◌≤◌, [], length, true, false, Ok, None};
+ghost use Rattle.std.specs.Prelude.{◌≡◌, ◌∷◌, ◌<◌, ◌==◌, ◌≤◌, [], length, true, false, Ok, None};
 ghost use Rattle.hp_model.specs.declared.answer.Answer.TheVariants.{Done};
 ghost use Rattle.hp_model.specs.declared.event.SlotEvent.TheVariants.{Ls};
 ghost use Rattle.hp_model.specs.beside.Told.{told_reply};
@@ -26,8 +26,8 @@ use atomic_table::Badge;
 use hp_events::MountEvent;
 use hp_events::copies::Copies;
 use hp_history::{History, Places, Token, View};
-use hp_locked::Gate;
-use hp_model::entry::{PoolEntry, Receipt, SlotEntry};
+use hp_locked::{Door, Gate};
+use hp_model::entry::{Receipt, SlotEntry};
 use hp_model::names::Names;
 use hp_model::naming::Naming;
 use hp_model::refusal::Refusal;
@@ -122,9 +122,9 @@ impl<N: Naming + Places, T: Trail<SlotEntry>> SeatedSlot<N, T> {
     /// entries are kept. For these there are copies of what it carries. Answered TraceFull, and then nothing changed, where the
     /// trail has no room, or where the event enters a section of the pool that is more than a giving back, and the pool's trail
     /// has none; but an exit, which always has its place, is done.
-    pub fn work<'a, R: Wait, G: Gate, P: Trail<PoolEntry>>(
+    pub fn work<'a, R: Wait, G: Gate, const K: usize>(
         &mut self,
-        ways: &Ways<'_, N, R, G, P>,
+        ways: &Ways<'_, N, R, G, K>,
         mine: Token,
         alloc: Global,
         page_bytes: u64,
@@ -135,7 +135,7 @@ impl<N: Naming + Places, T: Trail<SlotEntry>> SeatedSlot<N, T> {
         requires named { mine.table_id ≡ N.history }
         requires session { IsSession mine.me.0 }
         requires alone { mine.me.1 ≡ [] }
-        requires keeps { P.keeps ≡ T.keeps }
+        requires keeps { (K == 1) ≡ T.keeps }
         requires page_bytes { page_bytes ≡ N.page_bytes }
         requires bytes { 0 < page_bytes }
         requires room { needs_room work ≡ true → most_bytes ≤ length room.old }
@@ -156,7 +156,14 @@ impl<N: Naming + Places, T: Trail<SlotEntry>> SeatedSlot<N, T> {
         let SeatedSlot { slot, seat } = self;
         let mut mine = mine;
         join(ways.history, seat, &mut mine);
-        let mut door = ways.door(mine);
+        let mut door = Door::new(
+            ways.rt,
+            ways.gate,
+            ways.core,
+            ways.nodes,
+            ways.history,
+            mine,
+        );
         let (told, receipt) = slot.work(&mut door, alloc, page_bytes, work, copies, room);
         let mut mine = door.into_mine();
         *seat = leave(ways.history, &mut mine, work, &told);
@@ -166,9 +173,9 @@ impl<N: Naming + Places, T: Trail<SlotEntry>> SeatedSlot<N, T> {
     /// An event of a mount but a list of names, where no entries are kept: the session's seat, the reply, with bytes in the
     /// front of the room, and whether the pool was entered.
     #[inline(always)]
-    pub fn event_unnoted<'a, R: Wait, G: Gate, P: Trail<PoolEntry>>(
+    pub fn event_unnoted<'a, R: Wait, G: Gate, const K: usize>(
         &mut self,
-        ways: &Ways<'_, N, R, G, P>,
+        ways: &Ways<'_, N, R, G, K>,
         mine: Token,
         page_bytes: u64,
         home: u64,
@@ -178,7 +185,7 @@ impl<N: Naming + Places, T: Trail<SlotEntry>> SeatedSlot<N, T> {
         requires named { mine.table_id ≡ N.history }
         requires session { IsSession mine.me.0 }
         requires alone { mine.me.1 ≡ [] }
-        requires keeps { P.keeps ≡ T.keeps }
+        requires keeps { (K == 1) ≡ T.keeps }
         requires unkept { T.keeps ≡ false }
         requires page_bytes { page_bytes ≡ N.page_bytes }
         requires room { shows_bytes event ≡ true → most_bytes ≤ length room.old }
@@ -194,9 +201,16 @@ impl<N: Naming + Places, T: Trail<SlotEntry>> SeatedSlot<N, T> {
         let SeatedSlot { slot, seat } = self;
         let mut mine = mine;
         join(ways.history, seat, &mut mine);
-        let mut door = ways.door(mine);
+        let mut door = Door::new(
+            ways.rt,
+            ways.gate,
+            ways.core,
+            ways.nodes,
+            ways.history,
+            mine,
+        );
         let told = slot.event_unnoted(&mut door, page_bytes, home, event, room);
-        let entered = door.asked_section().is_some();
+        let entered = door.is_entered();
         let mut mine = door.into_mine();
         *seat = ways
             .history

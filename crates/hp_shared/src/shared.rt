@@ -219,11 +219,7 @@ impl<N: Naming + Places, const K: usize> Shared<N, K> {
 
     /// The ways from a slot to the pool and to the frames.
     #[inline(always)]
-    pub fn ways<'a, R: Wait, G: Gate>(
-        &'a self,
-        rt: &'a R,
-        gate: &'a G,
-    ) -> Ways<'a, N, R, G, Trace<PoolEntry, K>> {
+    pub fn ways<'a, R: Wait, G: Gate>(&'a self, rt: &'a R, gate: &'a G) -> Ways<'a, N, R, G, K> {
         Ways {
             rt,
             gate,

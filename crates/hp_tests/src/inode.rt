@@ -240,7 +240,7 @@ const LEN: u64 = 300_000;
 const TURNS: u32 = 300;
 
 // The next of a row of numbers without order.
-fn next(seed: &mut u64) -> u64 {
+pub(crate) fn next(seed: &mut u64) -> u64 {
     *seed = seed
         .wrapping_mul(6_364_136_223_846_793_005)
         .wrapping_add(1_442_695_040_888_963_407);

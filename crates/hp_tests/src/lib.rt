@@ -8,6 +8,8 @@ mod inode;
 #[cfg(test)]
 mod mapping;
 #[cfg(test)]
+mod marks;
+#[cfg(test)]
 mod nodes;
 #[cfg(test)]
 mod options;

@@ -1,12 +1,11 @@
-use Rattle.std.proofs.Common.{◌≡◌, inr, true, Option, None, sym, ap, ◌∙◌, subst}
-use Rattle.hp_model.specs.declared.entry.Asked.{Asked}
+use Rattle.std.proofs.Common.{◌≡◌, inr, true, None, sym, ap, ◌∙◌, subst}
 use Rattle.hp_model.specs.beside.Told.{told_reply}
 use Rattle.hp_trail.specs.Keeping.{with_entry}
 use Rattle.hp_parts.specs.Answered.{Went}
 use Rattle.hp_shared.specs.Slots.{IsSlotEvent, SlotView}
 use Rattle.hp_parts.specs.SlotWork.{asked_event, is_exit}
 use Rattle.hp_shared.specs.SlotWork.{full_for, has_maps_for}
-use Rattle.hp_shared.proofs.SlotsKept.{event_done, event_full, event_went, full_stays, may_fit, may_room, slot_noted, was_full, work_event, work_removes}
+use Rattle.hp_shared.proofs.SlotsKept.{entry_asked, event_done, event_full, event_went, full_stays, may_fit, may_room, slot_noted, was_full, work_event, work_removes}
 use Rattle.hp_shared.proofs.locked_slot.Slot.work.Given.{Over}
 use Rattle.hp_shared.proofs.locked_slot.Slot.work.Goals as goal
 use Rattle.hp_shared.proofs.locked_slot.Slot.work.Goals.{After-ask-told, After-note-receipt}
@@ -68,8 +67,8 @@ module _ (g : Over) (c : After-note-receipt g) where
   entries : g.T.Trail.entries c.note-receipt.new.trail ≡ with_entry (g.T.Trail.entries c.self.inside.trail)
       (record { event = asked_event c.args.work; reply = told_reply c.ask-told.result; asked = g.D.SessionDoor.asked c.ask-told.new.door })
   entries = c.note-receipt.ensures.entries
-      ∙ ap (λ (a : Option Asked). with_entry (g.T.Trail.entries c.self.inside.trail)
-      (record { event = asked_event c.args.work; reply = told_reply c.ask-told.result; asked = a })) c.asked.ensures
+      ∙ entry_asked g.T.Trail.keeps (g.T.Trail.entries c.self.inside.trail) (asked_event c.args.work) (told_reply c.ask-told.result) c.asked.result
+      (g.D.SessionDoor.asked c.ask-told.new.door) (g.met.T.Trail.kept c.self.inside.trail) (λ kept. c.asked.ensures (c.requires.keeps kept))
 
 pub invariant_of-self-2 : goal.invariant_of-self-2
 invariant_of-self-2 g c =

@@ -1,4 +1,4 @@
-use Rattle.std.proofs.Common.{◌≡◌, false, Bool, None, List, [], ◌∷◌, sym, ap, ◌∙◌, subst}
+use Rattle.std.proofs.Common.{◌≡◌, ◌==◌, false, Bool, None, List, [], ◌∷◌, sym, ap, ◌∙◌, subst}
 use Rattle.std.proofs.lemmas.Bool.{false≢true}
 use Rattle.hp_events.specs.Event.{event_of}
 use Rattle.hp_history.specs.declared.held.Held.{Held}
@@ -18,15 +18,15 @@ module _ (g : Over) (c : After-leave g) where
   abbrev run : List SlotEntry
   run = run_in c.self.inside.seat.views
 
-  at_door : c.door-door.result.mine ≡ held c.self.inside.slot.number run c.args.mine.me.0 None
-  at_door = ap (λ d. d.mine) c.door-door.ensures ∙ (ap (λ m. m.0) c.join.ensures.both
+  at_door : c.new-door.result.mine ≡ held c.self.inside.slot.number run c.args.mine.me.0 None
+  at_door = ap (λ d. d.mine) c.new-door.ensures ∙ (ap (λ m. m.0) c.join.ensures.both
       ∙ ap (λ h. h ∷ session_view c.args.mine.me.0 ∷ []) (ap (λ vs. free_slot (first_of vs)) c.self.invariant.one))
 
   entered : IsEntered g.T.Trail.keeps (held c.self.inside.slot.number run c.args.mine.me.0 None) c.event_unnoted-told.new.door.asked c.into_mine-mine.result.me.0
   entered =
       subst (λ (b : Bool). IsEntered b (held c.self.inside.slot.number run c.args.mine.me.0 None) c.event_unnoted-told.new.door.asked c.into_mine-mine.result.me.0) c.requires.keeps
-      (subst (λ (v : List Held). IsEntered g.P.Trail.keeps v c.event_unnoted-told.new.door.asked c.into_mine-mine.result.me.0) at_door
-      (subst (λ (w : List Held). IsEntered g.P.Trail.keeps c.door-door.result.mine c.event_unnoted-told.new.door.asked w) (sym (ap (λ m. m.0) c.into_mine-mine.ensures.mine))
+      (subst (λ (v : List Held). IsEntered (g.row.K == 1) v c.event_unnoted-told.new.door.asked c.into_mine-mine.result.me.0) at_door
+      (subst (λ (w : List Held). IsEntered (g.row.K == 1) c.new-door.result.mine c.event_unnoted-told.new.door.asked w) (sym (ap (λ m. m.0) c.into_mine-mine.ensures.mine))
       c.event_unnoted-told.ensures.entered))
 
   does : IsSlotEvent ⊥ g.N.Naming.page_bytes c.self.inside.slot c.event_unnoted-told.new.self (event_of c.args.home c.args.event)

@@ -1,4 +1,4 @@
-use Rattle.std.proofs.Common.{◌≡◌, true, Bool, None, List, [], ◌∷◌, sym, ap, ◌∙◌, subst}
+use Rattle.std.proofs.Common.{◌≡◌, ◌==◌, true, Bool, None, List, [], ◌∷◌, sym, ap, ◌∙◌, subst}
 use Rattle.hp_history.specs.declared.held.Held.{Held}
 use Rattle.hp_history.specs.Sections.{IsEntered, free_slot, session_view}
 use Rattle.hp_model.specs.beside.Told.{told_reply}
@@ -17,15 +17,15 @@ module _ (g : Over) (c : After-leave g) where
   abbrev run : List SlotEntry
   run = run_in c.self.inside.seat.views
 
-  at_door : c.door-door.result.mine ≡ held c.self.inside.slot.number run c.args.mine.me.0 None
-  at_door = ap (λ d. d.mine) c.door-door.ensures ∙ (ap (λ m. m.0) c.join.ensures.both
+  at_door : c.new-door.result.mine ≡ held c.self.inside.slot.number run c.args.mine.me.0 None
+  at_door = ap (λ d. d.mine) c.new-door.ensures ∙ (ap (λ m. m.0) c.join.ensures.both
       ∙ ap (λ h. h ∷ session_view c.args.mine.me.0 ∷ []) (ap (λ vs. free_slot (first_of vs)) c.self.invariant.one))
 
   entered : IsEntered g.T.Trail.keeps (held c.self.inside.slot.number run c.args.mine.me.0 None) c.work-told.new.door.asked c.into_mine-mine.result.me.0
   entered =
       subst (λ (b : Bool). IsEntered b (held c.self.inside.slot.number run c.args.mine.me.0 None) c.work-told.new.door.asked c.into_mine-mine.result.me.0) c.requires.keeps
-      (subst (λ (v : List Held). IsEntered g.P.Trail.keeps v c.work-told.new.door.asked c.into_mine-mine.result.me.0) at_door
-      (subst (λ (w : List Held). IsEntered g.P.Trail.keeps c.door-door.result.mine c.work-told.new.door.asked w) (sym (ap (λ m. m.0) c.into_mine-mine.ensures.mine)) c.work-told.ensures.entered))
+      (subst (λ (v : List Held). IsEntered (g.row.K == 1) v c.work-told.new.door.asked c.into_mine-mine.result.me.0) at_door
+      (subst (λ (w : List Held). IsEntered (g.row.K == 1) c.new-door.result.mine c.work-told.new.door.asked w) (sym (ap (λ m. m.0) c.into_mine-mine.ensures.mine)) c.work-told.ensures.entered))
 
   does : IsSlotEvent (full_for (g.T.Trail.keeps ≡ true) c.args.work) g.N.Naming.page_bytes c.self.inside.slot c.work-told.new.self (asked_event c.args.work)
       (told_reply c.work-told.result.0) c.work-told.new.door.asked c.work-told.result.1

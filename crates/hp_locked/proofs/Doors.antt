@@ -1,0 +1,74 @@
+-- What a door has once a section was entered.
+use Rattle.std.proofs.Common.{◌≡◌, ◌∷◌, ◌||◌, [], ℕ, Bool, true, false, Option, None, Some, List, refl, ap, arith, subst, sym, ◌∙◌}
+use Rattle.std.specs.Prelude.{is_some}
+use Rattle.std.specs.List.{sum}
+use Rattle.atomic_table.specs.Seated.{TableId}
+use Rattle.hp_history.specs.declared.held.Held.{Held}
+use Rattle.hp_history.specs.Sections.{IsEntered, IsFree, asked_in, busy, placed}
+use Rattle.hp_model.specs.declared.entry.Asked.{Asked}
+use Rattle.hp_model.specs.declared.section.PoolAnswer.{PoolAnswer}
+use Rattle.hp_model.specs.declared.section.Section.{Section}
+use Rattle.hp_model.specs.declared.section.Section.TheVariants.{GiveBack}
+use Rattle.hp_model.specs.files.Page.{Page}
+use Rattle.hp_model.specs.pool.Pool.{granted_at}
+use Rattle.hp_mount_door.specs.Door.{GivesBack, by_node}
+use Rattle.hp_locked.specs.Doors.{IsDoor, NotedView, later}
+use Rattle.hp_locked.specs.Views.{Asks, CoreView, DoorView, IsGiven}
+
+-- a seat that is free entered nothing
+pub free_unasked : (v : List Held) → IsFree v → asked_in v ≡ None
+free_unasked v free = ap asked_in free
+
+-- a section that was entered, as it is said of doors
+pub door_took : (kept : Bool) (v d : DoorView) (w : List Held) (a : Asked) (s : Section) (r : PoolAnswer) → v ≡ d → IsEntered kept v.mine (Some a) w
+    → a.section ≡ s → a.answer ≡ r → Asks (asked_in w) s r × IsEntered kept d.mine (asked_in w) w
+door_took kept v d w a s r view (place, at, is) es er = (
+  (place, ap asked_in is ∙ (λ i. Some (record { place = place; section = es i; answer = er i }))),
+  subst (λ (t : Option Asked). IsEntered kept d.mine t w) (sym (ap asked_in is))
+      (place, (λ k. refl), subst (λ (x : DoorView). w ≡ busy (placed place a) x.mine ∷ []) view is),
+)
+
+-- what went back through a door
+module _ (kept : Bool) (x w : List Held) (d : DoorView) (view : record { asked = asked_in x; mine = x } ≡ d) (pages : List Page) (k : ℕ) (old new : CoreView) where
+  pub door_gave : (puts : List ℕ) (m : ℕ) (t : Option Asked) → puts ≡ by_node pages → m ≡ k → IsGiven puts m old new t → IsEntered kept x t w
+      → GivesBack (λ (c : DoorView) s a (e : DoorView). Asks e.asked s a × IsEntered kept c.mine e.asked e.mine) pages k d (record { asked = asked_in w; mine = w })
+  door_gave puts m None same falls given is = record {
+    some = λ l. absurd (let none = given.1 in let sums = ap sum same in omega (arith, l, none, sums, falls));
+    none = λ z. ap (λ (v : List Held). record { asked = asked_in v; mine = v }) is ∙ view;
+  }
+  door_gave puts m (Some a) same falls given is = record {
+    some = λ l. door_took kept (record { asked = asked_in x; mine = x }) d w a (GiveBack (by_node pages) k) (granted_at 0) view is
+        (given.1 ∙ (λ i. GiveBack (same i) (falls i))) given.2;
+    none = λ z. absurd (let some = given.3 in let sums = ap sum same in omega (arith, some, z, sums, falls));
+  }
+
+module _ (history : TableId) (keeps : Bool) where
+  -- a door that was not used, once a section was entered through it, if one was
+  pub door_entered : (id id2 : TableId) (me me2 : List Held × List (ℕ × Unit {0})) (n n2 : NotedView) (t : Option Asked)
+      → IsDoor history keeps id me n → asked_in me.0 ≡ None → IsEntered keeps me.0 t me2.0 → id2 ≡ history → me2.1 ≡ []
+      → n2.is_entered ≡ (is_some t || n.is_entered) → (keeps ≡ true → n2.section ≡ later t n.section) → IsDoor history keeps id2 me2 n2
+  door_entered id id2 me me2 n n2 None was ready is named alone now noted = record {
+    named = named;
+    alone = alone;
+    free = λ none. subst IsFree (sym is) (was.free ready);
+    entered = now ∙ was.entered ∙ ap (λ (v : List Held). is_some (asked_in v)) (sym is);
+    noted = λ k. noted k ∙ was.noted k ∙ ap asked_in (sym is);
+  }
+  door_entered id id2 me me2 n n2 (Some a) was ready (place, at, is) named alone now noted = record {
+    named = named;
+    alone = alone;
+    free = λ none. absurd (let no = sym (ap asked_in is) ∙ none in cc);
+    entered = now ∙ ap (λ (v : List Held). is_some (asked_in v)) (sym is);
+    noted = λ k. noted k ∙ (λ i. Some (record { place = at k i; section = a.section; answer = a.answer })) ∙ ap asked_in (sym is);
+  }
+
+  -- a door that was not used
+  pub door_fresh : (id : TableId) (me : List Held × List (ℕ × Unit {0})) (n : NotedView) → id ≡ history → IsFree me.0 → me.1 ≡ []
+      → n.is_entered ≡ false → (keeps ≡ true → n.section ≡ None) → IsDoor history keeps id me n
+  door_fresh id me n named free alone unused none = record {
+    named = named;
+    alone = alone;
+    free = λ unasked. free;
+    entered = unused ∙ ap is_some (sym (free_unasked me.0 free));
+    noted = λ k. none k ∙ sym (free_unasked me.0 free);
+  }

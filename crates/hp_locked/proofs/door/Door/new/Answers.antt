@@ -1,0 +1,8 @@
+use Rattle.std.proofs.Common.{◌==◌}
+use Rattle.hp_locked.proofs.Doors.{door_fresh}
+use Rattle.hp_locked.proofs.door.Door.new.Goals as goal
+
+pub invariant_of-result : goal.invariant_of-result
+invariant_of-result g c =
+    door_fresh g.N.Places.history (g.row.K == 1) c.args.mine.table_id c.args.mine.me c.new.result c.requires.named c.requires.free c.requires.alone
+    c.new.ensures.entered c.new.ensures.section
