@@ -2,15 +2,11 @@
 import os
 import subprocess
 import sys
-from pathlib import Path
 
-sys.dont_write_bytecode = True
-TOP = Path(__file__).resolve().parents[2]
-sys.path[:0] = [str(TOP / "tools"), str(TOP / ".ci")]
 import built
+from built import PROGRAM, TOP
 
-built.PROGRAM = Path(os.environ.get("HUGETLBD_TESTED", built.PROGRAM)).resolve()
-PROGRAM, TOOL = built.PROGRAM, TOP / "tools/hugetlbctl"
+TOOL = TOP / "tools/hugetlbctl"
 TRANSCRIPTS, PICTURES, EXAMPLES, PLANS = TOP / "tests/hugetlbctl", TOP / "docs/pictures", TOP / "examples", TOP / "tests/plans"
 
 

@@ -68,6 +68,8 @@ def test_interrupt_keeps_the_machine(tmp_path):
     """Ctrl-C at the prompt gives a new prompt, and the machine stands as it was."""
     terminal = Terminal(tmp_path)
     terminal.type("nr 3\n", "ok 3")
+    # (an interrupt between the prompt and Python's wait for a key is told with the next key)
+    time.sleep(0.5)
     terminal.type("\x03", "\n")
     terminal.type("connect 1 0\n", "ok                       Total 3  Free 3")
     terminal.type("quit\n", "")

@@ -1,4 +1,5 @@
 """Scripts whose lines go as far as the limits allow, which must be answered wherever memory is ample."""
+import pytest
 
 
 def at_the_limits():
@@ -34,3 +35,6 @@ def at_the_limits():
     yield "262,144 pages", ["--frames", most], ["nr 262145", *full, "preallocate 0 d 0 1", "meminfo", "nodes"], ["error 2 NoPages"]
     options = ",".join(100 * ["size=4K"])
     yield "long options", [], ["nr 8", f"mount 1 {options}", "df 1", f"remount 1 {options},min_size=2K", "df 1", f"mount 2 {options},min_size=9K"], ["error 10 MinOverSize"]
+
+
+each_limit = pytest.mark.parametrize("words, lines, refused", [pytest.param(*it, id=what) for what, *it in at_the_limits()])

@@ -1,17 +1,24 @@
-"""What the gate built, and how it is run: test programs, the program, and scripts with the replies that they must get."""
+"""The programs that were built, how tests run them, and scripts with the replies that they must get."""
 import os
 import re
 import selectors
 import subprocess
-import tempfile
+import sys
 from pathlib import Path
-from shutil import which
+
+import pytest
 
 TOP = Path(__file__).resolve().parent.parent
-PROGRAM = TOP / "crates/hugetlbd/out/hugetlbd"
+sys.dont_write_bytecode = True
+sys.path.insert(0, str(TOP / "tools"))
+# The one program that is tested, or the proved one; with this also the build that Rattle's own compiler makes of it, where it stands beside.
+NAMED = os.environ.get("HUGETLBD_TESTED")
+PROGRAM = Path(NAMED or TOP / "crates/hugetlbd/out/hugetlbd").resolve()
+PROGRAMS = [PROGRAM] if NAMED else [PROGRAM, *PROGRAM.parent.glob("hugetlbd.by-rattle")]
 QUICK = TOP / "out/quick/hugetlbd"
 # A run that has not answered by then has hung.
 SECONDS = 20
+OUT_OF_MEMORY = b"hugetlbd: out of memory\n"
 
 
 def version():
@@ -19,8 +26,17 @@ def version():
     return re.search(r'"hugetlbd ([^"\\]+)\\n"', (TOP / "crates/hp_words/src/config.rt").read_text())[1]
 
 
-class Failed(Exception):
-    """A run that went otherwise than it must."""
+def each_of(programs):
+    """A fixture that gives a test each of these programs, one after another."""
+    @pytest.fixture(scope="module", params=programs, ids=lambda it: "quick" if it == QUICK else it.name)
+    def program(request):
+        return request.param
+    return program
+
+
+def text_of(lines):
+    """A script of these lines."""
+    return "".join(f"{line}\n" for line in lines).encode()
 
 
 class Case:
@@ -52,9 +68,11 @@ def replies_in(text):
 def cases():
     """The scripts with replies: the worked rows and the examples."""
     found = [*(TOP / "tests/rows").glob("*.script"), *(TOP / "examples").glob("*.script")]
-    if not found:
-        raise Failed("no script was found")
+    assert found, "no script was found"
     return [Case(script) for script in sorted(found)]
+
+
+each_case = pytest.mark.parametrize("case", cases(), ids=lambda it: it.name)
 
 
 def blocks_of(document):
@@ -96,43 +114,35 @@ def pasted():
                     yield place, words, script.read_bytes(), script.with_suffix(".replies").read_bytes()
                     continue
                 behind = blocks[block + 1] if block + 1 < len(blocks) else (place, [], [])
-                if behind[1] != ["replies"]:
-                    raise Failed(f"{place}: no block of replies stands behind this one")
+                assert behind[1] == ["replies"], f"{place}: no block of replies stands behind this one"
                 yield place, words, script.encode(), "".join(f"{it}\n" for it in behind[2]).encode()
 
 
 class Memory:
     """The preloaded counter of a program's calls for memory, which can refuse one of them."""
 
-    def __init__(self, folder):
-        self.library, self.report = f"{folder}/refuse.so", f"{folder}/report"
-        compilers = [os.environ.get("CC"), "cc", "gcc", "clang"]
-        compiler = next((each for each in compilers if each and which(each)), None)
-        if compiler is None:
-            raise Failed("no C compiler was found for tests/refuse.c: set CC")
-        build = [compiler, "-O2", "-shared", "-fPIC", "-o", self.library, TOP / "tests/refuse.c"]
-        subprocess.run(build, check=True)
+    def __init__(self, library, report):
+        self.library, self.report = library, report
 
     def environment(self, refused=0, above=0):
         """What a program is started with so that its call of this number gets no memory, or each for more bytes than these; 0: each does."""
-        return {"LD_PRELOAD": self.library, "REFUSE_AT": str(refused), "REFUSE_ABOVE": str(above), "REFUSE_REPORT": self.report}
+        return {"LD_PRELOAD": str(self.library), "REFUSE_AT": str(refused), "REFUSE_ABOVE": str(above), "REFUSE_REPORT": str(self.report)}
 
     def told(self):
         """After the run: the calls made, the blocks still held, and the most bytes held at one time; none after an abort."""
-        report = Path(self.report)
-        if not report.exists():
+        if not self.report.exists():
             return 0, 0, 0
-        told = [int(number) for number in report.read_text().split()]
-        report.unlink()
+        told = [int(number) for number in self.report.read_text().split()]
+        self.report.unlink()
         return told
 
 
 class Client:
     """A client that gives the program one line at a time, and waits for its reply."""
 
-    def __init__(self, words, environment=None):
+    def __init__(self, program, words, environment=None):
         pipes = {"stdin": subprocess.PIPE, "stdout": subprocess.PIPE, "stderr": subprocess.PIPE}
-        self.program = subprocess.Popen([PROGRAM, *words], bufsize=0, env=environment or {}, **pipes)
+        self.program = subprocess.Popen([program, *words], bufsize=0, env=environment or {}, **pipes)
         self.selector = selectors.DefaultSelector()
         self.selector.register(self.program.stdout, selectors.EVENT_READ)
         self.left = b""
@@ -142,7 +152,7 @@ class Client:
         while b"\n" not in self.left:
             if not self.selector.select(SECONDS):
                 self.program.kill()
-                raise Failed("no reply came to a line while the client waited for it")
+                raise AssertionError("no reply came to a line while the client waited for it")
             more = os.read(self.program.stdout.fileno(), 65536)
             if not more:
                 break
@@ -166,11 +176,6 @@ class Client:
             output, faults = self.program.communicate(timeout=SECONDS)
         except subprocess.TimeoutExpired:
             self.program.kill()
-            raise Failed("the program did not end at its input's end") from None
+            raise AssertionError("the program did not end at its input's end") from None
         self.selector.close()
         return self.left + output, self.program.returncode, faults
-
-
-def room():
-    """A folder for a run's files."""
-    return tempfile.TemporaryDirectory(prefix="hugetlbd-")

@@ -1,0 +1,127 @@
+"""The memory that the program asks for and holds: no more than what is there needs."""
+import pytest
+from built import text_of
+
+
+@pytest.fixture
+def held(run, memory):
+    """Runs lines, and answers the most bytes that they hold at one time, their calls for memory, and the replies; at the end nothing is held."""
+    def held(lines, words=()):
+        status, output, faults = run(words, text_of(lines), environment=memory.environment())
+        assert (status, faults) == (0, b"")
+        calls, left, most = memory.told()
+        assert left == 0, "blocks held at the end"
+        *replies, end = output.decode().split("\n")
+        assert end == ""
+        return most, calls, replies
+    return held
+
+
+@pytest.fixture
+def grown(held):
+    """By how many bytes the most that is held grows from few turns to many; a turn has lines with their replies, and a number of its own."""
+    def grown(start, turn, few, many, words=(), first=0):
+        most = []
+        for turns in (few, many):
+            pairs = [*start, *(pair for number in range(first, first + turns) for pair in turn(number))]
+            bytes_held, _, replies = held([line for line, _ in pairs], words)
+            assert replies == [reply for _, reply in pairs]
+            most.append(bytes_held)
+        return most[1] - most[0]
+    return grown
+
+
+def test_asks_no_memory_for_lines(held):
+    """The calls for memory don't grow with lines that make nothing new, whatever names, options or bytes they carry."""
+    start = ["nr 4", "connect 1 0", "create 0 a", "map 1 0 a 0 2 shared", "store 1 0 1 0 0 00"]
+    lines = ["meminfo", "df 0", "load 1 0 1 0 0 8", "load 1 0 1 9 0 8", "nr 4", "", "no such line",
+             "store 1 0 1 0 0 " + 256 * "5a", "read 0 a 0 0 8", "stat 0 " + 64 * "b", "stat 0 " + 900 * "c",
+             "create 0 a", "truncate 0 a 2", "mount 1 " + 900 * "d", "mount 0 size=4K,nr_inodes=7"]
+    assert held(start + 10 * lines)[1] == held(start + 1000 * lines)[1]
+
+
+def test_holds_what_it_needs(grown):
+    """Mounts, files and maps that come and go are given back: the most bytes held don't grow with the turns."""
+    turn = [("mount 1 min_size=2K", "ok"), ("create 1 a", "ok"), ("umount 1", "ok")]
+    assert grown([("nr 4", "ok 4")], lambda _: turn, 10, 1000) == 0
+
+
+def test_holds_nothing_of_tasks_that_went(grown):
+    """Tasks that fork, map, store and exit leave nothing: the most bytes held don't grow with their numbers."""
+    def turn(number):
+        task, child = 2 * number, 2 * number + 1
+        return [(f"connect {task} 0", "ok"), (f"map {task} 0 a 0 1 shared", "ok 1"), (f"anon {task} 2 private", "ok 2"), (f"store {task} 0 2 0 0 61", "ok"),
+                (f"fork {task} {child}", "ok"), (f"store {child} 0 2 0 0 62", "ok"), (f"load {task} 0 2 0 0 1", "ok 61"), (f"exit {task}", "ok"),
+                (f"load {child} 0 2 0 0 1", "ok 62"), (f"unmap {child} 0 2 0 2", "ok"), (f"exit {child}", "ok")]
+    assert grown([("nr 8", "ok 8"), ("create 0 a", "ok")], turn, 10, 1000) == 0
+
+
+def test_holds_nothing_of_files_that_went(grown):
+    """Files with names of their own, their maps, and lines that are refused leave nothing: the most bytes held don't grow with the turns."""
+    def turn(number):
+        a, b = f"a{number}", f"b{number}"
+        return [(f"create 0 {a}", "ok"), (f"unlink 0 {a}", "ok"), (f"create 0 {b}", "ok"), (f"create 0 {b}", "error 13 FileExists"),
+                (f"map 1 0 {b} 0 2 shared", "ok 1"), (f"map 1 0 {b} 0 2 private", "ok 2"), (f"map 1 0 {b} 0 60 private", "error 2 NoPages"),
+                ("store 1 0 1 0 0 61", "ok"), ("store 1 0 2 1 0 62", "ok"), (f"punch 0 {b} 0 1", "ok"), (f"truncate 0 {b} 0", "ok"),
+                ("unmap 1 0 1 0 2", "ok"), (f"unlink 0 {b}", "ok"), ("unmap 1 0 2 0 2", "ok")]
+    assert grown([("nr 8", "ok 8"), ("connect 1 0", "ok")], turn, 10, 1000, first=1000) == 0
+
+
+def test_holds_nothing_of_refused_maps(grown):
+    """Maps that are refused, of tasks with numbers of their own, leave nothing: the most bytes held don't grow with the turns."""
+    def turn(task):
+        return [(f"connect {task} 0", "ok"), (f"anon {task} 60 private", "error 2 NoPages"), (f"map {task} 0 a 0 60 private", "error 2 NoPages"),
+                (f"map {task} 0 a 0 60 shared", "error 2 NoPages"), (f"exit {task}", "ok")]
+    assert grown([("nr 8", "ok 8"), ("create 0 a", "ok")], turn, 10, 3000) == 0
+
+
+@pytest.mark.parametrize("index, kilobytes", [(1048575, 44), (16777215, 45)])
+def test_holds_little_of_far_entries(grown, index, kilobytes):
+    """A file's entry at a far index takes the tables of its block of 65,536 indices, and 4 bytes for each block below."""
+    def turn(number):
+        return [(f"create 0 f{number}", "ok"), (f"map 1 0 f{number} {index} 1 shared", f"ok {number + 1}"), (f"store 1 0 {number + 1} {index} 0 61", "ok")]
+    assert grown([("nr 128", "ok 128"), ("connect 1 0", "ok")], turn, 1, 101, ["--frames", "64,64"]) < 100 * kilobytes * 1024
+
+
+def test_holds_little_of_files_cut_to_nothing(grown):
+    """A file that had an entry at the last index takes no tables once it is cut to length 0: less than 1 KB."""
+    def turn(number):
+        return [(f"create 0 f{number}", "ok"), (f"map 1 0 f{number} 16777215 1 shared", "ok 1"), ("store 1 0 1 16777215 0 61", "ok"),
+                (f"truncate 0 f{number} 0", "ok"), ("unmap 1 0 1 16777215 16777216", "ok")]
+    assert grown([("nr 8", "ok 8"), ("connect 1 0", "ok")], turn, 1, 100) < 100 * 1024
+
+
+def test_holds_little_of_pages_that_went(held):
+    """A page that comes and goes, at one place after another of a file, leaves the tables of one block of 65,536 indices at most."""
+    start = ["nr 1", "create 0 a"]
+    most, _, replies = held([*start, *(f"{what} 0 a {at} {at + 1}" for at in range(0, 16_777_216, 256) for what in ("preallocate", "punch")), "stat 0 a"])
+    assert replies[-1] == "ok 16776961 0 0 0"
+    assert most - held(start)[0] < 1 << 20
+    mapped = [*start, "connect 1 0", "map 1 0 a 70000 1 shared noreserve"]
+    few, many = (held([*mapped, *turns * ["fault 1 0 1 70000 write", "punch 0 a 70000 70001"]])[1] for turns in (10, 1000))
+    assert few == many, "calls for memory of a page that comes and goes in one place"
+
+
+@pytest.mark.parametrize("line", ["map 1 0 a {} 65536 shared", "preallocate 0 a {} {}"])
+def test_holds_little_of_ranges_that_were_refused(held, line):
+    """Maps and preallocations that are refused a page leave the tables of one block of their file at most."""
+    start, lines = ["nr 8", "connect 1 0", "create 0 a"], [line.format(at, at + 65536) for at in range(0, 16_777_216, 65_536)]
+    most, _, replies = held([*start, *lines])
+    assert set(replies[3:]) == {"error 2 NoPages"}
+    assert most - held([*start, lines[-1]])[0] < 1 << 20
+
+
+def test_gives_room_for_pages_back(held):
+    """What a refused map and what copies of children that went had room for is given back: on one slot after another no more is held than on one."""
+    asked = [line for slot in range(1, 64) for line in (f"mount {slot} -", f"create {slot} a", f"map 1 {slot} a 0 65536 private")]
+    most, _, replies = held(["nr 8", "connect 1 0", *asked], ["--slots", "64"])
+    assert replies[4::3] == 63 * ["error 2 NoPages"]
+    assert most < 16 << 20
+    lines = ["nr 1024"]
+    for slot in range(1, 17):
+        lines += [f"mount {slot} -", f"create {slot} a", f"connect {slot} 0", f"map {slot} {slot} a 0 256 private"]
+        lines += [f"store {slot} {slot} 1 {at} 0 61" for at in range(256)]
+        lines += [f"{what.format(slot, child)}" for what in ("fork {} {}", "exit {1}") for child in range(100, 164)] + [f"exit {slot}"]
+    most, _, replies = held(lines, ["--slots", "64", "--frames", "2048"])
+    assert [it for it in replies if it.startswith("error")] == []
+    assert most < 16 << 20, "for 64 children at a time"

@@ -1,0 +1,182 @@
+"""Connections and those behind them: peers that are no good, errors of `accept`, and few descriptors."""
+import http.client
+import select
+import socket
+import time
+from contextlib import suppress
+from pathlib import Path
+from shutil import which
+
+import pytest
+from built import OUT_OF_MEMORY, SECONDS
+from serving import PROMPT, cut, ended, failing, few_descriptors, hundreds_come_and_go, rest_of, whole_replies, words_of
+
+ACCEPT, CLONE = "accept4,accept", "clone3,clone"
+by_strace = pytest.mark.skipif(not which("strace"), reason="strace is not here")
+
+
+def served_promptly(session, pages):
+    """The session has its reply in time."""
+    began = time.monotonic()
+    assert session.nr(pages) == pages
+    assert time.monotonic() - began <= PROMPT, "a session beside the others waited for its reply"
+
+
+def test_bears_peers_that_are_no_good(serve):
+    """Slow, half-closed, reset, silent and unreading peers, and one without an end of line, beside a session that stays served."""
+    with serve(40, 12) as server, server.session(PROMPT) as good:
+        links = [server.link() for _ in range(6)]
+        slow, half_closed, reset, silent, unreading, endless = links
+        for byte in b"nr 3\n":
+            slow.sendall(bytes([byte]))
+            served_promptly(good, 4)
+        half_closed.sendall(b"meminfo\n" * 50)
+        half_closed.shutdown(socket.SHUT_WR)
+        reset.sendall(b"meminfo\n" * 50)
+        cut(reset)
+        served_promptly(good, 5)
+        for peer, data in ((unreading, b"meminfo\n" * 8192), (endless, b"a" * 65536)):
+            peer.setblocking(False)
+            with suppress(BlockingIOError):
+                for _ in range(200):
+                    peer.send(data)
+        served_promptly(good, 6)
+        assert select.select([silent], [], [], 0)[0] == []
+        assert rest_of(half_closed).count(b"HugePages_Total") == 50
+        assert slow.recv(64) == b"ok 3\n"
+        served_promptly(good, 7)
+        for link in links:
+            link.close()
+        served_promptly(good, 8)
+
+
+@by_strace
+@pytest.mark.parametrize("error", ["EMFILE", "ENFILE", "ENOBUFS", "ENOMEM", "EPROTO", "ENETDOWN", "ENETUNREACH", "EHOSTUNREACH", "EPERM", "EAGAIN", "EINTR"])
+def test_waits_out_errors_of_accepting(serve, error):
+    """Errors of `accept` that pass are waited out, and the next client is served; it is tried again after a pause, and not at once and for ever."""
+    with serve(1, 1, under=failing(ACCEPT, f"{error}:when=1..3")) as server, server.session() as session:
+        assert (session.nr(4), session.nr(0)) == (4, 0)
+
+
+def test_serves_again_after_descriptors_ran_out(serve):
+    """With too few descriptors for all that connect, the server goes on once some have left: 40 hold it up, and the next is served."""
+    with serve(62, 8, prepared=few_descriptors(16)) as server:
+        links = [server.link() for _ in range(40)]
+        time.sleep(0.2)
+        for link in links:
+            link.close()
+        for turn in range(20):
+            with server.session() as session:
+                assert (session.nr(4), session.nr(0)) == (4, 0), turn
+        with server.session(PROMPT) as session:
+            served_promptly(session, 0)
+
+
+def test_holds_one_descriptor_a_connection(serve):
+    """A connection that a worker serves takes one descriptor of the process."""
+    with serve(9, 8) as server:
+        none, sessions = server.descriptors(), [server.session() for _ in range(8)]
+        for session in sessions:
+            session.nr(0)
+        assert server.descriptors() - none == 8
+        for session in sessions:
+            session.close()
+
+
+def test_listens_at_the_loopback_alone(serve):
+    """The port is had at 127.0.0.1, and at no other address of the machine."""
+    with serve(1, 1) as server:
+        addresses = [line.split()[1].split(":") for line in Path("/proc/net/tcp").read_text().splitlines()[1:] if line.split()[3] == "0A"]
+        assert [address for address, port in addresses if int(port, 16) == server.port] == ["0100007F"]
+
+
+def test_takes_few_that_wait(serve):
+    """Of many connections at once the server has those that its workers serve, as many in its queue, and one more; the others wait in the system. Twelve
+    descriptors and twice the workers are enough for it."""
+    with serve(30, 2, prepared=few_descriptors(16)) as server:
+        none = server.descriptors()
+        links = [server.link() for _ in range(30)]
+        server.descriptors_reach(none + 5)
+        time.sleep(0.2)
+        assert server.descriptors() - none == 5
+        for link in links:
+            link.close()
+
+
+def test_serves_on_after_connections_were_cut(serve):
+    """Connections that are reset where they wait, before they are accepted and behind that, leave the one worker to those that come next."""
+    with serve(5, 1) as server:
+        none = server.descriptors()
+        first, *others = (server.link() for _ in range(4))
+        server.descriptors_reach(none + 3)
+        for link in others:
+            cut(link)
+        first.sendall(b"nr 3\n")
+        assert first.recv(64) == b"ok 3\n"
+        cut(first)
+        with server.session() as session:
+            assert (session.nr(4), session.nr(0)) == (4, 0)
+
+
+@by_strace
+def test_serves_on_after_connections_were_given_up(serve):
+    """A connection that its peer gave up before it could be accepted counts as a session, and the next is served."""
+    with serve(4, 1, under=failing(ACCEPT, "ECONNABORTED:when=1..3")) as server, server.session() as session:
+        server.opened += 3
+        assert (session.nr(4), session.nr(0)) == (4, 0)
+
+
+@by_strace
+def test_ends_where_no_more_connections_are_to_be_had(serve):
+    """Where `accept` fails with an error that does not pass, the sessions that are open are served to their end, and the server ends and says so."""
+    server = serve(3, 2, under=failing(ACCEPT, "EINVAL:when=2+"))
+    try:
+        with server.session() as session:
+            assert (session.nr(4), session.meminfo()[0], session.nr(0)) == (4, 4, 0)
+        output, faults = server.program.communicate(timeout=SECONDS)
+        assert (server.program.returncode, output, faults) == (1, "", "hugetlbd: network failed\n")
+    finally:
+        server.kill()
+
+
+@by_strace
+def test_serves_with_the_workers_that_it_gets(serve, program):
+    """Workers that can't be started are left out, and one serves alone; where none can be, the server ends and says so."""
+    with serve(3, 4, under=failing(CLONE, "EAGAIN:when=2+")) as server:
+        for turn in range(3):
+            with server.session() as session:
+                assert session.nr(0) == 0, turn
+    assert ended(program, words_of(1, 4, 0), failing(CLONE, "EAGAIN:when=1+")) == (1, OUT_OF_MEMORY)
+
+
+def test_serves_again_after_ten_thousand_connections(serve):
+    """With 24 descriptors and 8 workers, after each hundred of 10,000 connections that stand at once and go the next is served."""
+    with serve(10_101, 8, prepared=few_descriptors(24)) as server:
+        hundreds_come_and_go(server, 100)
+        with server.session() as session:
+            assert session.nr(0) == 0
+
+
+def test_ends_requests_of_a_browser(serve):
+    """A web page can have a browser send a request with lines for a body to any port: none is answered, or done."""
+    body = b"nr 4\nconnect 1 0\nmeminfo\n"
+    with serve(8, 2) as server:
+        server.opened += 1
+        browser = http.client.HTTPConnection("127.0.0.1", server.port, timeout=SECONDS)
+        with pytest.raises((http.client.RemoteDisconnected, ConnectionResetError, BrokenPipeError)):
+            browser.request("POST", "/" + 2000 * "a", body, {"Content-Type": "text/plain"})
+            browser.getresponse().read()
+        for head in (b"GET / HTTP/1.1\r\n", b"OPTIONS * HTTP/1.0\n", b"POST /" + 100000 * b"b"):
+            got, link = b"", server.link()
+            with suppress(OSError):
+                got = whole_replies(link, head + b"\r\n" + body)
+            assert got == b"", head[:12]
+        # (a request that comes a byte at a time, and lines that are none)
+        link = server.link()
+        for byte in b"PUT / HTTP/1.1\r\n":
+            link.sendall(bytes([byte]))
+            time.sleep(0.002)
+        assert link.recv(64) == b""
+        assert whole_replies(server.link(), b"GET / HTTP\nnr 0\nGET / HTTP/1.1\n") == b"error 21 BadLine\nok 0\nerror 21 BadLine\n"
+        with server.session() as session:
+            assert session.meminfo()[0] == 0

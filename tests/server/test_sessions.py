@@ -1,0 +1,205 @@
+"""Sessions and what they share: rows, races for pages, look-ups, and all that a session left."""
+import random
+from concurrent.futures import ThreadPoolExecutor
+
+import pytest
+from built import SECONDS, each_case
+from limits import each_limit
+from serving import MANY, cut, whole_replies
+
+from hugetlb_session import Meminfo, Refused
+
+
+@each_case
+def test_runs_rows_over_a_session(serve, case):
+    """Each row and example over a session, as a stream that is half closed at its end; those of few lines with trails, whose audit is right."""
+    trace = MANY if len(case.lines()) < MANY else 0
+    with serve(1, 1, case.words, trace) as server, server.link() as link:
+        assert whole_replies(link, case.script) == case.expected
+
+
+@each_case
+def test_runs_rows_over_four_sessions(serve, case):
+    """Each row and example with its lines over four sessions by turns, each waiting for the reply of the one before."""
+    with serve(4, 4, case.words) as server:
+        sessions = [server.session() for _ in range(4)]
+        for at, (line, reply) in enumerate(case.lines()):
+            if line.endswith(b"\n") and len(line) <= 1025:
+                assert "".join(it + "\n" for it in sessions[at % 4].reply(line[:-1])) == reply.decode(), line
+        for session in sessions:
+            session.close()
+
+
+def test_races_for_the_last_pages(serve):
+    """Four sessions at once ask for more pages than there are: as many are granted as there are, and each reply is its session's own."""
+    with serve(5, 5) as server:
+        first = server.session()
+        first.nr(7)
+        sessions = [server.session() for _ in range(4)]
+        for task, session in enumerate(sessions):
+            session.connect(task, 0)
+        with ThreadPoolExecutor(4) as pool:
+            got = list(pool.map(lambda at: sessions[at].many([f"anon {at} 1 private"] * 5), range(4)))
+        granted = [[it for it in replies if isinstance(it, int)] for replies in got]
+        assert granted == [list(range(1, len(numbers) + 1)) for numbers in granted]
+        assert {it for replies in got for it in replies if isinstance(it, Refused)} == {Refused(2, "NoPages", "")}
+        assert (sum(map(len, granted)), first.meminfo()) == (7, Meminfo(7, 7, 7, 0, 1, 7))
+        for session in (first, *sessions):
+            session.close()
+
+
+@pytest.mark.parametrize("trace", [0, 1000])
+def test_races_with_files_of_their_own(serve, trace):
+    """Four sessions at once on four workers, each with a task and a file of its own: two get the pages that they map, and two none."""
+    with serve(6, 4, trace=trace) as server:
+        with server.session() as session:
+            session.nr(8)
+        sessions = [server.session() for _ in range(4)]
+        lines = [[f"connect {at} 0", f"create 0 f{at}", f"map {at} 0 f{at} 0 3 shared", f"store {at} 0 1 0 0 ff", f"load {at} 0 1 0 0 2"] for at in range(4)]
+        with ThreadPoolExecutor(4) as pool:
+            got = list(pool.map(lambda at: sessions[at].many(lines[at]), range(4)))
+        none = Refused(16, "NoSuchMap", "")
+        wanted = [[None, None, 1, None, b"\xff\0"]] * 2 + [[None, None, Refused(2, "NoPages", ""), none, none]] * 2
+        assert sorted(got, key=lambda it: isinstance(it[2], Refused)) == wanted
+        for session in sessions:
+            session.close()
+        with server.session() as session:
+            assert session.meminfo()[:4] == (8, 6, 4, 0)
+
+
+# Tasks of one place among the words that look-ups read, one beside it, and the least and greatest numbers, with those from which on none is noted.
+NUMBERED = [7, 7 + 16384, 7 + 2 * 16384, 8, 0, 1, 2**62 - 2, 2**62 - 1, 2**62, 2**63, 2**64 - 16384 + 7, 2**64 - 2, 2**64 - 1]
+LOOK_UPS = 100_000
+
+
+def changed(change, homes):
+    """What a line that changes the task table is answered, where tasks have these homes; they are then as it leaves them."""
+    word, task, other = change
+    if word == "connect":
+        if task in homes:
+            return b"error 7 TaskExists"
+        homes[task] = other
+    elif task not in homes:
+        return b"error 6 NoSuchTask"
+    elif word == "exit":
+        del homes[task]
+    elif other in homes:
+        return b"error 7 TaskExists"
+    else:
+        homes[other] = homes[task]
+    return b"ok"
+
+
+def test_look_ups_see_what_was_answered(serve):
+    """What one session was answered, the next look-ups of others see: after each connect, exit and fork of tasks whose numbers collide, and of the greatest."""
+    numbers, homes, looked = random.Random(1), {}, 0
+    with serve(3, 3, ["--frames", "64,64,64,64", "--slots", "2"]) as server:
+        links = [server.link() for _ in range(3)]
+        ends = [link.makefile("rb") for link in links]
+        while looked < LOOK_UPS:
+            word, task, at = numbers.choice(["connect", "connect", "exit", "fork"]), numbers.choice(NUMBERED), numbers.randrange(3)
+            other = {"connect": numbers.randrange(4), "exit": None, "fork": numbers.choice(NUMBERED)}[word]
+            line = " ".join(str(it) for it in (word, task, other) if it is not None)
+            links[at].sendall(f"{line}\n".encode())
+            assert ends[at].readline().strip() == changed((word, task, other), homes), line
+            for link, end in ((links[k], ends[k]) for k in range(3) if k != at):
+                link.sendall("".join(f"attach {it}\n" for it in NUMBERED).encode())
+                for it in NUMBERED:
+                    wanted = b"ok %d" % homes[it] if it in homes else b"error 6 NoSuchTask"
+                    assert end.readline().strip() == wanted, f"attach {it} of another session, after {line}"
+                    looked += 1
+        for task in list(homes):
+            links[0].sendall(f"exit {task}\n".encode())
+            assert ends[0].readline().strip() == b"ok", f"exit {task}"
+        for link, end in zip(links, ends):
+            end.close()
+            link.close()
+
+
+@pytest.mark.parametrize("trace", [0, MANY])
+def test_keeps_what_a_failed_session_left(serve, trace):
+    """Tasks and maps of a session that failed at its reader after its store stay, for others to use and to end."""
+    with serve(2, 2, trace=trace) as server:
+        link = server.link()
+        link.sendall(b"nr 4\nconnect 1 0\nanon 1 1 private\nstore 1 0 1 0 0 5a\n")
+        got = b""
+        while got.count(b"\n") < 4:
+            got += link.recv(64)
+        assert got == b"ok 4\nok\nok 1\nok\n"
+        cut(link)
+        with server.session() as session:
+            assert (session.attach(1), session.load(1, 0, 1, 0, 0, 1)) == (0, b"\x5a")
+            session.exit(1)
+            assert session.meminfo()[:4] == (4, 4, 0, 0)
+
+
+def test_keeps_what_a_session_left(serve):
+    """Tasks and maps of a session that ended stay, for others to use and to end."""
+    with serve(3, 2) as server:
+        with server.session() as session:
+            session.nr(4)
+            session.connect(1, 1)
+            session.store(1, 0, session.anon(1, 2, "private"), 0, 0, b"left")
+        with server.session() as session:
+            assert (session.attach(1), session.load(1, 0, 1, 0, 0, 4)) == (1, b"left")
+            session.exit(1)
+            assert session.meminfo()[:4] == (4, 4, 0, 0)
+
+
+def test_serves_as_many_as_it_has_workers(serve):
+    """64 sessions that stay open, each served."""
+    with serve(64, 64) as server:
+        sessions = [server.session() for _ in range(64)]
+        for turn in range(3):
+            for task, session in enumerate(sessions):
+                assert session.many([f"connect {task} 0", f"attach {task}"])[1] == 0, (turn, task)
+        for session in sessions:
+            session.close()
+
+
+def test_serves_a_thousand(serve):
+    """1,000 short sessions, four at a time."""
+    with serve(1000, 4) as server:
+        def one(number):
+            with server.session() as session:
+                session.connect(number % 250, 0)
+                session.exit(number % 250)
+        with ThreadPoolExecutor(4) as pool:
+            list(pool.map(one, range(1000)))
+
+
+def test_waits_where_all_workers_have_sessions(serve):
+    """A session beyond the workers is served as soon as one of the others ends."""
+    with serve(3, 2) as server, ThreadPoolExecutor(1) as pool:
+        first, second, third = (server.session() for _ in range(3))
+        assert (first.nr(1), second.nr(2)) == (1, 2)
+        served = pool.submit(third.nr, 3)
+        first.close()
+        assert (served.result(SECONDS), second.meminfo().total) == (3, 3)
+        second.close()
+        third.close()
+
+
+@each_limit
+def test_answers_at_the_limits(serve, words, lines, refused):
+    """With ample memory a session is given nothing up at a size that the limits allow; the shorter scripts with trails too, which are audited."""
+    for trace in (0, 40_000) if len(lines) <= 15_000 else (0,):
+        with serve(1, 1, words, trace) as server, server.session() as session:
+            got = [reply[0] for reply in session.replies(lines)]
+        assert len(got) == len(lines), trace
+        assert {it for it in got if it.startswith("error")} == set(refused), trace
+
+
+def test_holds_nothing_of_sessions_that_went(serve, memory):
+    """Sessions that come and go leave nothing but the cell of each, which is there from the start: what is held at most does not grow by what they held."""
+    most, preloaded = [], ["env", *(f"{name}={value}" for name, value in memory.environment().items())]
+    for sessions in (10, 1000):
+        with serve(sessions, 1, under=preloaded) as server:
+            for _ in range(sessions):
+                with server.session() as session:
+                    session.nr(4)
+                    session.nr(0)
+        calls, held, bytes_held = memory.told()
+        assert held == 0
+        most.append(bytes_held)
+    assert most[1] - most[0] < 990 * 256

@@ -1,2 +1,0 @@
-"""Puts the tools and the gate's own modules on the path of every test."""
-import common  # noqa: F401
