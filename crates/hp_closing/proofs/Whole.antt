@@ -32,10 +32,6 @@ pub record Joining (keeps : Bool) (first now : List Held) (all rest : List Finis
   pub are_told : keeps ≡ true → told ≡ all_told done
   pub parts : whole ≡ true → now ≡ first ++ sessions_from 0 (all_told done)
 
-pub none_joins : (keeps whole : Bool) (first : List Held) (all rest : List FinishedView) (told : List (List Receipt)) → rest ≡ all → told ≡ [] → Joining keeps first first all rest told 0 whole
-none_joins keeps whole first all rest told is none =
-    record { done = []; all_is = is; at_is = refl; are_told = λ kept. none; parts = λ h. sym (append-nil first) }
-
 pub one_joins : (keeps whole whole' : Bool) (first acc now : List Held) (all rest rest' : List FinishedView) (told told' : List (List Receipt)) (at at' : ℕ) (x : FinishedView)
     → Joining keeps first acc all rest told at whole → rest ≡ x ∷ rest' → at' ≡ at + 1 → (whole' ≡ true → (whole ≡ true) × (x.number ≡ at))
     → now ≡ acc ++ Session x.number x.receipts ∷ [] → (keeps ≡ true → told' ≡ told ++ x.receipts ∷ []) → Joining keeps first now all rest' told' at' whole'
@@ -54,13 +50,6 @@ one_joins keeps whole whole' first acc now all rest rest' told told' at at' x h 
           now_is ∙ (ap (λ hs. hs ++ Session x.number x.receipts ∷ []) (h.parts was.0)
           ∙ (append_assoc first (sessions_from 0 (all_told h.done)) (Session x.number x.receipts ∷ []) ∙ ap (λ hs. first ++ hs) (sym last)));
     }
-
--- the end, where all have joined
-pub all_joined : (keeps whole : Bool) (first now : List Held) (all rest : List FinishedView) (told : List (List Receipt)) (at : ℕ) → Joining keeps first now all rest told at whole
-    → rest ≡ [] → (keeps ≡ true → told ≡ all_told all) × (whole ≡ true → now ≡ first ++ sessions_from 0 (all_told all))
-all_joined keeps whole first now all rest told at h none =
-    let same : h.done ≡ all = sym (append-nil h.done) ∙ (ap (λ xs. h.done ++ xs) (sym none) ∙ h.all_is) in
-    ((λ kept. h.are_told kept ∙ ap all_told same), (λ w. h.parts w ∙ ap (λ xs. first ++ sessions_from 0 (all_told xs)) same))
 
 module _ (keeps : Bool) (frames : List ℕ) (size slots : ℕ) (sh : Shape) (m : Machine) (given : Option Trails) (opened : ℕ) (seat : List Held) (told : List (List Receipt))
     (shape : sh ≡ record { slots = slots; nodes = length frames; looks = not keeps }) (h : HasEnded keeps (start frames size slots) slots m given opened seat)

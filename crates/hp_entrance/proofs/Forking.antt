@@ -11,8 +11,8 @@ use Rattle.hp_model.specs.machine.SlotEvent.{fork_tests, slot_event}
 use Rattle.hp_model.specs.threads.LocalRun.{Gives}
 use Rattle.hp_laws.specs.Balance.{Always}
 use Rattle.hp_laws.proofs.accesses.SlotShows.{always_gives, always_unless}
-use Rattle.hp_parts.specs.Answered.{CanAnswer, IsHanded}
-use Rattle.hp_parts.proofs.Came.{always_came}
+use Rattle.hp_events.specs.Answered.{CanAnswer, IsHanded}
+use Rattle.hp_events.proofs.Came.{always_came}
 
 abbrev IsDone : Outcome → Type 0
 IsDone (Refused r) = Unit {0}

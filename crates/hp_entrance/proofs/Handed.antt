@@ -14,11 +14,11 @@ use Rattle.hp_model.specs.declared.event.TableEvent.TheVariants.{Find}
 use Rattle.hp_model.specs.machine.Plan.{Reply}
 use Rattle.hp_model.specs.machine.Table.{table_event, when_known}
 use Rattle.hp_model.specs.threads.Telling.{has_place}
-use Rattle.hp_parts.specs.Answered.{CanAnswer, IsHanded, IsToldOf}
-use Rattle.hp_parts.specs.Replies.{is_trace_full}
-use Rattle.hp_parts.specs.SlotWork.{asked_event, is_exit}
-use Rattle.hp_parts.specs.declared.slot_work.SlotWork.{SlotWork}
-use Rattle.hp_parts.specs.declared.slot_work.SlotWork.TheVariants as w
+use Rattle.hp_events.specs.Answered.{CanAnswer, IsHanded, IsToldOf}
+use Rattle.hp_events.specs.Replies.{is_trace_full}
+use Rattle.hp_events.specs.SlotWork.{asked_event, is_exit}
+use Rattle.hp_events.specs.declared.slot_work.SlotWork.{SlotWork}
+use Rattle.hp_events.specs.declared.slot_work.SlotWork.TheVariants as w
 use Rattle.hp_shared.specs.Seated.{IsSeatedDone, IsSeatedEvent, SeatedView}
 use Rattle.hp_shared.proofs.SlotsKept.{mount_has_place}
 

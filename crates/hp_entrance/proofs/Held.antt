@@ -10,8 +10,8 @@ use Rattle.hp_model.specs.declared.event.SlotEvent.{SlotEvent}
 use Rattle.hp_model.specs.declared.event.TableEvent.TheVariants.{Find}
 use Rattle.hp_model.specs.declared.step.Step.{Step}
 use Rattle.hp_model.specs.machine.Plan.{Reply}
-use Rattle.hp_parts.specs.Answered.{IsHanded}
-use Rattle.hp_parts.specs.Queues.{AreAccessesHanded, IsAccessHanded, IsFoundAndHanded}
+use Rattle.hp_events.specs.Answered.{IsHanded}
+use Rattle.hp_events.specs.Queues.{AreAccessesHanded, IsAccessHanded, IsFoundAndHanded}
 
 module _ (size at : ℕ) where
   abbrev Handed : List Receipt → Step → Reply → List Receipt → Type 0

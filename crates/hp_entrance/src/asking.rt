@@ -2,13 +2,14 @@
 ghost use Rattle.std.specs.Prelude.{ℕ, ◌≡◌, ◌==◌, ◌<◌, None, true, false, IfNone, IfSome};
 ghost use Rattle.std.specs.Sync.Mutex.{mutex_guard_value};
 ghost use Rattle.hp_model.specs.declared.event.Event.TheVariants.{Tasks as OnTasks};
-ghost use Rattle.hp_parts.specs.Answered.{IsHanded};
-ghost use Rattle.hp_parts.specs.Replies.{table_reply};
+ghost use Rattle.hp_events.specs.Answered.{IsHanded};
+ghost use Rattle.hp_events.specs.Replies.{table_reply};
 
 use crate::entrance::Entrance;
 use crate::holding::held_accesses;
 use crate::member::Member;
 use hp_events::copies::Copies;
+use hp_events::{Parts, SlotWork, TableTold};
 use hp_history::Places;
 use hp_locked::{Core, Gate};
 use hp_model::entry::{PoolEntry, SlotEntry, TableEntry};
@@ -18,7 +19,6 @@ use hp_model::naming::Naming;
 use hp_model::queued::Queued;
 use hp_model::refusal::Refusal;
 use hp_model::told::Told;
-use hp_parts::{Parts, SlotWork, TableTold};
 use hp_shared::{SeatedSlot, Shared, Table};
 use hp_trail::trace::Trace;
 use std::alloc::Global;

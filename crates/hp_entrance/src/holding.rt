@@ -1,16 +1,15 @@
 //! Loads and stores that are done while their slot's lock is held, where no entries are kept.
 ghost use Rattle.std.specs.Prelude.{◌≡◌, ◌==◌, ◌≤◌, false, length, IfNone, IfSome, true};
 ghost use Rattle.hp_model.specs.Profile.{most_bytes};
-ghost use Rattle.hp_parts.specs.Queues.{AreFirstHanded, IsAccessHanded};
+ghost use Rattle.hp_events.specs.Queues.{AreFirstHanded, IsAccessHanded};
 
 use crate::member::Member;
-use hp_events::MountEvent;
+use hp_events::{MountEvent, into_bytes, into_done};
 use hp_history::Places;
 use hp_locked::Gate;
 use hp_model::entry::{PoolEntry, SlotEntry};
 use hp_model::naming::Naming;
 use hp_model::queued::{Doing, Queued};
-use hp_parts::{into_bytes, into_done};
 use hp_shared::{SeatedSlot, Shared, Ways};
 use hp_trail::trace::Trace;
 use std::sync::Wait;

@@ -68,17 +68,6 @@ module _ {P : Type 0} where
   lacks_by Entered o e = ap (λ o. cond {A = ℕ} (is_some o) 0 1) e
   lacks_by (Present p) o e = ap (λ o. cond {A = ℕ} (is_some o) 0 1) e
 
-  pub lacking_more : (cells : List (Cell P)) (a b i : ℕ) (o : Option P) → a ≤ i → i < b → o ≡ page_of (cell_in cells i)
-      → count_by lacks_page (part a (i + 1) (at_least b cells)) ≡ count_by lacks_page (part a i (at_least b cells)) + cond (is_some o) 0 1
-  lacking_more cells a b i o low high is =
-      let xs : List (Cell P) = at_least b cells in
-      let long = longer_length cells b in
-      let c : Cell P = cell_in xs i in
-      let here = lacks_by c o (is ∙ ap page_of (sym (longer_read cells (b - length cells) i))) in
-      let parts = sum_by-append (λ c. cond {A = ℕ} (lacks_page c) 1 0) (part a i xs) (c ∷ []) in
-      let one = count_cons lacks_page c [] in
-      ap (count_by lacks_page) (part_more xs a i low (omega (arith, high, long))) ∙ omega (arith, parts, one, here)
-
 -- where no index lacks a page, each has one
 module _ {P : Type 0} where
   none_lacking : (cells : List (Cell P)) (k : ℕ) → count_by lacks_page cells ≡ 0 → k < length cells → has_page (cell_in cells k) ≡ true

@@ -68,25 +68,6 @@ pub pool_added : (start : Pool) (o : Option (List PoolEntry)) (m : Pool) (e : Po
 pool_added start None m e q run step = tt
 pool_added start (Some es) m e q run step = pool_push start es m e q run step
 
--- the answer of a section that was granted, and of one that was not
-pub was_granted : (a : PoolAnswer) (old granted new : Subpool) → IsAnswered a old granted new → a.granted ≡ true → a ≡ granted_at 0
-was_granted a old granted new t e = (pick a.granted _ _ e t).0
-  where
-    pick : (b : Bool) (A B : Type 0) → b ≡ true → MatchBool b A B → A
-    pick true A B e t = t
-    pick false A B e t = cc
-
-pub was_refused : (a : PoolAnswer) (old granted new : Subpool) → IsAnswered a old granted new → a.granted ≡ false → a ≡ no_pages
-was_refused a old granted new t e = (pick a.granted _ _ e t).0
-  where
-    pick : (b : Bool) (A B : Type 0) → b ≡ false → MatchBool b A B → B
-    pick true A B e t = cc
-    pick false A B e t = t
-
--- an asked section is what it is
-pub asks_it : (a : Asked) (s : Section) (w : PoolAnswer) → a.section ≡ s → a.answer ≡ w → Asks (Some a) s w
-asks_it a s w es ew = (a.place, λ i. Some (record { place = a.place; section = es i; answer = ew i }))
-
 -- ---- places
 
 -- an entry of another kind leaves the places of those that give back
@@ -156,19 +137,6 @@ seated_stays history start id id2 views views2 o o2 p q was same named stays is 
   run = subst (λ vs. IsPoolRun start (pool_in vs) q) (sym stays) (subst (λ (x : Pool). IsPoolRun start (pool_in views) x) (sym is) was.run);
   kept = subst (λ vs. IsTrailOf (pool_in vs) o2) (sym stays) (subst (λ (x : Option (List PoolEntry)). IsTrailOf (pool_in views) x) (sym same) was.kept);
 }
-
-pub fresh_seat : (history : TableId) (fs : List ℕ) (id : TableId) (views : List (List Held)) (o : Option (List PoolEntry)) (p : Pool) → p ≡ idle_pool fs → id ≡ history
-    → views ≡ (PoolPart [] ∷ []) ∷ [] → IsFresh o → IsSeated history (idle_pool fs) id views o p
-fresh_seat history fs id views o p is named one fresh = record {
-  named = named;
-  one = one ∙ ap (λ vs. pool_view vs ∷ []) (sym one);
-  run = subst (λ vs. IsPoolRun (idle_pool fs) (pool_in vs) p) (sym one) (sym is);
-  kept = subst (λ vs. IsTrailOf (pool_in vs) o) (sym one) (none o fresh);
-}
-  where
-    none : (o : Option (List PoolEntry)) → IsFresh o → IsTrailOf [] o
-    none None fresh = tt
-    none (Some es) fresh = fresh
 
 -- what was given back, noted
 module _ {X : Type 0} (E : X → Option (List PoolEntry)) (L : X → Option ℕ) (R : X → ℕ) (old new : X) (before after : List (List Held)) (puts : List ℕ) (k : ℕ) (p q : Pool) where

@@ -43,25 +43,6 @@ module _ (kept : Bool) (x w : List Held) (d : DoorView) (view : record { asked =
   }
 
 module _ (history : TableId) (keeps : Bool) where
-  -- a door that was not used, once a section was entered through it, if one was
-  pub door_entered : (id id2 : TableId) (me me2 : List Held × List (ℕ × Unit {0})) (n n2 : NotedView) (t : Option Asked)
-      → IsDoor history keeps id me n → asked_in me.0 ≡ None → IsEntered keeps me.0 t me2.0 → id2 ≡ history → me2.1 ≡ []
-      → n2.is_entered ≡ (is_some t || n.is_entered) → (keeps ≡ true → n2.section ≡ later t n.section) → IsDoor history keeps id2 me2 n2
-  door_entered id id2 me me2 n n2 None was ready is named alone now noted = record {
-    named = named;
-    alone = alone;
-    free = λ none. subst IsFree (sym is) (was.free ready);
-    entered = now ∙ was.entered ∙ ap (λ (v : List Held). is_some (asked_in v)) (sym is);
-    noted = λ k. noted k ∙ was.noted k ∙ ap asked_in (sym is);
-  }
-  door_entered id id2 me me2 n n2 (Some a) was ready (place, at, is) named alone now noted = record {
-    named = named;
-    alone = alone;
-    free = λ none. absurd (let no = sym (ap asked_in is) ∙ none in cc);
-    entered = now ∙ ap (λ (v : List Held). is_some (asked_in v)) (sym is);
-    noted = λ k. noted k ∙ (λ i. Some (record { place = at k i; section = a.section; answer = a.answer })) ∙ ap asked_in (sym is);
-  }
-
   -- a door that was not used
   pub door_fresh : (id : TableId) (me : List Held × List (ℕ × Unit {0})) (n : NotedView) → id ≡ history → IsFree me.0 → me.1 ≡ []
       → n.is_entered ≡ false → (keeps ≡ true → n.section ≡ None) → IsDoor history keeps id me n

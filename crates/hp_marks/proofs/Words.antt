@@ -104,9 +104,6 @@ module _ (words : List ℕ) (n : ℕ) where
   nothing_before : (k : ℕ) → n ≤ k → k < 64 * (n / 64) → marked words k ≡ false
   nothing_before k from lt = absurd (omega (arith, from, lt))
 
-  pub rest_past : length words ≤ n / 64 → (k : ℕ) → n ≤ k → marked words k ≡ false
-  rest_past le k from = unmarked_past words k (omega (arith, le, from))
-
   -- there is none in its word
   pub rest_none : get_or words (n / 64) 0 / 2 ^ (n % 64) ≡ 0 → (k : ℕ) → n ≤ k → k < 64 * (n / 64) + 64 → marked words k ≡ false
   rest_none none k from lt =

@@ -6,3 +6,4 @@ pub mod Run
 pub mod Plain
 pub mod Copying
 pub mod Queue
+pub mod Bytes

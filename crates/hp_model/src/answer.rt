@@ -21,12 +21,15 @@ pub struct Counts {
     pub overcommit: u64,
 }
 
-/// One node's share of the pool.
+/// One node's share of the pool, in pages. A node has at most `MOST_FRAMES`, so 32 bits hold each number.
 #[derive(Clone, Copy, Debug, PartialEq, Eq)]
 pub struct NodeCount {
-    pub total: u64,
-    pub free: u64,
-    pub surp: u64,
+    /// Pages of the pool that the node has.
+    pub total: u32,
+    /// Pages of these that are not in use.
+    pub free: u32,
+    /// Pages of these above nr.
+    pub surp: u32,
 }
 
 /// The answer of a step or an event that is not refused.

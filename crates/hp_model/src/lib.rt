@@ -2,6 +2,7 @@
 #![tactic(auto)]
 
 pub mod answer;
+pub mod bytes;
 pub mod cell;
 pub mod copying;
 pub mod entry;
@@ -9,8 +10,10 @@ pub mod event;
 pub mod fault;
 pub mod lent;
 pub mod limits;
+pub mod names;
 pub mod naming;
 pub mod node;
+pub mod page_no;
 pub mod place;
 pub mod profile;
 pub mod queued;
@@ -19,5 +22,3 @@ pub mod section;
 pub mod service;
 pub mod step;
 pub mod told;
-
-pub use hp_values::{bytes, names, page_no};

@@ -41,13 +41,3 @@ module _ (s t : Store) (more count all : ℕ) (fs : List NumberedFile) (h : IsHe
       ap (λ xs. record { files = xs; going = t.going; room = t.room - more }) shown_same
       ∙ ap (λ g. record { files = files_shown s fs; going = g; room = t.room - more }) (ap (λ (u : Store). u.going) t_is)
       ∙ ap (λ r. record { files = files_shown s fs; going = s.going; room = r }) left
-
-  pub lower_keeps : IsHeld t more fs
-  lower_keeps = record {
-    held = λ n. ap holders_of (same n) ∙ h.held n;
-    some = λ n none. same n ∙ h.some n (sym (ap holders_of (same n)) ∙ none);
-    alone = h.alone;
-    apart = h.apart;
-    counted = h.counted ∙ sym more_same;
-    parts = (let parts = h.parts in let room = room_is in omega (arith, room, parts));
-  }

@@ -1,6 +1,6 @@
 //! The frames of a node that nobody holds.
 ghost use Rattle.std.specs.Prelude.{◌≡◌, ◌+◌, ◌<◌, ◌≤◌, ◌^◌};
-ghost use Rattle.hp_units.specs.Quad.{at, plus};
+ghost use Rattle.hp_permit.specs.Quad.{at, plus};
 ghost use Rattle.hp_nodes.specs.Kept.{IsHome};
 ghost use Rattle.hp_nodes.specs.Ledgers.{AreAll, AreLedgers};
 
@@ -9,8 +9,7 @@ use crate::draft::PageDraft;
 use crate::page::{Marks, Page};
 use hp_frames::Stock;
 use hp_model::naming::Naming;
-use hp_permit::{Claim, ClaimSet, Redeemed};
-use hp_units::Quad;
+use hp_permit::{Claim, ClaimSet, Quad, Redeemed};
 use std::marker::Model;
 
 /// The frames of node K that nobody holds, and the claims of those that somebody holds. Contracts see how many are here.

@@ -86,9 +86,9 @@ impl<N: Naming> NodeLists<N> {
     {
         let row = self.nodes[node].row();
         NodeCount {
-            total: row.total,
-            free: row.free,
-            surp: row.surp,
+            total: row.total as u32,
+            free: row.free as u32,
+            surp: row.surp as u32,
         }
     }
 

@@ -7,7 +7,7 @@ ghost use Rattle.hp_nodes.specs.Kept.{IsPage};
 
 use hp_frames::Frame;
 use hp_model::naming::{Naming, Pages};
-use hp_units::Quad;
+use hp_permit::Quad;
 use std::marker::Model;
 
 pub(crate) type Marks<N> = Quad<Pages<N, 0>, Pages<N, 1>, Pages<N, 2>, Pages<N, 3>>;

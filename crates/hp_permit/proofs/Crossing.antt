@@ -4,7 +4,7 @@ use denote.RattleType.{RattleType}
 use Rattle.hp_model.specs.declared.naming.Naming.{Ghosts}
 use Rattle.hp_permit.specs.contracts.book.Book as Book
 use Rattle.hp_permit.specs.contracts.permit.Permit as Permit
-use Rattle.hp_units.proofs.Crossing.{issuer_send, units_send}
+use Rattle.hp_permit.proofs.CrossingUnits.{issuer_send, units_send}
 
 module _ (N : RattleType) (names : Ghosts N.Denot) where
   pub permit_send : IsSend (Permit.the_row N names)

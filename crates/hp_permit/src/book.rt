@@ -2,8 +2,8 @@
 ghost use Rattle.std.specs.Prelude.{◌≡◌, ℕ, ◌+◌, ◌<◌, ◌≤◌, ◌^◌};
 
 use crate::permit::Permit;
+use crate::units::Issuer;
 use hp_model::naming::{Naming, Permits};
-use hp_units::Issuer;
 use std::marker::Model;
 use std::sync::ledger::Blank;
 

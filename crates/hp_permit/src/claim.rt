@@ -1,9 +1,9 @@
 //! A claim on frames of a node.
 ghost use Rattle.std.specs.Prelude.{◌≡◌, ℕ, ◌+◌, ◌<◌, ◌≤◌, ◌^◌};
-ghost use Rattle.hp_units.specs.Quad.{alone};
+ghost use Rattle.hp_permit.specs.Quad.{alone};
 
+use crate::quad::Quad;
 use hp_model::naming::{Claims, Naming};
-use hp_units::Quad;
 use std::marker::Model;
 
 pub(crate) type ClaimParts<N> = Quad<Claims<N, 0>, Claims<N, 1>, Claims<N, 2>, Claims<N, 3>>;
@@ -18,7 +18,7 @@ pub struct Claim<N: Naming> {
 impl<N: Naming> Model for Claim<N> {
     ghost use Rattle.std.specs.Prelude.{◌≡◌, ◌<◌};
     ghost use Rattle.hp_permit.specs.Claim.{Claim};
-    ghost use Rattle.hp_units.specs.Quad.{alone};
+    ghost use Rattle.hp_permit.specs.Quad.{alone};
 
     ghost Value = { Claim };
 

@@ -2,9 +2,9 @@
 ghost use Rattle.std.specs.Prelude.{◌≡◌, ℕ, ◌+◌, ◌-◌, ◌<◌, ◌≤◌, [], ◌∷◌, slice_index, slice_set};
 
 use crate::claim::{Claim, ClaimParts};
+use crate::quad::Quad;
 use crate::redeemed::Redeemed;
 use hp_model::naming::Naming;
-use hp_units::Quad;
 use std::marker::Model;
 use std::sync::ledger::Blank;
 

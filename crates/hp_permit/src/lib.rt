@@ -4,11 +4,17 @@
 mod book;
 mod claim;
 mod claim_set;
+mod parts;
 mod permit;
+mod quad;
 mod redeemed;
+mod units;
 
 pub use book::Book;
 pub use claim::Claim;
 pub use claim_set::ClaimSet;
+pub use parts::Parts;
 pub use permit::Permit;
+pub use quad::Quad;
 pub use redeemed::Redeemed;
+pub use units::{Issuer, Units};

@@ -1,8 +1,8 @@
 //! Permits.
 ghost use Rattle.std.specs.Prelude.{◌≡◌, ℕ, ◌+◌, ◌≤◌};
 
+use crate::units::{Issuer, Units};
 use hp_model::naming::{Naming, Permits};
-use hp_units::{Issuer, Units};
 use std::marker::Model;
 
 /// A promise of so many pages, which counts as outstanding until it is retired. Contracts see the

@@ -16,8 +16,8 @@ use Rattle.hp_model.specs.declared.step.Step.{Step}
 use Rattle.hp_model.specs.machine.Plan.{Reply}
 use Rattle.hp_model.specs.machine.Step.{Answer_with, Do, Script, Where_mapped, finding, home_in, on_slot, only, script}
 use Rattle.hp_model.specs.threads.Telling.{Tells, TellsFront, TellsStep, has_place, told_of}
-use Rattle.hp_parts.specs.Replies.{is_trace_full}
-use Rattle.hp_parts.specs.Answered.{CanAnswer, IsHanded, IsToldOf}
+use Rattle.hp_events.specs.Replies.{is_trace_full}
+use Rattle.hp_events.specs.Answered.{CanAnswer, IsHanded, IsToldOf}
 use Rattle.hp_sessions.specs.Calls.{AreAdded, AreAnswers, Carries, Grows, HasRoomFor, IsCallAnswered, IsMade, IsRefusedFirst, IsToldByReceipts}
 use Rattle.hp_sessions.specs.Calls.{Leads, SessionView, TellsOrStops, noted}
 

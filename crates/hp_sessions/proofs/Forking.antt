@@ -15,10 +15,10 @@ use Rattle.hp_model.specs.declared.refusal.Refusal.TheVariants.{TaskExists, TooM
 use Rattle.hp_model.specs.machine.Plan.{Reply}
 use Rattle.hp_model.specs.machine.Step.{Answer_with, Do, Script, exit_slot, exit_slots, fork_slots, or_undone, undone, when_done}
 use Rattle.hp_model.specs.machine.Table.{Table, added, home_of, is_crowded, is_known, or_refused, table_event, when_known}
-use Rattle.hp_parts.specs.Replies.{is_trace_full, table_reply}
-use Rattle.hp_parts.specs.declared.table_told.TableTold.{TableTold}
-use Rattle.hp_parts.specs.declared.table_told.TableTold.TheVariants as told
-use Rattle.hp_parts.specs.Answered.{IsHanded}
+use Rattle.hp_events.specs.Replies.{is_trace_full, table_reply}
+use Rattle.hp_events.specs.declared.table_told.TableTold.{TableTold}
+use Rattle.hp_events.specs.declared.table_told.TableTold.TheVariants as told
+use Rattle.hp_events.specs.Answered.{IsHanded}
 use Rattle.hp_sessions.specs.Calls.{Carries, IsMade, Leads, SessionView}
 use Rattle.hp_sessions.specs.Forks.{IsForked, marked_below}
 use Rattle.hp_sessions.proofs.Carrying.{ends, goes_on, is_full, made_by, refused_made, same_as, stops, where_mapped, where_other}

@@ -17,7 +17,7 @@ use Rattle.hp_model.specs.declared.step.Step.{Step}
 use Rattle.hp_model.specs.declared.step.Step.TheVariants.{Load, Store}
 use Rattle.hp_model.specs.machine.Plan.{Reply}
 use Rattle.hp_model.specs.machine.Step.{finding, on_slot}
-use Rattle.hp_parts.specs.Queues.{AreAccessesHanded, AreFirstHanded, IsAccessHanded, IsFoundAndHanded}
+use Rattle.hp_events.specs.Queues.{AreAccessesHanded, AreFirstHanded, IsAccessHanded, IsFoundAndHanded}
 use Rattle.hp_sessions.specs.Calls.{Carries, IsCallAnswered, SessionView}
 use Rattle.hp_sessions.proofs.Carrying.{answered, found, made, on_slot_made, view_is, with_receipts}
 

@@ -10,8 +10,8 @@ use Rattle.hp_events.specs.declared.work.Work.{Work}
 use Rattle.hp_events.specs.declared.work.Work.TheVariants.{OfTask}
 use Rattle.hp_sessions.specs.Calls.{Carries, HasReceiptRoom, IsCallAnswered, IsRefusedFirst, SessionView}
 use Rattle.hp_events.specs.Works.{IsWork, work_carries, work_receipts, work_script}
-use Rattle.hp_parts.specs.SlotWork.{asked_event, carries}
-use Rattle.hp_parts.specs.declared.slot_work.SlotWork.{SlotWork}
+use Rattle.hp_events.specs.SlotWork.{asked_event, carries}
+use Rattle.hp_events.specs.declared.slot_work.SlotWork.{SlotWork}
 use Rattle.hp_sessions.specs.Works.{IsAsked, IsRefusedWork, IsWorked}
 use Rattle.hp_sessions.proofs.Carrying.{answered, refused_first}
 

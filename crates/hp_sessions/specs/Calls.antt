@@ -9,8 +9,8 @@ use Rattle.hp_model.specs.declared.step.Step.{Step}
 use Rattle.hp_model.specs.machine.Plan.{Reply}
 use Rattle.hp_model.specs.machine.Step.{Script}
 use Rattle.hp_model.specs.threads.Telling.{ReceiptsTell, Tells, TellsFront, carries_bytes, has_place, most_receipts, told_of}
-use Rattle.hp_parts.specs.Answered.{CanAnswer}
-use Rattle.hp_parts.specs.Replies.{is_trace_full}
+use Rattle.hp_events.specs.Answered.{CanAnswer}
+use Rattle.hp_events.specs.Replies.{is_trace_full}
 
 -- ---- a session
 

@@ -5,8 +5,8 @@ use Rattle.hp_model.specs.machine.Plan.{Reply}
 use Rattle.hp_events.specs.declared.work.Work.{Work}
 use Rattle.hp_events.specs.Works.{work_carries, work_receipts, work_script}
 use Rattle.hp_model.specs.machine.Step.{on_slot}
-use Rattle.hp_parts.specs.SlotWork.{asked_event, carries}
-use Rattle.hp_parts.specs.declared.slot_work.SlotWork.{SlotWork}
+use Rattle.hp_events.specs.SlotWork.{asked_event, carries}
+use Rattle.hp_events.specs.declared.slot_work.SlotWork.{SlotWork}
 use Rattle.hp_sessions.specs.Calls.{Carries, SessionView}
 
 -- there is no room for the receipts, or no memory for a copy of what it carries

@@ -8,7 +8,7 @@ mod queueing;
 mod service;
 mod steps;
 
-use hp_parts::Parts;
+use hp_events::Parts;
 use std::marker::Model;
 
 /// What one thread asks of a machine's parts, step after step, while others do the same.

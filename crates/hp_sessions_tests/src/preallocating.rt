@@ -7,13 +7,13 @@ use crate::gates::Free;
 use crate::remounting::{PLACES, ended, mount};
 use crate::rows::{ROOM, call, counts, history_of, opened};
 use crate::same::same;
+use hp_events::Parts;
 use hp_history::{Opened, Places};
 use hp_model::answer::{Answer, NodeCount, Reply};
 use hp_model::lent::Lent;
 use hp_model::naming::Naming;
 use hp_model::refusal::Refusal;
 use hp_model::step::{Reserving, Sharing, Step};
-use hp_parts::Parts;
 use hp_pool::Blanks;
 use hp_sessions::Session;
 use hp_shared::Shared;
@@ -53,8 +53,8 @@ fn numbers(len: u64, pages: u64, entries: u64, maps: u64) -> Reply {
 }
 
 // Total and free of two nodes, with no surplus.
-fn rows(zero: (u64, u64), one: (u64, u64)) -> Reply {
-    let row = |(total, free): (u64, u64)| NodeCount {
+fn rows(zero: (u32, u32), one: (u32, u32)) -> Reply {
+    let row = |(total, free): (u32, u32)| NodeCount {
         total,
         free,
         surp: 0,

@@ -25,8 +25,8 @@ use Rattle.hp_events.specs.declared.event.MountEvent.TheVariants as m
 use Rattle.hp_mount_laws.specs.Done.{IsDone, Through}
 use Rattle.hp_events.specs.Event.{event_of, is_usage}
 use Rattle.hp_mount_laws.proofs.Ways.{fresh_choice, is_fresh}
-use Rattle.hp_parts.specs.Answered.{Went}
-use Rattle.hp_parts.proofs.Came.{always_came}
+use Rattle.hp_events.specs.Answered.{Went}
+use Rattle.hp_events.proofs.Came.{always_came}
 use Rattle.hp_shared.specs.Slots.{IsActedOr}
 
 -- a door that was not used has its seat as it was

@@ -2,8 +2,8 @@
 use denote.Param.Send.{IsSend, sendable}
 use denote.Param.SendFields.{declared_send}
 use denote.RattleType.{RattleType}
-use Rattle.hp_values.specs.contracts.bytes.Bytes as Bytes
-use Rattle.hp_values.specs.contracts.names.Names as Names
+use Rattle.hp_model.specs.contracts.bytes.Bytes as Bytes
+use Rattle.hp_model.specs.contracts.names.Names as Names
 use Rattle.hp_model.specs.contracts.answer.Answer as Answer
 use Rattle.hp_model.specs.contracts.answer.NodeCount as NodeCount
 use Rattle.hp_model.specs.contracts.event.SlotEvent as SlotEvent

@@ -12,7 +12,7 @@ use Rattle.hp_model.specs.machine.Plan.{Answered, Finish, Outcome, Refused, Repl
 use Rattle.hp_model.specs.threads.LocalRun.{Gives, Goes}
 use Rattle.hp_mount_laws.specs.Alone.{IsDoneAlone}
 use Rattle.hp_mount_laws.proofs.Ways.{fresh_choice, is_fresh}
-use Rattle.hp_parts.specs.Answered.{Went}
+use Rattle.hp_events.specs.Answered.{Went}
 
 pub went_alone : (size k : ℕ) (old : Slot) (e : SlotEvent) (reply : Reply) (new : Slot) → IsDoneAlone size k old e reply new → Went size k old e reply None new
 went_alone size k old e reply new d = (d.choice, d.fresh, subst (λ p. Goes p None old reply new) (sym d.ends) d.gives)

@@ -19,11 +19,11 @@ use Rattle.hp_model.specs.threads.LocalRun.{Goes, IsLocalRun}
 use Rattle.hp_locked.specs.Told.{IsReceipt}
 use Rattle.hp_locked.specs.Views.{IsTrailOf}
 use Rattle.hp_mount_laws.specs.Done.{MayEnter}
-use Rattle.hp_parts.specs.Answered.{Went}
-use Rattle.hp_parts.specs.Replies.{is_trace_full}
+use Rattle.hp_events.specs.Answered.{Went}
+use Rattle.hp_events.specs.Replies.{is_trace_full}
 use Rattle.hp_shared.specs.Seated.{IsSeatedDone, IsSeatedEvent, IsSeatedSlot, SeatedView, run_in, session_left, slot_left, slot_receipt}
-use Rattle.hp_parts.specs.declared.slot_work.SlotWork.{SlotWork}
-use Rattle.hp_parts.specs.declared.slot_work.SlotWork.TheVariants as w
+use Rattle.hp_events.specs.declared.slot_work.SlotWork.{SlotWork}
+use Rattle.hp_events.specs.declared.slot_work.SlotWork.TheVariants as w
 use Rattle.hp_shared.specs.SlotWork.{full_for}
 use Rattle.hp_shared.specs.Slots.{IsSlotEvent, IsSlotEventDone, SlotView, slot_start}
 use Rattle.hp_shared.proofs.SlotsKept.{done_in, done_put, full_in, full_put, slot_push}
@@ -49,9 +49,6 @@ seen keeps k es v w (Some a) is = (Some (placed is.0 a), (is.0, is.1, refl), is.
 held_either : (k : ℕ) (es : List SlotEntry) (v : List Held) (o : Option Asked) → IsHeld (held k es v o)
 held_either k es v None = inl refl
 held_either k es v (Some a) = inr (a, refl)
-
-pub is_held : (keeps : Bool) (k : ℕ) (es : List SlotEntry) (v w : List Held) (asked : Option Asked) → IsEntered keeps (held k es v None) asked w → IsHeld w
-is_held keeps k es v w asked is = (let t = seen keeps k es v w asked is in subst IsHeld (sym t.2) (held_either k es v t.0))
 
 goes_placed : (p : Plan) (place : ℕ) (a : Asked) (old : Slot) (reply : Reply) (new : Slot) → Goes p (Some a) old reply new → Goes p (Some (placed place a)) old reply new
 goes_placed (Finish o) place a old reply new g = g
@@ -143,9 +140,6 @@ module _ (keeps : Bool) (full : Type 0) (size : ℕ) (s t : SlotView) (es : List
 
   stays : is_trace_full r ≡ true → w ≡ held s.number es v None
   stays is = subst (λ (a : Option Asked). IsEntered keeps (held s.number es v None) a w) (was_full is).2 entered
-
-  pub full_free : is_trace_full r ≡ true → IsFree w
-  full_free is = subst IsFree (sym (stays is)) refl
 
   there : (o : Option Asked) × IsSame keeps asked o × (w ≡ held s.number es v o)
   there = seen keeps s.number es v w asked entered

@@ -15,8 +15,8 @@ use Rattle.hp_model.specs.threads.Telling.{has_place}
 use Rattle.hp_laws.proofs.settled.Closing.{slot_places}
 use Rattle.hp_locked.specs.Views.{HasPlaces, IsFresh as IsFreshTrail}
 use Rattle.hp_trail.specs.Keeping.{has_room, one_less, with_entry}
-use Rattle.hp_parts.specs.Answered.{Went}
-use Rattle.hp_parts.specs.Replies.{is_trace_full}
+use Rattle.hp_events.specs.Answered.{Went}
+use Rattle.hp_events.specs.Replies.{is_trace_full}
 use Rattle.hp_shared.specs.Slots.{IsActedOr, IsLockedSlot, IsSlotEvent, IsSlotEventDone, IsSlotTrail, SlotView, slot_start}
 use Rattle.std.specs.Bool.{MatchBool}
 use Rattle.hp_model.specs.declared.entry.Part.TheVariants.{Slot as AtSlot}
@@ -29,9 +29,9 @@ use Rattle.hp_model.specs.declared.refusal.Refusal.TheVariants as r
 use Rattle.hp_mount_laws.specs.Done.{MayEnter}
 use Rattle.hp_events.specs.Event.{event_of}
 use Rattle.hp_shared.proofs.Acting.{always_goes}
-use Rattle.hp_parts.specs.declared.slot_work.SlotWork.{SlotWork}
-use Rattle.hp_parts.specs.declared.slot_work.SlotWork.TheVariants as w
-use Rattle.hp_parts.specs.SlotWork.{asked_event, is_exit}
+use Rattle.hp_events.specs.declared.slot_work.SlotWork.{SlotWork}
+use Rattle.hp_events.specs.declared.slot_work.SlotWork.TheVariants as w
+use Rattle.hp_events.specs.SlotWork.{asked_event, is_exit}
 use Rattle.hp_shared.specs.SlotWork.{has_maps_for}
 use Rattle.hp_shared.proofs.Places.{has_closing, places_after, room_closing}
 

@@ -22,7 +22,7 @@ use Rattle.hp_locked.specs.Views.{Asks}
 use Rattle.hp_mount_laws.specs.Kept.{mount_of}
 use Rattle.hp_mount_laws.proofs.Ways.{fresh_choice, is_fresh}
 use Rattle.hp_subpool.specs.Subpool.{Subpool, opened}
-use Rattle.hp_parts.specs.Answered.{Went}
+use Rattle.hp_events.specs.Answered.{Went}
 use Rattle.hp_shared.specs.Slots.{IsActedOr}
 use Rattle.hp_shared.proofs.Acting.{acted_or, stayed}
 

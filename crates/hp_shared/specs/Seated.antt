@@ -15,8 +15,8 @@ use Rattle.hp_model.specs.threads.JointRun.{InSlot, receipt_of}
 use Rattle.hp_model.specs.threads.LocalRun.{IsLocalRun}
 use Rattle.hp_locked.specs.Views.{IsTrailOf}
 use Rattle.hp_mount_laws.specs.Done.{MayEnter}
-use Rattle.hp_parts.specs.Answered.{Went}
-use Rattle.hp_parts.specs.Replies.{is_trace_full}
+use Rattle.hp_events.specs.Answered.{Went}
+use Rattle.hp_events.specs.Replies.{is_trace_full}
 use Rattle.hp_shared.specs.Slots.{SlotView, slot_start}
 use Rattle.hp_trail.specs.Keeping.{has_room}
 

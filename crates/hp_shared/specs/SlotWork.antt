@@ -2,8 +2,8 @@
 use Rattle.std.specs.Prelude.{Bool, true}
 use Rattle.hp_model.specs.machine.Event.{has_maps_of}
 use Rattle.hp_model.specs.machine.Plan.{Slot}
-use Rattle.hp_parts.specs.declared.slot_work.SlotWork.{SlotWork}
-use Rattle.hp_parts.specs.declared.slot_work.SlotWork.TheVariants.{Umount, Fork, Exit}
+use Rattle.hp_events.specs.declared.slot_work.SlotWork.{SlotWork}
+use Rattle.hp_events.specs.declared.slot_work.SlotWork.TheVariants.{Umount, Fork, Exit}
 
 -- the door had no room for its section: never where it gives back alone, which always has its place
 abbrev pub full_for : Type 0 → SlotWork → Type 0

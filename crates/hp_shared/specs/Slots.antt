@@ -16,8 +16,8 @@ use Rattle.hp_model.specs.threads.LocalRun.{IsLocalRun}
 use Rattle.hp_locked.specs.Told.{IsReceipt}
 use Rattle.hp_locked.specs.Views.{HasPlaces}
 use Rattle.hp_mount_laws.specs.Done.{MayEnter}
-use Rattle.hp_parts.specs.Answered.{Went}
-use Rattle.hp_parts.specs.Replies.{is_trace_full}
+use Rattle.hp_events.specs.Answered.{Went}
+use Rattle.hp_events.specs.Replies.{is_trace_full}
 use Rattle.hp_trail.specs.Keeping.{has_room, with_entry}
 
 -- ---- what an event asks of a slot

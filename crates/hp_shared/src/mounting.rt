@@ -7,8 +7,8 @@ ghost use Rattle.hp_model.specs.beside.Told.{told_reply};
 ghost use Rattle.hp_model.specs.text.Writing.{IsWithinLimits};
 ghost use Rattle.hp_store.specs.Store.{Store as StoreValue, page_at};
 ghost use Rattle.hp_subpool.specs.Subpool.{Subpool as ShareValue};
-ghost use Rattle.hp_parts.specs.Answered.{Went};
-ghost use Rattle.hp_parts.specs.Replies.{is_trace_full};
+ghost use Rattle.hp_events.specs.Answered.{Went};
+ghost use Rattle.hp_events.specs.Replies.{is_trace_full};
 ghost use Rattle.hp_shared.specs.Slots.{IsActedOr};
 
 use hp_locked::SessionDoor;

@@ -5,8 +5,8 @@ ghost use Rattle.hp_model.specs.declared.event.SlotEvent.TheVariants.{Ls};
 ghost use Rattle.hp_model.specs.beside.Copying.{has_names};
 ghost use Rattle.hp_model.specs.beside.Told.{told_answer};
 ghost use Rattle.hp_model.specs.text.Writing.{IsWithinLimits};
-ghost use Rattle.hp_parts.specs.Answered.{Went};
-ghost use Rattle.hp_parts.specs.Replies.{is_trace_full, names_reply};
+ghost use Rattle.hp_events.specs.Answered.{Went};
+ghost use Rattle.hp_events.specs.Replies.{is_trace_full, names_reply};
 
 use hp_model::answer::{Answer, Reply};
 use hp_model::copying::copied_names;

@@ -4,17 +4,17 @@ ghost use Rattle.hp_model.specs.declared.event.SlotEvent.TheVariants.{Ls};
 ghost use Rattle.hp_model.specs.beside.Told.{told_reply};
 ghost use Rattle.hp_history.specs.History.{IsSession};
 ghost use Rattle.hp_history.specs.Sections.{IsFree, IsHeld, free_slot, session_view};
-ghost use Rattle.hp_parts.specs.Replies.{is_trace_full, names_reply};
-ghost use Rattle.hp_parts.specs.SlotWork.{asked_event};
+ghost use Rattle.hp_events.specs.Replies.{is_trace_full, names_reply};
+ghost use Rattle.hp_events.specs.SlotWork.{asked_event};
 ghost use Rattle.hp_shared.specs.Seated.{first_of, session_left, slot_left};
 
 use crate::slot::is_full;
 use atomic_table::Badge;
+use hp_events::SlotWork;
 use hp_history::{History, Places, Token, View};
 use hp_model::names::Names;
 use hp_model::refusal::Refusal;
 use hp_model::told::Told;
-use hp_parts::SlotWork;
 use std::marker::Brand;
 use std::mem;
 

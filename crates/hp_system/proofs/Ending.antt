@@ -229,7 +229,3 @@ few_pages (r ∷ rows) all =
     let few = head.few in
     let rest = few_pages rows (All-tail IsRow r rows all) in
     omega (arith, rest, total_in, few, sum_by-cons (λ (x : NodeRow). x.total) r rows)
-
--- a pool has no more pages than four nodes have frames
-pub counts_few : (p : Pool) → IsSettledPool p → length p.nodes.rows ≤ 4 → (counts_of p).total ≤ 262144
-counts_few p settled four = (let total = settled.total in let few = few_pages p.nodes.rows settled.rows in omega (arith, total, few, four))

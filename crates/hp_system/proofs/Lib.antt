@@ -6,3 +6,5 @@ mod Mounting
 pub mod Start
 mod Forking
 pub mod Ready
+pub mod Scripts
+pub mod Seen

@@ -52,11 +52,6 @@ module _ (xs : List ℕ) (x : ℕ) (up : IsNonDecreasing xs) where
           behind = λ k le l. omega (arith, parted.2 k le l);
         }
 
-    pub rise_inserted : IsPlaceFor xs x at → IsNonDecreasing (insert xs at x)
-    rise_inserted for = IsNonDecreasingBy-insert (λ n. n) xs at x up for.within
-        (λ k d l. omega (arith, get_or_default xs k d 0 (omega (arith, l, for.within)), for.before k l))
-        (λ k d le l. omega (arith, get_or_default xs k d 0 l, for.behind k le l))
-
     pub rise_removed : at < length xs → IsNonDecreasing (remove xs at)
     rise_removed in_range i j d le lt =
         let long = length-remove xs at in_range in

@@ -199,7 +199,14 @@ fn push_row(out: &mut Vec<u8>, node: u64, row: NodeCount)
     ensures short { length (row_line node row) ≤ 84 }
 {
     push_number(out, node);
-    push_spaced(out, &[row.total, row.free, row.surp]);
+    push_spaced(
+        out,
+        &[
+            u64::from(row.total),
+            u64::from(row.free),
+            u64::from(row.surp),
+        ],
+    );
     push_byte(out, b'\n');
 }
 

@@ -6,16 +6,16 @@ ghost use Rattle.hp_model.specs.declared.step.Step.TheVariants.{Exit, Fork};
 ghost use Rattle.hp_model.specs.beside.Accesses.{done_reply};
 ghost use Rattle.hp_model.specs.machine.Step.{Script, exit_slots, fork_slots, script, undone};
 ghost use Rattle.hp_model.specs.Profile.{most_slots};
-ghost use Rattle.hp_parts.specs.Replies.{is_trace_full};
-ghost use Rattle.hp_parts.specs.Replies.{table_reply};
+ghost use Rattle.hp_events.specs.Replies.{is_trace_full};
+ghost use Rattle.hp_events.specs.Replies.{table_reply};
 ghost use Rattle.hp_sessions.specs.Calls.{Carries, Grows, HasReceiptRoom, Leads};
 ghost use Rattle.hp_sessions.specs.Forks.{marked_below};
 
 use super::Session;
+use hp_events::{Parts, TableTold};
 use hp_model::event::TableEvent;
 use hp_model::profile::MOST_SLOTS;
 use hp_model::refusal::Refusal;
-use hp_parts::{Parts, TableTold};
 
 impl<P: Parts> Session<P> {
     // Ends a task, and then its maps go, slot after slot.

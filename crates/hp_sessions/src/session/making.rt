@@ -8,18 +8,18 @@ ghost use Rattle.hp_model.specs.machine.Step.{Script, exit_slot, finding, on_slo
 ghost use Rattle.hp_model.specs.beside.Told.{told_answer, told_reply};
 ghost use Rattle.hp_model.specs.text.Writing.{IsWithinLimits};
 ghost use Rattle.hp_model.specs.Profile.{most_bytes};
-ghost use Rattle.hp_parts.specs.SlotWork.{AreCopiesFor, asked_event, is_of_maps, needs_room};
-ghost use Rattle.hp_parts.specs.Replies.{table_reply};
+ghost use Rattle.hp_events.specs.SlotWork.{AreCopiesFor, asked_event, is_of_maps, needs_room};
+ghost use Rattle.hp_events.specs.Replies.{table_reply};
 ghost use Rattle.hp_sessions.specs.Calls.{Carries, Grows, HasReceiptRoom, IsMade, Leads};
 ghost use Rattle.hp_sessions.specs.Forks.{IsForked};
-ghost use Rattle.hp_parts.specs.Fitting.{HasAnswerOf};
+ghost use Rattle.hp_events.specs.Fitting.{HasAnswerOf};
 
 use super::Session;
 use hp_events::copies::Copies;
+use hp_events::{Parts, SlotWork, TableTold};
 use hp_model::event::{PoolEvent, TableEvent};
 use hp_model::refusal::Refusal;
 use hp_model::told::Told;
-use hp_parts::{Parts, SlotWork, TableTold};
 
 impl<P: Parts> Session<P> {
     // An event of the task table.

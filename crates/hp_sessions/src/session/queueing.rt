@@ -5,9 +5,9 @@ ghost use Rattle.hp_model.specs.Profile.{most_bytes};
 ghost use Rattle.hp_sessions.specs.Calls.{IsCallAnswered};
 
 use super::Session;
+use hp_events::Parts;
 use hp_model::queued::Queued;
 use hp_model::service::Service;
-use hp_parts::Parts;
 
 impl<P: Parts> Session<P> {
     // Does the loads and stores of a queue: those of one slot that follow each other together, where no entries are kept, and

@@ -2,13 +2,13 @@
 ghost use Rattle.hp_sessions.specs.Calls.{IsCallAnswered};
 
 use super::Session;
+use hp_events::Parts;
 use hp_model::answer::Reply;
 use hp_model::queued::Queued;
 use hp_model::refusal::Refusal;
 use hp_model::service::{Access, Service};
 use hp_model::step::Step;
 use hp_model::told::Told;
-use hp_parts::Parts;
 
 impl<P: Parts> Service for Session<P> {
     ghost may_answer = { λ old step reply new.

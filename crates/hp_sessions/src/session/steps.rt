@@ -8,17 +8,19 @@ ghost use Rattle.hp_model.specs.beside.Told.{told_answer, told_reply};
 ghost use Rattle.hp_model.specs.text.Writing.{IsWithinLimits};
 ghost use Rattle.hp_model.specs.Profile.{most_bytes};
 ghost use Rattle.hp_events.specs.Event.{event_of, shows_bytes};
-ghost use Rattle.hp_parts.specs.SlotWork.{AreCopiesFor, asked_event, carries, is_of_maps, needs_room};
-ghost use Rattle.hp_parts.specs.Replies.{table_reply};
+ghost use Rattle.hp_events.specs.SlotWork.{AreCopiesFor, asked_event, carries, is_of_maps, needs_room};
+ghost use Rattle.hp_events.specs.Replies.{table_reply};
 ghost use Rattle.hp_events.specs.declared.work.Work.TheVariants.{Attach as AttachATask, OfTask as OfATask, OnSlot as OnASlot, Pool as ThePool};
 ghost use Rattle.hp_sessions.specs.Calls.{HasReceiptRoom, IsCallAnswered};
 ghost use Rattle.hp_events.specs.Works.{ListsByNamesAlone};
-ghost use Rattle.hp_parts.specs.Fitting.{HasAnswerOf};
+ghost use Rattle.hp_events.specs.Fitting.{HasAnswerOf};
 ghost use Rattle.hp_sessions.specs.Works.{IsAsked, IsWorked};
 
 use super::Session;
 use hp_events::copies::Copies;
-use hp_events::{MountEvent, Work, most_receipts, work_of};
+use hp_events::{
+    MountEvent, Parts, SlotWork, TableTold, Work, into_bytes, into_done, most_receipts, work_of,
+};
 use hp_model::answer::Reply;
 use hp_model::event::{PoolEvent, TableEvent};
 use hp_model::profile::MOST_BYTES;
@@ -26,7 +28,6 @@ use hp_model::refusal::Refusal;
 use hp_model::service::Access;
 use hp_model::step::Step;
 use hp_model::told::Told;
-use hp_parts::{Parts, SlotWork, TableTold, into_bytes, into_done};
 use std::alloc::AllocError;
 
 impl<P: Parts> Session<P> {

@@ -5,7 +5,7 @@ ghost use Rattle.hp_model.specs.declared.entry.Part.TheVariants.{Slot as AtSlot}
 ghost use Rattle.hp_model.specs.declared.event.Event.TheVariants.{Slot as OnSlot};
 ghost use Rattle.hp_model.specs.text.Writing.{IsWithinLimits};
 ghost use Rattle.hp_locked.specs.Told.{IsReceipt};
-ghost use Rattle.hp_parts.specs.Replies.{is_trace_full, names_reply};
+ghost use Rattle.hp_events.specs.Replies.{is_trace_full, names_reply};
 ghost use Rattle.hp_shared.specs.Slots.{IsSlotEvent};
 ghost use Rattle.hp_trail.specs.Keeping.{has_room, one_less, with_entry};
 

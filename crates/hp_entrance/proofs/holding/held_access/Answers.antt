@@ -7,9 +7,9 @@ use Rattle.hp_model.specs.declared.event.SlotEvent.TheVariants as slot
 use Rattle.hp_model.specs.declared.service.Access.{Access}
 use Rattle.hp_model.specs.declared.step.Step.{Step}
 use Rattle.hp_model.specs.machine.Plan.{Reply}
-use Rattle.hp_parts.specs.Answered.{IsHanded}
-use Rattle.hp_parts.specs.Queues.{IsAccessHanded}
-use Rattle.hp_parts.proofs.Fitting.{fits_result}
+use Rattle.hp_events.specs.Answered.{IsHanded}
+use Rattle.hp_events.specs.Queues.{IsAccessHanded}
+use Rattle.hp_events.proofs.Fitting.{fits_result}
 use Rattle.hp_entrance.proofs.Held.{found_handed}
 use Rattle.hp_entrance.proofs.holding.held_access.Goals as goal
 

@@ -1,5 +1,5 @@
 use Rattle.std.proofs.Common.{◌≡◌, take, drop}
-use Rattle.hp_parts.specs.Queues.{AreAccessesHanded}
+use Rattle.hp_events.specs.Queues.{AreAccessesHanded}
 use Rattle.hp_entrance.proofs.holding.held_accesses.Given as goal
 
 abbrev pub invariant-loop-done : goal.invariant-loop-done

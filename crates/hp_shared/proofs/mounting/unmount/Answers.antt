@@ -6,7 +6,7 @@ use Rattle.hp_model.specs.declared.answer.Answer.TheVariants.{Done}
 use Rattle.hp_model.specs.declared.event.SlotEvent.TheVariants.{Umount}
 use Rattle.hp_model.specs.declared.refusal.Refusal.TheVariants.{Busy, NoSuchSlot}
 use Rattle.hp_model.specs.machine.Plan.{Slot, gives}
-use Rattle.hp_parts.specs.Answered.{Went}
+use Rattle.hp_events.specs.Answered.{Went}
 use Rattle.hp_shared.proofs.Unmounting.{none_mount, some_mount, unmounted, unmounted_busy, unmounted_none}
 use Rattle.hp_shared.proofs.mounting.unmount.Goals as goal
 

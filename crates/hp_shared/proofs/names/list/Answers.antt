@@ -5,7 +5,7 @@ use Rattle.hp_model.specs.declared.event.SlotEvent.TheVariants.{Ls}
 use Rattle.hp_model.specs.declared.refusal.Refusal.TheVariants.{NoSuchSlot}
 use Rattle.hp_model.specs.machine.Plan.{Slot}
 use Rattle.hp_model.specs.beside.Told.{told_answer}
-use Rattle.hp_parts.specs.Answered.{Went}
+use Rattle.hp_events.specs.Answered.{Went}
 use Rattle.hp_shared.proofs.Naming.{ls_names, none_listed, went_alone}
 use Rattle.hp_shared.proofs.SlotsKept.{not_full}
 use Rattle.hp_shared.proofs.names.list.Goals as goal

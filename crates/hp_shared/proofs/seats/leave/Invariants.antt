@@ -1,5 +1,5 @@
 use Rattle.hp_model.specs.beside.Told.{told_reply}
-use Rattle.hp_parts.specs.SlotWork.{asked_event}
+use Rattle.hp_events.specs.SlotWork.{asked_event}
 use Rattle.hp_shared.proofs.seats.leave.Given as goal
 
 -- what was asked, with its reply

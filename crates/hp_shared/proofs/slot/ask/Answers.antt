@@ -4,9 +4,9 @@ use Rattle.hp_model.specs.beside.Told.{told_reply}
 use Rattle.hp_model.specs.machine.Plan.{Reply}
 use Rattle.hp_laws.specs.Answers.{lists_names}
 use Rattle.hp_shared.specs.Slots.{IsActedOr}
-use Rattle.hp_parts.specs.SlotWork.{asked_event, is_exit}
+use Rattle.hp_events.specs.SlotWork.{asked_event, is_exit}
 use Rattle.hp_shared.specs.SlotWork.{full_for}
-use Rattle.hp_parts.specs.declared.slot_work.SlotWork.{SlotWork}
+use Rattle.hp_events.specs.declared.slot_work.SlotWork.{SlotWork}
 use Rattle.hp_shared.proofs.SlotsKept.{went_acted}
 use Rattle.hp_shared.proofs.slot.ask.Goals as goal
 

@@ -3,7 +3,7 @@ use Rattle.hp_model.specs.declared.event.SlotEvent.TheVariants.{ForkMaps}
 use Rattle.hp_model.specs.beside.Accesses.{done_reply}
 use Rattle.hp_model.specs.machine.Plan.{Reply, Slot}
 use Rattle.hp_model.specs.beside.Told.{told_reply}
-use Rattle.hp_parts.specs.Answered.{Went}
+use Rattle.hp_events.specs.Answered.{Went}
 use Rattle.hp_shared.proofs.Acting.{acted_or, event_entered}
 use Rattle.hp_shared.proofs.SlotsKept.{event_went, not_full}
 use Rattle.hp_shared.proofs.slot.fork.Goals as goal

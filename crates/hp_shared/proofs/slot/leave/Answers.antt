@@ -2,7 +2,7 @@ use Rattle.std.proofs.Common.{Some, Ok, sym, subst}
 use Rattle.hp_model.specs.declared.answer.Answer.TheVariants.{Done}
 use Rattle.hp_model.specs.declared.event.SlotEvent.TheVariants.{ExitMaps}
 use Rattle.hp_model.specs.machine.Plan.{Slot}
-use Rattle.hp_parts.specs.Answered.{Went}
+use Rattle.hp_events.specs.Answered.{Went}
 use Rattle.hp_shared.proofs.Acting.{acted_or, event_entered}
 use Rattle.hp_shared.proofs.slot.leave.Goals as goal
 

@@ -1,4 +1,4 @@
-use Rattle.hp_parts.specs.Replies.{table_reply}
+use Rattle.hp_events.specs.Replies.{table_reply}
 use Rattle.hp_shared.specs.Tables.{table_over}
 use Rattle.hp_shared.proofs.table.tell.Given as goal
 

@@ -2,7 +2,7 @@ use Rattle.std.proofs.Common.{◌==◌, ℕ, Err, Ok, ap, ◌∙◌, subst}
 use Rattle.hp_model.specs.beside.Told.{told_answer}
 use Rattle.hp_model.specs.declared.event.Event.TheVariants.{Slot as OnSlot}
 use Rattle.hp_model.specs.declared.event.SlotEvent.TheVariants.{ForkMaps}
-use Rattle.hp_parts.specs.Answered.{IsHanded}
+use Rattle.hp_events.specs.Answered.{IsHanded}
 use Rattle.hp_shared.specs.Seated.{SeatedView}
 use Rattle.hp_entrance.proofs.Forking.{fork_done}
 use Rattle.hp_entrance.proofs.asking.EntranceParts.fork_maps.Goals as goal

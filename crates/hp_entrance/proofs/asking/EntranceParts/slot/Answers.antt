@@ -1,9 +1,9 @@
 use Rattle.std.proofs.Common.{◌≡◌, ◌==◌, ℕ, sym, ap, ◌∙◌, subst}
 use Rattle.hp_model.specs.beside.Told.{told_reply}
 use Rattle.hp_model.specs.declared.event.Event.TheVariants.{Slot as OnSlot}
-use Rattle.hp_parts.specs.Answered.{IsHanded}
-use Rattle.hp_parts.specs.SlotWork.{asked_event}
-use Rattle.hp_parts.specs.declared.slot_work.SlotWork.{SlotWork}
+use Rattle.hp_events.specs.Answered.{IsHanded}
+use Rattle.hp_events.specs.SlotWork.{asked_event}
+use Rattle.hp_events.specs.declared.slot_work.SlotWork.{SlotWork}
 use Rattle.hp_shared.specs.Seated.{SeatedView}
 use Rattle.hp_entrance.proofs.asking.EntranceParts.slot.Goals as goal
 

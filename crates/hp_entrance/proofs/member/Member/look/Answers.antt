@@ -8,7 +8,7 @@ use Rattle.hp_model.specs.declared.answer.Answer.TheVariants.{Home}
 use Rattle.hp_model.specs.declared.entry.Receipt.{Receipt}
 use Rattle.hp_model.specs.declared.event.Event.TheVariants.{Tasks as OnTasks}
 use Rattle.hp_model.specs.declared.event.TableEvent.TheVariants.{Find}
-use Rattle.hp_parts.specs.Answered.{IsHanded}
+use Rattle.hp_events.specs.Answered.{IsHanded}
 use Rattle.hp_entrance.proofs.member.Member.look.Goals as goal
 
 found : (kept : Bool) (task : ℕ) (home : Option ℕ) (v : List Held) (now : List Held × List (ℕ × Unit {0})) (rest : List (ℕ × Unit {0})) → now ≡ (looked task home v, rest) →

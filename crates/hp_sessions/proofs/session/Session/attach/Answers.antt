@@ -3,7 +3,7 @@ use Rattle.hp_events.specs.declared.work.Work.TheVariants.{Attach}
 use Rattle.hp_model.specs.declared.event.Event.TheVariants.{Tasks as OnTasks}
 use Rattle.hp_model.specs.declared.event.TableEvent.TheVariants.{Find}
 use Rattle.hp_model.specs.machine.Plan.{Reply}
-use Rattle.hp_parts.specs.Replies.{table_reply}
+use Rattle.hp_events.specs.Replies.{table_reply}
 use Rattle.hp_sessions.specs.Works.{IsWorked}
 use Rattle.hp_sessions.proofs.Carrying.{only_made}
 use Rattle.hp_sessions.proofs.Working.{worked}

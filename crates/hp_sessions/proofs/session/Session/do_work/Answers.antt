@@ -8,7 +8,7 @@ use Rattle.hp_events.specs.Works.{work_receipts}
 use Rattle.hp_sessions.specs.Works.{IsWorked}
 use Rattle.hp_events.specs.declared.work.Work.{Work}
 use Rattle.hp_events.specs.declared.work.Work.TheVariants.{Connect, Mount, Pool, Remount, Umount}
-use Rattle.hp_parts.specs.declared.slot_work.SlotWork.TheVariants as w
+use Rattle.hp_events.specs.declared.slot_work.SlotWork.TheVariants as w
 use Rattle.hp_sessions.proofs.Carrying.{only_made}
 use Rattle.hp_sessions.proofs.Working.{asked_worked, worked}
 use Rattle.hp_sessions.proofs.session.Session.do_work.Goals as goal

@@ -4,7 +4,7 @@ use Rattle.hp_model.specs.declared.event.Event.TheVariants.{Slot as OnSlot}
 use Rattle.hp_model.specs.declared.event.SlotEvent.TheVariants.{Ls}
 use Rattle.hp_model.specs.machine.Plan.{Reply}
 use Rattle.hp_model.specs.machine.Step.{on_slot}
-use Rattle.hp_parts.specs.Replies.{names_reply}
+use Rattle.hp_events.specs.Replies.{names_reply}
 use Rattle.hp_sessions.specs.Calls.{Carries, SessionView}
 use Rattle.hp_sessions.proofs.Carrying.{made_by, on_slot_made}
 use Rattle.hp_sessions.proofs.session.Session.make_names.Goals as goal

@@ -1,10 +1,10 @@
 use Rattle.std.proofs.Common.{ap, arith}
 use Rattle.hp_model.specs.declared.event.Event.TheVariants.{Slot as OnSlot}
 use Rattle.hp_model.specs.beside.Told.{told_reply}
-use Rattle.hp_parts.specs.SlotWork.{asked_event}
+use Rattle.hp_events.specs.SlotWork.{asked_event}
 use Rattle.hp_sessions.specs.Calls.{SessionView}
 use Rattle.hp_sessions.proofs.Carrying.{made_by, no_slot, on_slot_made}
-use Rattle.hp_parts.proofs.Fitting.{fits_result}
+use Rattle.hp_events.proofs.Fitting.{fits_result}
 use Rattle.hp_sessions.proofs.session.Session.make_slot.Goals as goal
 
 pub returns-then-at-count-clause-carried : goal.returns-then-at-count-clause-carried

@@ -1,5 +1,5 @@
 use Rattle.std.proofs.Common.{◌≡◌, ◌+◌, ℕ, sym, subst, ◌∙◌, arith}
-use Rattle.hp_parts.specs.Replies.{table_reply}
+use Rattle.hp_events.specs.Replies.{table_reply}
 use Rattle.hp_sessions.specs.Calls.{Grows, SessionView}
 use Rattle.hp_sessions.specs.Forks.{marked_below}
 use Rattle.hp_sessions.proofs.Carrying.{grows_more, grows_then}

@@ -5,7 +5,7 @@ use Rattle.hp_model.specs.declared.event.Event.TheVariants.{Slot as OnSlot}
 use Rattle.hp_model.specs.declared.event.SlotEvent.TheVariants.{Ls}
 use Rattle.hp_model.specs.machine.Plan.{Reply}
 use Rattle.hp_locked.specs.Told.{IsReceipt}
-use Rattle.hp_parts.specs.Replies.{names_reply}
+use Rattle.hp_events.specs.Replies.{names_reply}
 use Rattle.hp_shared.specs.Slots.{IsSlotEvent, SlotView}
 use Rattle.hp_shared.proofs.SlotsKept.{event_done, kept_none, none_added, slot_noted, went_acted}
 use Rattle.hp_shared.proofs.locked_slot.Slot.names.Given.{Over}

@@ -1,9 +1,9 @@
 use Rattle.std.proofs.Common.{◌≡◌, inr, true, None, sym, ap, ◌∙◌, subst}
 use Rattle.hp_model.specs.beside.Told.{told_reply}
 use Rattle.hp_trail.specs.Keeping.{with_entry}
-use Rattle.hp_parts.specs.Answered.{Went}
+use Rattle.hp_events.specs.Answered.{Went}
 use Rattle.hp_shared.specs.Slots.{IsSlotEvent, SlotView}
-use Rattle.hp_parts.specs.SlotWork.{asked_event, is_exit}
+use Rattle.hp_events.specs.SlotWork.{asked_event, is_exit}
 use Rattle.hp_shared.specs.SlotWork.{full_for, has_maps_for}
 use Rattle.hp_shared.proofs.SlotsKept.{entry_asked, event_done, event_full, event_went, full_stays, may_fit, may_room, slot_noted, was_full, work_event, work_removes}
 use Rattle.hp_shared.proofs.locked_slot.Slot.work.Given.{Over}

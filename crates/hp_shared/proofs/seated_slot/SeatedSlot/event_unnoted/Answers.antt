@@ -5,7 +5,7 @@ use Rattle.hp_history.specs.declared.held.Held.{Held}
 use Rattle.hp_history.specs.Sections.{IsEntered, free_slot, session_view}
 use Rattle.hp_model.specs.beside.Told.{told_reply}
 use Rattle.hp_model.specs.declared.entry.SlotEntry.{SlotEntry}
-use Rattle.hp_parts.specs.Replies.{is_trace_full}
+use Rattle.hp_events.specs.Replies.{is_trace_full}
 use Rattle.hp_shared.specs.Seated.{IsSeatedDone, SeatedView, first_of, run_in, session_left, slot_left}
 use Rattle.hp_shared.specs.Slots.{IsSlotEvent}
 use Rattle.hp_shared.proofs.SeatedKept.{event_seated, full_as, held, never_true, seat_next, seated_done, session_went, slot_went}

@@ -2,7 +2,7 @@ use Rattle.std.proofs.Common.{◌≡◌, None, List, [], ◌∷◌, refl, ap, �
 use Rattle.hp_history.specs.Sections.{free_slot, session_view}
 use Rattle.hp_model.specs.declared.entry.SlotEntry.{SlotEntry}
 use Rattle.hp_model.specs.declared.event.SlotEvent.TheVariants.{Ls}
-use Rattle.hp_parts.specs.Replies.{names_reply}
+use Rattle.hp_events.specs.Replies.{names_reply}
 use Rattle.hp_shared.specs.Seated.{IsSeatedEvent, SeatedView, first_of, run_in}
 use Rattle.hp_shared.proofs.SeatedKept.{event_seated, held, seat_next}
 use Rattle.hp_shared.proofs.seated_slot.SeatedSlot.names.Given.{Over}

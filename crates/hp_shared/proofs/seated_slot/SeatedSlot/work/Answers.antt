@@ -3,7 +3,7 @@ use Rattle.hp_history.specs.declared.held.Held.{Held}
 use Rattle.hp_history.specs.Sections.{IsEntered, free_slot, session_view}
 use Rattle.hp_model.specs.beside.Told.{told_reply}
 use Rattle.hp_model.specs.declared.entry.SlotEntry.{SlotEntry}
-use Rattle.hp_parts.specs.SlotWork.{asked_event}
+use Rattle.hp_events.specs.SlotWork.{asked_event}
 use Rattle.hp_shared.specs.Seated.{IsSeatedEvent, SeatedView, first_of, run_in}
 use Rattle.hp_shared.specs.Slots.{IsSlotEvent}
 use Rattle.hp_shared.specs.SlotWork.{full_for, has_maps_for}
