@@ -6,6 +6,7 @@ ghost use Rattle.hp_model.specs.machine.Machine.{start};
 ghost use Rattle.hp_server.specs.Left.{MayLeave};
 ghost use Rattle.hp_serving.specs.Ended.{IsOfMachine};
 ghost use Rattle.hp_sessions.specs.Calls.{IsCallAnswered, SessionView};
+ghost use Rattle.hp_shared.specs.Ended.{IsCount};
 
 use crate::host::Waiting;
 use hp_closing::{close, into_system};
@@ -41,6 +42,8 @@ impl<N: Naming + Places + Send + Sync, G: Gate + Drop, const K: usize> Machine f
 
     ghost may_leave = { λ machine told closed. MayLeave K (start (frames_list N.frames)
         machine.shared.page_size machine.shared.slots) (all_told told) closed };
+
+    ghost is_numbered = { λ told n. IsCount n told.number };
 
     fn serve_one<R: Wait, A: Source, B: Sink>(
         &self,

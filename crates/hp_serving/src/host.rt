@@ -72,6 +72,9 @@ pub trait Machine {
     /// Closing the machine, where its sessions were told this, may leave that.
     ghost may_leave: { Self → List Self.Told → TheClosed → Type 0 };
 
+    /// What a session was told is of the session of this number.
+    ghost is_numbered: { Self.Told → ℕ → Type 0 };
+
     /// Serves a connection as `serve_session` does, on a session of this machine.
     fn serve_one<R: Wait, A: Source, B: Sink>(
         &self,
@@ -87,7 +90,8 @@ pub trait Machine {
         ensures unwritten { OnErr result (writer.new ≡ writer.old) };
 
     /// The number that the session got when it was opened: the first got 0, and each the next.
-    fn number(told: &Self::Told) -> usize;
+    fn number(told: &Self::Told) -> usize
+        ensures { is_numbered told.now result };
 
     /// Closes the machine once all its sessions are finished, given what these were told in the order of their
     /// numbers, and finds out whether that is all. Refused is only that, for want of memory; then it is closed too.

@@ -190,6 +190,8 @@ impl Machine for Small {
 
     ghost may_leave = { λ machine told closed. closed.counts.free ≡ length told };
 
+    ghost is_numbered = { λ told n. told.number ≡ n };
+
     fn serve_one<R: Wait, A: Source, B: Sink>(
         &self,
         rt: &R,
