@@ -9,7 +9,7 @@ from pathlib import Path
 
 CRATES = Path(__file__).resolve().parent.parent / "crates"
 # The contract of a script's run, by which the program answers.
-CONTRACT = (CRATES / "hp_script/src/script.rt", "run_script")
+CONTRACT = (CRATES / "hp_system/src/script.rt", "run_script")
 USE = re.compile(r"(?m)^ *(?:(?:ghost|pub) )*use Rattle\.([\w.]+?)(?:\.\{([^}]*)\}| as (\w+))?;?$")
 WORD = re.compile(r"[\w'◌]+")
 HEAD = re.compile(r"(?:(?:pub|abbrev|unfoldable|record|data) )*([^\s:({]+)")

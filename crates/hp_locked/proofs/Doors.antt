@@ -42,14 +42,15 @@ module _ (kept : Bool) (x w : List Held) (d : DoorView) (view : record { asked =
     none = λ z. absurd (let some = given.3 in let sums = ap sum same in omega (arith, some, z, sums, falls));
   }
 
-module _ (history : TableId) (keeps : Bool) where
+module _ (history : TableId) (keeps notes : Bool) where
   -- a door that was not used
-  pub door_fresh : (id : TableId) (me : List Held × List (ℕ × Unit {0})) (n : NotedView) → id ≡ history → IsFree me.0 → me.1 ≡ []
-      → n.is_entered ≡ false → (keeps ≡ true → n.section ≡ None) → IsDoor history keeps id me n
-  door_fresh id me n named free alone unused none = record {
+  pub door_fresh : (id : TableId) (me : List Held × List (ℕ × Unit {0})) (n : NotedView) → (keeps ≡ true → notes ≡ true) → id ≡ history → IsFree me.0
+      → me.1 ≡ [] → n.is_entered ≡ false → (notes ≡ true → n.section ≡ None) → IsDoor history keeps notes id me n
+  door_fresh id me n fits named free alone unused none = record {
+    fits = fits;
     named = named;
     alone = alone;
     free = λ unasked. free;
     entered = unused ∙ ap is_some (sym (free_unasked me.0 free));
-    noted = λ k. none k ∙ sym (free_unasked me.0 free);
+    noted = λ k. none (fits k) ∙ sym (free_unasked me.0 free);
   }

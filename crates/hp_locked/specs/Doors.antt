@@ -15,8 +15,9 @@ abbrev pub later : Option Asked → Option Asked → Option Asked
 later None before = before
 later (Some a) before = Some a
 
--- a door's seat has a slot and a session, and is busy with the section that was entered, if one was, which is noted
-pub record IsDoor (history : TableId) (keeps : Bool) (id : TableId) (me : List Held × List (ℕ × Unit {0})) (n : NotedView) : Type 0 where
+-- a door's seat has a slot and a session, and is busy with the section that was entered, if one was, which is noted where entries are kept
+pub record IsDoor (history : TableId) (keeps notes : Bool) (id : TableId) (me : List Held × List (ℕ × Unit {0})) (n : NotedView) : Type 0 where
+  pub fits : keeps ≡ true → notes ≡ true
   pub named : id ≡ history
   pub alone : me.1 ≡ []
   pub free : asked_in me.0 ≡ None → IsFree me.0

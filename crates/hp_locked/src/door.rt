@@ -11,7 +11,7 @@ ghost use Rattle.hp_locked.specs.Views.{Asks};
 
 use crate::gate::Gate;
 use crate::nodes::NodeLocks;
-use crate::noted::Noted;
+use crate::noted::Notes;
 use crate::pool_core::Core;
 use hp_history::{History, Places, Token};
 use hp_model::entry::{Asked, PoolEntry};
@@ -32,17 +32,18 @@ use std::sync::{Mutex, Wait};
 /// Each call holds the pool's lock once, for its section. The page of a claim comes from under its node's lock, once the
 /// pool's is free again; pages that go back are given to their nodes before it is taken. So no two of these are held at once.
 #[derive(Drop)]
-pub struct Door<'a, N: Naming + Places, R: Wait, G: Gate, const K: usize> {
+pub struct Door<'a, N: Naming + Places, R: Wait, G: Gate, S: Notes, const K: usize> {
     rt: &'a R,
     gate: &'a G,
     core: &'a Mutex<Core<N, Trace<PoolEntry, K>>>,
     nodes: &'a NodeLocks<N>,
     history: &'a History<N>,
     mine: Token,
-    noted: Noted<K>,
+    noted: S,
 }
 
-impl<'a, N: Naming + Places, R: Wait, G: Gate, const K: usize> Model for Door<'a, N, R, G, K> {
+impl<'a, N: Naming + Places, R: Wait, G: Gate, S: Notes, const K: usize> Model
+    for Door<'a, N, R, G, S, K> {
     ghost use Rattle.std.specs.Prelude.{◌==◌};
     ghost use Rattle.hp_history.specs.Sections.{asked_in};
     ghost use Rattle.hp_locked.specs.Doors.{IsDoor};
@@ -52,11 +53,12 @@ impl<'a, N: Naming + Places, R: Wait, G: Gate, const K: usize> Model for Door<'a
 
     ghost view = { λ d. record { asked = asked_in d.mine.me.0; mine = d.mine.me.0 } };
 
-    ghost invariant = { λ d. IsDoor N.history (K == 1) d.mine.table_id d.mine.me d.noted };
+    ghost invariant = { λ d. IsDoor N.history (K == 1) S.keeps d.mine.table_id d.mine.me
+        (record { is_entered = S.is_entered d.noted; section = S.section d.noted }) };
 }
 
-impl<'a, N: Naming + Places, R: Wait, G: Gate, const K: usize> Door<'a, N, R, G, K> {
-    /// A door that was not used.
+impl<'a, N: Naming + Places, R: Wait, G: Gate, S: Notes, const K: usize> Door<'a, N, R, G, S, K> {
+    /// A door that was not used. Where entries are kept, it notes which section is entered.
     #[inline(always)]
     pub fn new(
         rt: &'a R,
@@ -69,6 +71,7 @@ impl<'a, N: Naming + Places, R: Wait, G: Gate, const K: usize> Door<'a, N, R, G,
         requires named { mine.table_id ≡ N.history }
         requires free { IsFree mine.me.0 }
         requires alone { mine.me.1 ≡ [] }
+        requires fits { (K == 1) ≡ true → S.keeps ≡ true }
         ensures { result ≡ record { asked = None; mine = mine.me.0 } }
     {
         Door {
@@ -78,7 +81,7 @@ impl<'a, N: Naming + Places, R: Wait, G: Gate, const K: usize> Door<'a, N, R, G,
             nodes,
             history,
             mine,
-            noted: Noted::new(),
+            noted: S::new(),
         }
     }
 
@@ -135,7 +138,8 @@ impl<'a, N: Naming + Places, R: Wait, G: Gate, const K: usize> Door<'a, N, R, G,
     }
 }
 
-impl<'a, N: Naming + Places, R: Wait, G: Gate, const K: usize> PoolDoor for Door<'a, N, R, G, K> {
+impl<'a, N: Naming + Places, R: Wait, G: Gate, S: Notes, const K: usize> PoolDoor
+    for Door<'a, N, R, G, S, K> {
     type Share = Subpool<N>;
 
     type Page = Page<N>;
@@ -320,8 +324,8 @@ pub trait SessionDoor: PoolDoor {
         → Asks (asked e) s a × IsEntered keeps (mine d) (asked e) (mine e) };
 }
 
-impl<'a, N: Naming + Places, R: Wait, G: Gate, const K: usize> SessionDoor
-    for Door<'a, N, R, G, K> {
+impl<'a, N: Naming + Places, R: Wait, G: Gate, S: Notes, const K: usize> SessionDoor
+    for Door<'a, N, R, G, S, K> {
     ghost asked = { λ d. d.asked };
 
     ghost mine = { λ d. d.mine };

@@ -12,5 +12,6 @@ mod pool_told;
 pub use door::{Door, SessionDoor};
 pub use gate::Gate;
 pub use nodes::NodeLocks;
+pub use noted::{Entered, Noted, Notes};
 pub use pool_core::{Core, Full};
 pub use pool_told::PoolTold;

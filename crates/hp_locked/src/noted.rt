@@ -1,66 +1,122 @@
 //! What an event notes of the section that it entered.
-ghost use Rattle.std.specs.Prelude.{◌≡◌, ◌==◌, ◌||◌, false, true, None, is_some};
+ghost use Rattle.std.specs.Prelude.{◌≡◌, ◌||◌, Bool, Option, false, true, None, is_some};
+ghost use Rattle.hp_model.specs.declared.entry.Asked.{Asked as AskedValue};
 ghost use Rattle.hp_locked.specs.Doors.{later};
 
 use hp_model::entry::Asked;
 use std::marker::Model;
 
-/// Whether an event entered a section, and where K is 1 which. Where it is 0 nothing is copied.
-#[derive(Drop)]
-pub(crate) struct Noted<const K: usize> {
-    entered: bool,
-    section: Option<Asked>,
-}
+/// What a door notes of its event: that it entered a section, or which.
+pub trait Notes: Drop {
+    /// Whether it notes which.
+    ghost keeps: { Bool };
 
-impl<const K: usize> Model for Noted<K> {
-    ghost use Rattle.hp_locked.specs.Doors.{NotedView};
+    /// A section was entered.
+    ghost is_entered: { Self → Bool };
 
-    ghost Value = { NotedView };
+    /// The section, where it is noted.
+    ghost section: { Self → Option AskedValue };
 
-    ghost view = { λ n. record { is_entered = n.entered; section = n.section } };
-}
-
-impl<const K: usize> Noted<K> {
     /// No section.
+    fn new() -> Self
+        ensures entered { is_entered result ≡ false }
+        ensures section { keeps ≡ true → section result ≡ None };
+
+    /// Notes a section, if one was entered.
+    fn note(&mut self, asked: Option<Asked>)
+        ensures entered { is_entered self.new ≡ (is_some asked || is_entered self.old) }
+        ensures section { keeps ≡ true → section self.new ≡ later asked (section self.old) };
+
+    /// Whether one was entered.
+    fn is_entered(&self) -> bool
+        ensures { result ≡ is_entered self.now };
+
+    /// The section, where it is noted.
+    fn section(&self) -> Option<Asked>
+        ensures { keeps ≡ true → result ≡ section self.now };
+}
+
+/// Whether a section was entered: what is noted where no entries are kept, so that nothing is copied.
+#[derive(Drop)]
+pub struct Entered {
+    is_entered: bool,
+}
+
+impl Model for Entered {
+    ghost use Rattle.std.specs.Prelude.{Bool};
+
+    ghost Value = { Bool };
+
+    ghost view = { λ e. e.is_entered };
+}
+
+impl Notes for Entered {
+    ghost keeps = { false };
+
+    ghost is_entered = { λ e. e };
+
+    ghost section = { λ e. None };
+
     #[inline(always)]
-    pub(crate) fn new() -> Self
-        ensures entered { result.is_entered ≡ false }
-        ensures section { (K == 1) ≡ true → result.section ≡ None }
-    {
-        Noted {
-            entered: false,
-            section: None,
+    fn new() -> Self {
+        Entered { is_entered: false }
+    }
+
+    #[inline(always)]
+    fn note(&mut self, asked: Option<Asked>) {
+        if asked.is_some() {
+            self.is_entered = true;
         }
     }
 
-    /// Notes a section, if one was entered.
     #[inline(always)]
-    pub(crate) fn note(&mut self, asked: Option<Asked>)
-        ensures entered { self.new.is_entered ≡ (is_some asked || self.old.is_entered) }
-        ensures section { (K == 1) ≡ true → self.new.section ≡ later asked self.old.section }
-    {
-        if asked.is_none() {
-            return;
-        }
-        self.entered = true;
-        if K == 1 {
+    fn is_entered(&self) -> bool {
+        self.is_entered
+    }
+
+    #[inline(always)]
+    fn section(&self) -> Option<Asked> {
+        None
+    }
+}
+
+/// The section that was entered, if one was: what is noted for an entry.
+#[derive(Drop)]
+pub struct Noted {
+    section: Option<Asked>,
+}
+
+impl Model for Noted {
+    ghost use Rattle.std.specs.Prelude.{Option};
+    ghost use Rattle.hp_model.specs.declared.entry.Asked.{Asked as AskedValue};
+
+    ghost Value = { Option AskedValue };
+
+    ghost view = { λ n. n.section };
+}
+
+impl Notes for Noted {
+    ghost keeps = { true };
+
+    ghost is_entered = { λ n. is_some n };
+
+    ghost section = { λ n. n };
+
+    fn new() -> Self {
+        Noted { section: None }
+    }
+
+    fn note(&mut self, asked: Option<Asked>) {
+        if asked.is_some() {
             self.section = asked;
         }
     }
 
-    /// Whether one was entered.
-    #[inline(always)]
-    pub(crate) fn is_entered(&self) -> bool
-        ensures { result ≡ self.now.is_entered }
-    {
-        let Noted { entered, .. } = self;
-        *entered
+    fn is_entered(&self) -> bool {
+        self.section.is_some()
     }
 
-    /// The section, where K is 1.
-    pub(crate) fn section(&self) -> Option<Asked>
-        ensures { (K == 1) ≡ true → result ≡ self.now.section }
-    {
+    fn section(&self) -> Option<Asked> {
         self.section
     }
 }

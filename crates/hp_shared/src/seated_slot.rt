@@ -26,7 +26,7 @@ use atomic_table::Badge;
 use hp_events::copies::Copies;
 use hp_events::{MountEvent, SlotWork};
 use hp_history::{History, Places, Token, View};
-use hp_locked::{Door, Gate};
+use hp_locked::{Door, Entered, Gate, Noted};
 use hp_model::entry::{Receipt, SlotEntry};
 use hp_model::names::Names;
 use hp_model::naming::Naming;
@@ -155,7 +155,7 @@ impl<N: Naming + Places, T: Trail<SlotEntry>> SeatedSlot<N, T> {
         let SeatedSlot { slot, seat } = self;
         let mut mine = mine;
         join(ways.history, seat, &mut mine);
-        let mut door = Door::new(
+        let mut door: Door<'_, N, R, G, Noted, K> = Door::new(
             ways.rt,
             ways.gate,
             ways.core,
@@ -200,7 +200,7 @@ impl<N: Naming + Places, T: Trail<SlotEntry>> SeatedSlot<N, T> {
         let SeatedSlot { slot, seat } = self;
         let mut mine = mine;
         join(ways.history, seat, &mut mine);
-        let mut door = Door::new(
+        let mut door: Door<'_, N, R, G, Entered, K> = Door::new(
             ways.rt,
             ways.gate,
             ways.core,

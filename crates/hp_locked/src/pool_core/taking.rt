@@ -25,6 +25,7 @@ use hp_trail::trail::Trail;
 
 impl<N: Naming + Places, T: Trail<PoolEntry>> Core<N, T> {
     /// Takes the claim of a reservation that the share holds. At `Err` the trail is full, and nothing changed.
+    #[inline(always)]
     pub fn take_page(
         &mut self,
         history: &History<N>,
@@ -115,6 +116,7 @@ impl<N: Naming + Places, T: Trail<PoolEntry>> Core<N, T> {
 
     /// A page more for the share, by a grant of one: its claim, where it was granted, and the section. At `Err` the trail is
     /// full, and nothing changed.
+    #[inline(always)]
     pub fn get_page(
         &mut self,
         history: &History<N>,
