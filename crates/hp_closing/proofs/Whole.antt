@@ -6,7 +6,7 @@ use Rattle.hp_history.specs.Ending.{HistoriesAgree, HistoriesAreOne, all_of, ses
 use Rattle.hp_history.specs.declared.held.Held.{Held}
 use Rattle.hp_history.specs.declared.held.Held.TheVariants.{Tasks, Pool, Opener, Session}
 use Rattle.hp_history.specs.declared.law.Shape.{Shape}
-use Rattle.hp_history.specs.History.{Ends, slots_from}
+use Rattle.hp_history.specs.History.{Ends, held_from}
 use Rattle.hp_model.specs.declared.entry.Receipt.{Receipt}
 use Rattle.hp_model.specs.machine.Machine.{idle_node, start}
 use Rattle.hp_model.specs.machine.Ready.{IsReadyMachine, Machine}
@@ -58,7 +58,7 @@ module _ (keeps : Bool) (frames : List ℕ) (size slots : ℕ) (sh : Shape) (m :
   has_all : Ends sh (all_of h.trails told)
   has_all =
       let many : h.opened ≡ length told = h.count count.0 ∙ count.1 in
-      subst (λ n. Ends sh (Tasks h.trails.tasks ∷ Pool h.trails.pool ∷ Opener n ∷ (slots_from 0 h.trails.slots ++ sessions_from 0 told))) many
+      subst (λ n. Ends sh (Tasks h.trails.tasks ∷ Pool h.trails.pool ∷ Opener n ∷ (held_from 0 h.trails.slots ++ sessions_from 0 told))) many
       (subst (λ hs. Ends sh (hs ++ sessions_from 0 told)) h.parts ends)
 
   slots_are : sh.slots ≡ length h.trails.slots

@@ -17,12 +17,12 @@ pub record MemberView : Type 0 where
 abbrev pub told_at : List (List Held) → List Receipt
 told_at vs = receipts_in (first_of vs)
 
-abbrev pub number_at : List (List Held) → ℕ
-number_at vs = number_in (first_of vs)
+abbrev pub member_number : List (List Held) → ℕ
+member_number vs = number_in (first_of vs)
 
 -- its seat has it alone, with what it was told; where receipts are kept they are that, within their room
 pub record IsMember (kept : Bool) (history : TableId) (number : ℕ) (id : TableId) (views : List (List Held)) (receipts : List Receipt) (count room capacity : ℕ) : Type 0 where
-  pub numbered : IsCount number (number_at views)
+  pub numbered : IsCount number (member_number views)
   pub named : id ≡ history
   pub one : views ≡ (session_view (first_of views) ∷ []) ∷ []
   pub told : kept ≡ true → receipts ≡ told_at views

@@ -1,7 +1,7 @@
 //! What a session has of the machine: its seat in the history, and its receipts where entries are kept.
 ghost use Rattle.std.specs.Prelude.{ℕ, ◌≡◌, ◌==◌, ◌+◌, ◌<◌, ◌≤◌, ◌∷◌, ◌++◌, [], length, true, false, if◌then◌else◌, Ok, None, Some, IfSome, IfNone, vec_len, vec_capacity};
 ghost use Rattle.hp_model.specs.threads.JointRun.{option_cons};
-ghost use Rattle.hp_events.specs.Event.{event_of, shows_bytes};
+ghost use Rattle.hp_events.specs.Event.{as_event, shows_bytes};
 ghost use Rattle.hp_history.specs.History.{IsSession, number_in, receipts_in};
 ghost use Rattle.hp_history.specs.Sections.{pool_receipt};
 ghost use Rattle.hp_laws.specs.Answers.{lists_names};
@@ -50,12 +50,12 @@ pub struct Member<N: Places, const K: usize> {
 
 impl<N: Places, const K: usize> Model for Member<N, K> {
     ghost use Rattle.std.specs.Prelude.{◌==◌, vec_len, vec_capacity};
-    ghost use Rattle.hp_entrance.specs.Members.{IsMember, MemberView, number_at, told_at};
+    ghost use Rattle.hp_entrance.specs.Members.{IsMember, MemberView, member_number, told_at};
 
     ghost Value = { MemberView };
 
     ghost view = { λ m. record {
-      number = number_at m.seat.views;
+      number = member_number m.seat.views;
       receipts = told_at m.seat.views;
       room = m.room;
     } };
@@ -263,9 +263,9 @@ impl<N: Naming + Places, const K: usize> Member<N, K> {
         requires unkept { (K == 1) ≡ false }
         requires page_bytes { page_bytes ≡ N.page_bytes }
         requires room { shows_bytes event ≡ true → most_bytes ≤ length room.old }
-        requires apart { lists_names (event_of home event) ≡ false }
+        requires apart { lists_names (as_event home event) ≡ false }
         ensures handed { IsHanded (K == 1) N.page_bytes
-            (OnSlot slot.old.slot.number (event_of home event.entry)) (told_reply result.0)
+            (OnSlot slot.old.slot.number (as_event home event.entry)) (told_reply result.0)
             self.old.receipts self.new.receipts }
         ensures limits { IsWithinLimits (told_reply result.0) }
         ensures slot { slot.new.slot.number ≡ slot.old.slot.number }

@@ -6,22 +6,22 @@ use Rattle.hp_events.specs.declared.event.MountEvent.{MountEvent}
 use Rattle.hp_events.specs.declared.event.MountEvent.TheVariants.{Create, Unlink, Truncate, Punch, Preallocate, Stat, Read, Map, Anon, Unmap, Fault, Load, Store, Ls, Usage}
 
 -- the event, of a task with that home
-abbrev pub event_of : (home : ℕ) → MountEvent → SlotEvent
-event_of home (Create name) = slot.Create name.now
-event_of home (Unlink name) = slot.Unlink name.now
-event_of home (Truncate name pages) = slot.Truncate name.now pages
-event_of home (Punch name start end) = slot.Punch name.now start end
-event_of home (Preallocate name start end) = slot.Preallocate name.now start end
-event_of home (Stat name) = slot.Stat name.now
-event_of home (Read name index offset count) = slot.Read name.now index offset count
-event_of home (Map task name start pages sharing reserving) = slot.Map task home name.now start pages sharing reserving
-event_of home (Anon task pages sharing reserving) = slot.Anon task home pages sharing reserving
-event_of home (Unmap task map start end) = slot.Unmap task map start end
-event_of home (Fault task map index intent) = slot.Fault task home map index intent
-event_of home (Load task map index offset count) = slot.Load task home map index offset count
-event_of home (Store task map index offset bytes) = slot.Store task home map index offset bytes.now
-event_of home Ls = slot.Ls
-event_of home Usage = slot.Df
+abbrev pub as_event : (home : ℕ) → MountEvent → SlotEvent
+as_event home (Create name) = slot.Create name.now
+as_event home (Unlink name) = slot.Unlink name.now
+as_event home (Truncate name pages) = slot.Truncate name.now pages
+as_event home (Punch name start end) = slot.Punch name.now start end
+as_event home (Preallocate name start end) = slot.Preallocate name.now start end
+as_event home (Stat name) = slot.Stat name.now
+as_event home (Read name index offset count) = slot.Read name.now index offset count
+as_event home (Map task name start pages sharing reserving) = slot.Map task home name.now start pages sharing reserving
+as_event home (Anon task pages sharing reserving) = slot.Anon task home pages sharing reserving
+as_event home (Unmap task map start end) = slot.Unmap task map start end
+as_event home (Fault task map index intent) = slot.Fault task home map index intent
+as_event home (Load task map index offset count) = slot.Load task home map index offset count
+as_event home (Store task map index offset bytes) = slot.Store task home map index offset bytes.now
+as_event home Ls = slot.Ls
+as_event home Usage = slot.Df
 
 -- it answers bytes, for which it is given room
 abbrev pub shows_bytes : MountEvent → Bool

@@ -4,7 +4,7 @@ use Rattle.hp_model.specs.beside.Copying.{has_bytes}
 use Rattle.hp_model.specs.declared.event.SlotEvent.{SlotEvent}
 use Rattle.hp_model.specs.declared.event.SlotEvent.TheVariants as slot
 use Rattle.hp_events.specs.Copies.{AreCopies, bytes_of_event}
-use Rattle.hp_events.specs.Event.{event_of, shows_bytes}
+use Rattle.hp_events.specs.Event.{as_event, shows_bytes}
 use Rattle.hp_events.specs.declared.slot_work.SlotWork.{SlotWork}
 use Rattle.hp_events.specs.declared.slot_work.SlotWork.TheVariants.{Mount, Remount, Umount, Fork, Exit, OfMount}
 
@@ -15,7 +15,7 @@ asked_event (Remount options) = slot.Remount options.now
 asked_event Umount = slot.Umount
 asked_event (Fork parent child) = slot.ForkMaps parent child
 asked_event (Exit task) = slot.ExitMaps task
-asked_event (OfMount home e) = event_of home e
+asked_event (OfMount home e) = as_event home e
 
 -- it answers bytes, for which it is given room
 abbrev pub needs_room : SlotWork → Bool
@@ -42,12 +42,12 @@ IsAnother other = Unit {0}
 abbrev pub carries : SlotWork → Bool
 carries (Mount options) = true
 carries (Remount options) = true
-carries (OfMount home e) = has_bytes (event_of 0 e)
+carries (OfMount home e) = has_bytes (as_event 0 e)
 carries other = false
 
 -- two copies of the options, the name or the bytes that it carries
 abbrev pub AreCopiesFor : SlotWork → Option (List ℕ × List ℕ) → Type 0
 AreCopiesFor (Mount options) copies = AreCopies options.now copies
 AreCopiesFor (Remount options) copies = AreCopies options.now copies
-AreCopiesFor (OfMount home e) copies = AreCopies (bytes_of_event (event_of 0 e)) copies
+AreCopiesFor (OfMount home e) copies = AreCopies (bytes_of_event (as_event 0 e)) copies
 AreCopiesFor other copies = Unit {0}

@@ -10,7 +10,7 @@ use Rattle.hp_model.specs.machine.State.{State, slot_at}
 use Rattle.hp_model.specs.machine.Step.{Script, finding, on_slot, only, script}
 use Rattle.hp_model.specs.threads.Telling.{carries_bytes, most_receipts}
 use Rattle.hp_laws.specs.Answers.{lists_names}
-use Rattle.hp_events.specs.Event.{event_of, is_usage}
+use Rattle.hp_events.specs.Event.{as_event, is_usage}
 use Rattle.hp_events.specs.Memory.{asks_memory}
 use Rattle.hp_events.specs.declared.work.Work.{Work}
 use Rattle.hp_events.specs.declared.work.Work.TheVariants.{Connect, Attach, Pool, Fork, Exit, Mount, Remount, Umount, Names, OnSlot, OfTask}
@@ -26,8 +26,8 @@ work_script n (Mount k options) = on_slot n k (slot.Mount options.now)
 work_script n (Remount k options) = on_slot n k (slot.Remount options.now)
 work_script n (Umount k) = on_slot n k slot.Umount
 work_script n (Names k) = on_slot n k slot.Ls
-work_script n (OnSlot k e) = on_slot n k (event_of 0 e)
-work_script n (OfTask task k e) = finding task (λ home. on_slot n k (event_of home e))
+work_script n (OnSlot k e) = on_slot n k (as_event 0 e)
+work_script n (OfTask task k e) = finding task (λ home. on_slot n k (as_event home e))
 
 -- the most receipts that it brings
 abbrev pub work_receipts : (slots : ℕ) → Work → ℕ
@@ -40,29 +40,29 @@ work_receipts n other = 1
 abbrev pub work_carries : Work → Bool
 work_carries (Mount k options) = true
 work_carries (Remount k options) = true
-work_carries (OnSlot k e) = has_bytes (event_of 0 e)
-work_carries (OfTask task k e) = has_bytes (event_of 0 e)
+work_carries (OnSlot k e) = has_bytes (as_event 0 e)
+work_carries (OfTask task k e) = has_bytes (as_event 0 e)
 work_carries other = false
 
 -- lists are asked for by `Names` alone
 abbrev pub ListsByNamesAlone : Work → Type 0
-ListsByNamesAlone (OnSlot k e) = lists_names (event_of 0 e) ≡ false
-ListsByNamesAlone (OfTask task k e) = lists_names (event_of 0 e) ≡ false
+ListsByNamesAlone (OnSlot k e) = lists_names (as_event 0 e) ≡ false
+ListsByNamesAlone (OfTask task k e) = lists_names (as_event 0 e) ≡ false
 ListsByNamesAlone other = Unit {0}
 
 -- it answers numbers or names as they stand
 abbrev pub is_usage_work : Work → Bool
 is_usage_work (Attach task) = true
 is_usage_work (Names k) = true
-is_usage_work (OnSlot k e) = is_usage (event_of 0 e)
+is_usage_work (OnSlot k e) = is_usage (as_event 0 e)
 is_usage_work other = false
 
 -- it may be refused memory
 abbrev pub takes_memory_for : State → Work → Bool
 takes_memory_for m (Fork parent child) = true
 takes_memory_for m (Names k) = true
-takes_memory_for m (OnSlot k e) = asks_memory (slot_at m k) (event_of 0 e)
-takes_memory_for m (OfTask task k e) = asks_memory (slot_at m k) (event_of 0 e)
+takes_memory_for m (OnSlot k e) = asks_memory (slot_at m k) (as_event 0 e)
+takes_memory_for m (OfTask task k e) = asks_memory (slot_at m k) (as_event 0 e)
 takes_memory_for m other = false
 
 -- the step, by what it asks of which part

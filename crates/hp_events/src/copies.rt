@@ -2,7 +2,7 @@
 ghost use Rattle.std.specs.Prelude.{◌≡◌, ◌<◌, ℕ, List, length, true, IfOk, OnErr, Some};
 ghost use Rattle.hp_model.specs.beside.Copying.{has_bytes};
 ghost use Rattle.hp_model.specs.declared.event.SlotEvent.TheVariants.{Mount as Mounting, Remount as Remounting};
-ghost use Rattle.hp_events.specs.Event.{event_of};
+ghost use Rattle.hp_events.specs.Event.{as_event};
 ghost use Rattle.hp_events.specs.Copies.{AreCopies, AreEvents, bytes_of_event};
 ghost use Rattle.hp_events.specs.Kinds.{is_of_file, is_of_indices, makes_map};
 
@@ -16,7 +16,7 @@ pub type Copies = (Bytes, Bytes);
 
 // The name or the bytes that an event has.
 fn carried<'x>(event: &MountEvent<'x>) -> &'x [u8]
-    ensures { result.now ≡ bytes_of_event (event_of 0 event.now) }
+    ensures { result.now ≡ bytes_of_event (as_event 0 event.now) }
 {
     match event {
         MountEvent::Create { name }
@@ -50,8 +50,8 @@ pub fn twice(alloc: Global, bytes: &[u8]) -> Result<Copies, AllocError>
 /// Two copies of what an event carries. Memory is asked for where that is anything.
 pub fn copies(alloc: Global, event: &MountEvent<'_>) -> Result<Copies, AllocError>
     ensures copies { IfOk result
-        (λ both. AreCopies (bytes_of_event (event_of 0 event.now)) (Some both)) }
-    ensures memory { OnErr result (has_bytes (event_of 0 event.now) ≡ true) }
+        (λ both. AreCopies (bytes_of_event (as_event 0 event.now)) (Some both)) }
+    ensures memory { OnErr result (has_bytes (as_event 0 event.now) ≡ true) }
 {
     twice(alloc, carried(event))
 }
@@ -62,8 +62,8 @@ pub fn events(
     home: u64,
     copies: Option<Copies>,
 ) -> Option<(SlotEvent, SlotEvent)>
-    requires { AreCopies (bytes_of_event (event_of 0 event.now)) copies }
-    ensures { AreEvents (event_of home event.now) result }
+    requires { AreCopies (bytes_of_event (as_event 0 event.now)) copies }
+    ensures { AreEvents (as_event home event.now) result }
 {
     let (one, two) = copies?;
     Some((owned(event, home, one), owned(event, home, two)))
@@ -94,8 +94,8 @@ pub fn remountings(copies: Option<Copies>) -> Option<(SlotEvent, SlotEvent)>
 
 // The event of a task with that home, with this name or these bytes.
 fn owned(event: &MountEvent<'_>, home: u64, bytes: Bytes) -> SlotEvent
-    requires { bytes ≡ bytes_of_event (event_of 0 event.now) }
-    ensures { result ≡ event_of home event.now }
+    requires { bytes ≡ bytes_of_event (as_event 0 event.now) }
+    ensures { result ≡ as_event home event.now }
 {
     match *event {
         MountEvent::Load {
@@ -138,8 +138,8 @@ fn owned(event: &MountEvent<'_>, home: u64, bytes: Bytes) -> SlotEvent
 #[inline(never)]
 fn owned_of_file(event: &MountEvent<'_>, bytes: Bytes) -> SlotEvent
     requires of_kind { is_of_file event.now ≡ true }
-    requires bytes { bytes ≡ bytes_of_event (event_of 0 event.now) }
-    ensures { (home : ℕ) → result ≡ event_of home event.now }
+    requires bytes { bytes ≡ bytes_of_event (as_event 0 event.now) }
+    ensures { (home : ℕ) → result ≡ as_event home event.now }
 {
     match *event {
         MountEvent::Create { .. } => SlotEvent::Create { name: bytes },
@@ -175,8 +175,8 @@ fn owned_of_file(event: &MountEvent<'_>, bytes: Bytes) -> SlotEvent
 #[inline(never)]
 fn owned_map(event: &MountEvent<'_>, home: u64, bytes: Bytes) -> SlotEvent
     requires of_kind { makes_map event.now ≡ true }
-    requires bytes { bytes ≡ bytes_of_event (event_of 0 event.now) }
-    ensures { result ≡ event_of home event.now }
+    requires bytes { bytes ≡ bytes_of_event (as_event 0 event.now) }
+    ensures { result ≡ as_event home event.now }
 {
     match *event {
         MountEvent::Map {
@@ -215,7 +215,7 @@ fn owned_map(event: &MountEvent<'_>, home: u64, bytes: Bytes) -> SlotEvent
 #[inline(never)]
 fn owned_indices(event: &MountEvent<'_>, home: u64) -> SlotEvent
     requires { is_of_indices event.now ≡ true }
-    ensures { result ≡ event_of home event.now }
+    ensures { result ≡ as_event home event.now }
 {
     match *event {
         MountEvent::Unmap {

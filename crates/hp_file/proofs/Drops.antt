@@ -38,7 +38,7 @@ pub drop_more : (s : Store) (number k : ℕ) → holders_of (page_at s number) �
 drop_more s number k k_is some = by (page_at s number) refl
   where
     at_h : (h : Holding) → page_at s number ≡ Some h → (b : Bool) → (h.holders == 1) ≡ b
-        → more_in (cond b (record s { pages = slice_set s.pages number None; going = s.going ++ store.page_of h ∷ [] })
+        → more_in (cond b (record s { pages = slice_set s.pages number None; going = s.going ++ store.held_page h ∷ [] })
         (record s { pages = slice_set s.pages number (Some (held_once_less h)) })).pages + (k - 1 - (k - 2)) ≡ more_in s.pages
     at_h h is true e =
         let step = sum_by-set more_of s.pages number None None (some_within s.pages number h is) in
@@ -72,7 +72,7 @@ module _ (s : Store) (number : ℕ) (h : Holding) (is : page_at s number ≡ Som
   left = cond (h.holders == 1) None (Some (held_once_less h))
 
   abbrev went : List Page
-  went = cond (h.holders == 1) (s.going ++ store.page_of h ∷ []) s.going
+  went = cond (h.holders == 1) (s.going ++ store.held_page h ∷ []) s.going
 
   abbrev t : Store
   t = record s { pages = slice_set s.pages number left; going = went }
@@ -80,9 +80,9 @@ module _ (s : Store) (number : ℕ) (h : Holding) (is : page_at s number ≡ Som
   dropped_is : store.dropped number s ≡ t
   dropped_is = ap (λ o. store.dropped_by number o s) is ∙ either (h.holders == 1)
     where
-      either : (b : Bool) → cond b (record s { pages = slice_set s.pages number None; going = s.going ++ store.page_of h ∷ [] })
+      either : (b : Bool) → cond b (record s { pages = slice_set s.pages number None; going = s.going ++ store.held_page h ∷ [] })
           (record s { pages = slice_set s.pages number (Some (held_once_less h)) })
-          ≡ record s { pages = slice_set s.pages number (cond b None (Some (held_once_less h))); going = cond b (s.going ++ store.page_of h ∷ []) s.going }
+          ≡ record s { pages = slice_set s.pages number (cond b None (Some (held_once_less h))); going = cond b (s.going ++ store.held_page h ∷ []) s.going }
       either true = refl
       either false = refl
 
@@ -122,8 +122,8 @@ module _ (s : Store) (number : ℕ) (h : Holding) (is : page_at s number ≡ Som
       either : (b : Bool) → held_count (slice_set s.pages number (cond b None (Some (held_once_less h))))
           + one_if_held (slice_index_or s.pages number None) ≡ held_count s.pages + one_if_held (cond b None (Some (held_once_less h))) →
           one_if_held (page_at s number) ≡ 1
-          → held_count (slice_set s.pages number (cond b None (Some (held_once_less h)))) + length (cond b (s.going ++ store.page_of h ∷ []) s.going) ≡ held_count s.pages + length s.going
-      either true step was = omega (arith, step, was, length-append s.going (store.page_of h ∷ []))
+          → held_count (slice_set s.pages number (cond b None (Some (held_once_less h)))) + length (cond b (s.going ++ store.held_page h ∷ []) s.going) ≡ held_count s.pages + length s.going
+      either true step was = omega (arith, step, was, length-append s.going (store.held_page h ∷ []))
       either false step was = omega (arith, step, was)
 
   at_one : (n : ℕ) → sum_by (at_node n) (slice_set s.pages number left) + count_at n went ≡ sum_by (at_node n) s.pages + count_at n s.going
@@ -136,8 +136,8 @@ module _ (s : Store) (number : ℕ) (h : Holding) (is : page_at s number ≡ Som
       either : (b : Bool) → sum_by (at_node n) (slice_set s.pages number (cond b None (Some (held_once_less h))))
           + at_node n (slice_index_or s.pages number None) ≡ sum_by (at_node n) s.pages + at_node n (cond b None (Some (held_once_less h)))
           → at_node n (page_at s number) ≡ at_node n (Some h) → sum_by (at_node n) (slice_set s.pages number (cond b None (Some (held_once_less h))))
-          + count_at n (cond b (s.going ++ store.page_of h ∷ []) s.going) ≡ sum_by (at_node n) s.pages + count_at n s.going
-      either true step was = omega (arith, step, was, none (0 == n), sum_by_push (λ (page : Page). cond {A = ℕ} (page.node == n) 1 0) s.going (store.page_of h))
+          + count_at n (cond b (s.going ++ store.held_page h ∷ []) s.going) ≡ sum_by (at_node n) s.pages + count_at n s.going
+      either true step was = omega (arith, step, was, none (0 == n), sum_by_push (λ (page : Page). cond {A = ℕ} (page.node == n) 1 0) s.going (store.held_page h))
       either false step was = omega (arith, step, was)
 
   pub drop_step : (total before after : ℕ → ℕ) (old next : Store) → IsDropping total before old s → next ≡ store.dropped number s →

@@ -20,7 +20,7 @@ use Rattle.hp_mount_door.specs.Door.{by_node}
 use Rattle.hp_mount_door.specs.Filling.{AreRising}
 use Rattle.hp_store.specs.Store.{Store}
 use Rattle.hp_lookup.specs.Files.{Files, file_at}
-use Rattle.hp_file.specs.Filling.{entered_at, pages_at, with_entries, with_zeros, zeros_at}
+use Rattle.hp_file.specs.Filling.{entered_at, pages_put, with_entries, with_zeros, zeros_at}
 use Rattle.hp_lookup.specs.Held.{IsHeld, in_cell, in_file}
 use Rattle.hp_lookup.specs.Numbered.{NumberedFile, cell_shown, file_shown, files_shown, map_shown, numbered_at}
 use Rattle.hp_lookup.proofs.Alike.{alike_held}
@@ -200,8 +200,8 @@ module _ (size k a b : ℕ) (v : Files) (l : k < length v.files) (order : a ≤ 
           ap (with_zeros size a pages) there
           ∙ ap (λ cs. record f { cells = cs }) (filled_entered a b (zeros_of size pages) xs (omega (arith, order, long)) wide ∙ ap (λ ps. cells_filled a ps xs) zeros_are)
 
-      pub all_filled : zeros_at size k a pages (entered_at k a b room v) ≡ pages_at size k a b (rising_nodes count (by_node pages)) (room - count) v
+      pub all_filled : zeros_at size k a pages (entered_at k a b room v) ≡ pages_put size k a b (rising_nodes count (by_node pages)) (room - count) v
       all_filled =
           ap (λ g. record v { files = slice_set (slice_set v.files k (with_entries a b f)) k g; room = room - length pages }) file_filled
           ∙ ap (λ fs. record v { files = fs; room = room - length pages }) (set-set v.files k (with_entries a b f) (range_filled size a b (rising_nodes count (by_node pages)) f))
-          ∙ ap (λ n. pages_at size k a b (rising_nodes count (by_node pages)) (room - n) v) (rising_length count pages rising)
+          ∙ ap (λ n. pages_put size k a b (rising_nodes count (by_node pages)) (room - n) v) (rising_length count pages rising)

@@ -11,7 +11,7 @@ use Rattle.hp_model.specs.files.Mapping.{Map, Mapping, is_of}
 use Rattle.hp_model.specs.Lists.{is_among}
 use Rattle.hp_store.specs.Store.{Store}
 use Rattle.hp_lookup.specs.Keyed.{labels_of, tasks_in}
-use Rattle.hp_lookup.specs.Leaving.{least_among, least_of}
+use Rattle.hp_lookup.specs.Leaving.{least_among, lesser_task}
 use Rattle.hp_lookup.specs.Numbered.{NumberedFile, files_shown}
 use Rattle.hp_lookup.specs.Places.{IsFirstTask, all_maps}
 use Rattle.hp_lookup.proofs.Unique.{tasks_counted}
@@ -81,9 +81,9 @@ first_none fs r r_is = by (all_maps fs) refl r_is
 -- ---- one file after another
 
 pub next_map : (known : Option ℕ) (ms : List (Mapping ℕ)) (i : ℕ) (m : Mapping ℕ) → i < length ms → m ≡ slice_index_or ms i m →
-    Some (least_of (least_among known (map (λ m. m.task) (take i ms))) m.task) ≡ least_among known (map (λ m. m.task) (take (i + 1) ms))
+    Some (lesser_task (least_among known (map (λ m. m.task) (take i ms))) m.task) ≡ least_among known (map (λ m. m.task) (take (i + 1) ms))
 next_map known ms i m l m_is =
-    sym (fold_push (λ k task. Some (least_of k task)) known (map (λ m. m.task) (take i ms)) m.task)
+    sym (fold_push (λ k task. Some (lesser_task k task)) known (map (λ m. m.task) (take i ms)) m.task)
     ∙ ap (least_among known) (sym (map-append (λ (m : Mapping ℕ). m.task) (take i ms) (m ∷ [])) ∙ ap (map (λ m. m.task)) (ap (λ x. take i ms ++ x ∷ []) m_is ∙ sym (take_more ms i m l)))
 
 abbrev pub tasks_of : List NumberedFile → List ℕ

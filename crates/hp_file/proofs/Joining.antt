@@ -7,7 +7,7 @@ use Rattle.std.proofs.lemmas.Bool.{cases_lt}
 use Rattle.std.proofs.lemmas.List.{length-append, length-map, nil_from_length, take-set}
 use Rattle.std.proofs.lemmas.List.Sums.{length-filter, sum_by-append, sum_by-cons, sum_by-drop_more, sum_by-set, sum_by_more}
 use Rattle.hp_model.specs.files.Mapping.{Mapping, is_of, map_for}
-use Rattle.hp_lookup.specs.Forking.{AreFilled, AreReady, children_of, HasRoom, HaveRoom, IsReady, joined, joined_at, list_length, maps_of, with_list}
+use Rattle.hp_lookup.specs.Forking.{AreFilled, AreReady, children_of, HasRoom, HaveRoom, IsReady, joined, joined_at, list_length, maps_by, with_list}
 use Rattle.hp_lookup.specs.Numbered.{NumberedFile, numbered_at}
 use Rattle.hp_lookup.proofs.Cells.{no_file}
 use Rattle.hp_file.proofs.Sharing.{sum_end}
@@ -21,36 +21,36 @@ module _ (parent child : ℕ) where
   ready_push (x ∷ fs) [] f v long all one = absurd (omega (arith, long))
   ready_push (x ∷ fs) (w ∷ vs) f v long all one = (all.0, ready_push fs vs f v (omega (arith, long)) all.1 one)
 
-  children_long : (f : NumberedFile) → length (children_of parent child f.maps) ≡ maps_of parent f
+  children_long : (f : NumberedFile) → length (children_of parent child f.maps) ≡ maps_by parent f
   children_long f = length-map (filter (is_of parent) f.maps) (map_for child) ∙ length-filter (is_of parent) f.maps
 
-  ready_none : (fs : List NumberedFile) → sum_by (maps_of parent) fs ≡ 0 → AreReady parent child fs []
+  ready_none : (fs : List NumberedFile) → sum_by (maps_by parent) fs ≡ 0 → AreReady parent child fs []
   ready_none [] none = tt
   ready_none (f ∷ fs) none =
-      let step = sum_by-cons (maps_of parent) f fs in
+      let step = sum_by-cons (maps_by parent) f fs in
       let long = children_long f in
       (nil_from_length (children_of parent child f.maps) (omega (arith, step, none, long)), ready_none fs (omega (arith, step, none)))
 
   -- no more lists are needed where the files behind have no map of the parent
   pub ready_rest : (fs : List NumberedFile) (vs : List (Vec (Mapping ℕ))) → AreReady parent child (take (length vs) fs) vs →
-      sum_by (maps_of parent) (drop (length vs) fs) ≡ 0 → AreReady parent child fs vs
+      sum_by (maps_by parent) (drop (length vs) fs) ≡ 0 → AreReady parent child fs vs
   ready_rest [] [] all none = tt
   ready_rest [] (v ∷ vs) all none = absurd all
   ready_rest (f ∷ fs) [] all none = ready_none (f ∷ fs) none
   ready_rest (f ∷ fs) (v ∷ vs) all none = (all.0, ready_rest fs vs all.1 none)
 
   -- some are needed where those behind have some
-  pub more_within : (fs : List NumberedFile) (vs : List (Vec (Mapping ℕ))) → 0 < sum_by (maps_of parent) (drop (length vs) fs) → length vs < length fs
+  pub more_within : (fs : List NumberedFile) (vs : List (Vec (Mapping ℕ))) → 0 < sum_by (maps_by parent) (drop (length vs) fs) → length vs < length fs
   more_within fs vs some = ⊎_elim (λ (l : length vs < length fs). l) (λ past.
-      (let none = sum_end (maps_of parent) fs (length vs) past in absurd (omega (arith, some, none)))) (cases_lt (length vs) (length fs))
+      (let none = sum_end (maps_by parent) fs (length vs) past in absurd (omega (arith, some, none)))) (cases_lt (length vs) (length fs))
 
   -- and then fewer by the next list
   pub fewer_behind : (fs : List NumberedFile) (vs : List (Vec (Mapping ℕ))) (f : NumberedFile) (v : Vec (Mapping ℕ)) → length vs < length fs →
-      f ≡ slice_index_or fs (length vs) f → IsReady parent child f v → length v.items + sum_by (maps_of parent) (drop (length vs + 1) fs)
-      ≡ sum_by (maps_of parent) (drop (length vs) fs)
+      f ≡ slice_index_or fs (length vs) f → IsReady parent child f v → length v.items + sum_by (maps_by parent) (drop (length vs + 1) fs)
+      ≡ sum_by (maps_by parent) (drop (length vs) fs)
   fewer_behind fs vs f v within read one =
-      let step = sum_by-drop_more (maps_of parent) fs (length vs) f within in
-      let own = ap (maps_of parent) read in
+      let step = sum_by-drop_more (maps_by parent) fs (length vs) f within in
+      let own = ap (maps_by parent) read in
       let long = ap length one.children in
       let count = children_long f in
       omega (arith, step, own, long, count)
@@ -80,21 +80,21 @@ module _ (parent child : ℕ) where
   filled_set (x ∷ fs) (w ∷ vs) zero f v within read all one = ((λ some. subst (λ g. IsReady parent child g v) read one), all.1)
   filled_set (x ∷ fs) (w ∷ vs) (suc at) f v within read all one = (all.0, filled_set fs vs at f v (omega (arith, within)) read all.1 one)
 
-  own_few : (f : NumberedFile) (v : Vec (Mapping ℕ)) → (0 < length v.items → IsReady parent child f v) → length v.items ≤ maps_of parent f
+  own_few : (f : NumberedFile) (v : Vec (Mapping ℕ)) → (0 < length v.items → IsReady parent child f v) → length v.items ≤ maps_by parent f
   own_few f v ready =
       ⊎_elim (λ (some : 0 < length v.items). (let own = ap length (ready some).children in let long = children_long f in omega (arith, own, long)))
       (λ none. omega (arith, none)) (cases_lt 0 (length v.items))
 
-  pub filled_few : (fs : List NumberedFile) (vs : List (Vec (Mapping ℕ))) → AreFilled parent child fs vs → sum_by list_length vs ≤ sum_by (maps_of parent) fs
+  pub filled_few : (fs : List NumberedFile) (vs : List (Vec (Mapping ℕ))) → AreFilled parent child fs vs → sum_by list_length vs ≤ sum_by (maps_by parent) fs
   filled_few [] [] all = omega arith
   filled_few [] (v ∷ vs) all = absurd all
   filled_few (f ∷ fs) [] all = omega arith
   filled_few (f ∷ fs) (v ∷ vs) all =
       let here = own_few f v all.0 in
       let rest = filled_few fs vs all.1 in
-      omega (arith, here, rest, sum_by-cons (maps_of parent) f fs, sum_by-cons list_length v vs)
+      omega (arith, here, rest, sum_by-cons (maps_by parent) f fs, sum_by-cons list_length v vs)
 
-  own_ready : (f : NumberedFile) (v : Vec (Mapping ℕ)) → (0 < length v.items → IsReady parent child f v) → maps_of parent f ≤ length v.items → IsReady parent child f v
+  own_ready : (f : NumberedFile) (v : Vec (Mapping ℕ)) → (0 < length v.items → IsReady parent child f v) → maps_by parent f ≤ length v.items → IsReady parent child f v
   own_ready f v ready most =
       ⊎_elim (λ (some : 0 < length v.items). ready some)
       (λ none. (let long = children_long f in record {
@@ -104,14 +104,14 @@ module _ (parent child : ℕ) where
       (cases_lt 0 (length v.items))
 
   -- where they have all maps that the child gets, each is its file's
-  pub filled_ready : (fs : List NumberedFile) (vs : List (Vec (Mapping ℕ))) → AreFilled parent child fs vs → sum_by (maps_of parent) fs ≤ sum_by list_length vs → AreReady parent child fs vs
+  pub filled_ready : (fs : List NumberedFile) (vs : List (Vec (Mapping ℕ))) → AreFilled parent child fs vs → sum_by (maps_by parent) fs ≤ sum_by list_length vs → AreReady parent child fs vs
   filled_ready [] [] all most = tt
   filled_ready [] (v ∷ vs) all most = absurd all
   filled_ready (f ∷ fs) [] all most = ready_none (f ∷ fs) (omega (arith, most))
   filled_ready (f ∷ fs) (v ∷ vs) all most =
       let here = own_few f v all.0 in
       let rest = filled_few fs vs all.1 in
-      let files = sum_by-cons (maps_of parent) f fs in
+      let files = sum_by-cons (maps_by parent) f fs in
       let lists = sum_by-cons list_length v vs in
       (own_ready f v all.0 (omega (arith, most, rest, files, lists)), filled_ready fs vs all.1 (omega (arith, most, here, files, lists)))
 
@@ -149,34 +149,34 @@ none_joined (f ∷ fs) = refl
 
 -- ---- maps of a task in files that get lists
 
-joined_more : (task : ℕ) (fs : List NumberedFile) (vs : List (Vec (Mapping ℕ))) → sum_by (maps_of task) fs ≤ sum_by (maps_of task) (joined fs vs)
+joined_more : (task : ℕ) (fs : List NumberedFile) (vs : List (Vec (Mapping ℕ))) → sum_by (maps_by task) fs ≤ sum_by (maps_by task) (joined fs vs)
 joined_more task [] vs = omega arith
 joined_more task (f ∷ fs) [] = omega arith
 joined_more task (f ∷ fs) (v ∷ vs) =
     let rest = joined_more task fs vs in
     let here = sum_by-append (λ (m : Mapping ℕ). cond {A = ℕ} (is_of task m) 1 0) f.maps v.items in
-    omega (arith, rest, here, sum_by-cons (maps_of task) f fs, sum_by-cons (maps_of task) (with_list f v) (joined fs vs))
+    omega (arith, rest, here, sum_by-cons (maps_by task) f fs, sum_by-cons (maps_by task) (with_list f v) (joined fs vs))
 
 -- the files up to the last that has a list have none
 module _ (task : ℕ) (fs : List NumberedFile) (vs : List (Vec (Mapping ℕ))) (v : Vec (Mapping ℕ)) (room : HaveRoom fs (vs ++ v ∷ []))
-    (none : sum_by (maps_of task) (take (length (vs ++ v ∷ [])) fs) ≡ 0) where
-  both_none : sum_by (maps_of task) (take (length vs) fs) + maps_of task (numbered_at fs (length vs)) ≡ 0
+    (none : sum_by (maps_by task) (take (length (vs ++ v ∷ [])) fs) ≡ 0) where
+  both_none : sum_by (maps_by task) (take (length vs) fs) + maps_by task (numbered_at fs (length vs)) ≡ 0
   both_none =
-      let all = ap (λ n. sum_by (maps_of task) (take n fs)) (length-append vs (v ∷ [])) in
-      let step = sum_by_more (maps_of task) fs (length vs) no_file (last_within fs vs v room) in
+      let all = ap (λ n. sum_by (maps_by task) (take n fs)) (length-append vs (v ∷ [])) in
+      let step = sum_by_more (maps_by task) fs (length vs) no_file (last_within fs vs v room) in
       omega (arith, all, step, none)
 
-  pub last_none : maps_of task (numbered_at fs (length vs)) ≡ 0
+  pub last_none : maps_by task (numbered_at fs (length vs)) ≡ 0
   last_none = omega (arith, both_none)
 
-  pub rest_none : sum_by (maps_of task) (take (length vs) (joined_at (length vs) v fs)) ≡ 0
-  rest_none = ap (sum_by (maps_of task)) (take-set fs (length vs) (with_list (numbered_at fs (length vs)) v)) ∙ (omega (arith, both_none))
+  pub rest_none : sum_by (maps_by task) (take (length vs) (joined_at (length vs) v fs)) ≡ 0
+  rest_none = ap (sum_by (maps_by task)) (take-set fs (length vs) (with_list (numbered_at fs (length vs)) v)) ∙ (omega (arith, both_none))
 
   -- with those of its list there are no more than in the end
-  pub last_keys : sum_by (maps_of task) fs + maps_of task (with_list (numbered_at fs (length vs)) v) ≤ sum_by (maps_of task) (joined fs (vs ++ v ∷ []))
+  pub last_keys : sum_by (maps_by task) fs + maps_by task (with_list (numbered_at fs (length vs)) v) ≤ sum_by (maps_by task) (joined fs (vs ++ v ∷ []))
   last_keys =
-      let step = sum_by-set (maps_of task) fs (length vs) (with_list (numbered_at fs (length vs)) v) no_file (last_within fs vs v room) in
+      let step = sum_by-set (maps_by task) fs (length vs) (with_list (numbered_at fs (length vs)) v) no_file (last_within fs vs v room) in
       let most = joined_more task (joined_at (length vs) v fs) vs in
-      let same = ap (sum_by (maps_of task)) (last_joined fs vs v no_file room) in
+      let same = ap (sum_by (maps_by task)) (last_joined fs vs v no_file room) in
       let own = last_none in
       omega (arith, step, most, same, own)

@@ -18,7 +18,7 @@ use Rattle.hp_model.proofs.Editing.{length-edit_range}
 use Rattle.hp_laws.proofs.ending.Cuts.{ranged}
 use Rattle.hp_lookup.specs.Held.{in_map, in_place}
 use Rattle.hp_lookup.specs.Hints.{Noted}
-use Rattle.hp_lookup.specs.Leaving.{IsMoreButTask, map_named, owed}
+use Rattle.hp_lookup.specs.Leaving.{IsMoreButTask, one_if_named, owed}
 use Rattle.hp_file.proofs.Punched.{edited_alike, in_from}
 
 -- ---- copies go first
@@ -123,6 +123,6 @@ module _ (task : ℕ) where
   }
 
   -- a map of another task
-  pub map_stays : (m : Mapping ℕ) (n : Noted) → is_of task m ≡ false → IsMoreButTask task (map_named task m) n n
-  map_stays m n other = gone_then (λ q. 0) (λ q. 0) (map_named task m) n n n (none_gone n) (none_gone n)
+  pub map_stays : (m : Mapping ℕ) (n : Noted) → is_of task m ≡ false → IsMoreButTask task (one_if_named task m) n n
+  map_stays m n other = gone_then (λ q. 0) (λ q. 0) (one_if_named task m) n n n (none_gone n) (none_gone n)
       (λ q. (let none = ap (λ b. cond {A = ℕ} (b && (m.number == q)) 1 0) other in omega (arith, none)))

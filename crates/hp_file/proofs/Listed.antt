@@ -6,7 +6,7 @@ use Rattle.std.proofs.lemmas.List.{get_or-set_other, get_or-set_same, get_or_app
 use Rattle.std.proofs.lemmas.List.Edits.{length-remove}
 use Rattle.std.proofs.lemmas.List.Elements.{All-pop, All-push}
 use Rattle.std.proofs.lemmas.List.Quantifiers.{all_pairs_push, all_pairs_remove}
-use Rattle.hp_file.specs.FileList.{IsOrder, files_in}
+use Rattle.hp_file.specs.FileList.{IsFileOrder, files_in}
 use Rattle.hp_lookup.specs.Numbered.{NumberedFile, numbered_at}
 use Rattle.hp_file.proofs.Ordered.{all_remove, others, push_map, remove_map, set_map}
 
@@ -29,9 +29,9 @@ module _ (keys : List ℕ) (last : ℕ) where
   apart_last : Apart (keys ++ last ∷ []) → Without last keys
   apart_last apart k d l e = apart k (length keys) d l (omega (arith, length_push keys last)) (front k d l ∙ e ∙ sym (get_or_push keys last d (length keys) refl))
 
-module _ (places : ℕ) (order vacant : List ℕ) (capacity : ℕ) (is : IsOrder places order vacant capacity) where
+module _ (places : ℕ) (order vacant : List ℕ) (capacity : ℕ) (is : IsFileOrder places order vacant capacity) where
   -- a vacant place more
-  left : (number : ℕ) → number < places → Without number order → Without number vacant → length order + length vacant < capacity → IsOrder places order (vacant ++ number ∷ []) capacity
+  left : (number : ℕ) → number < places → Without number order → Without number vacant → length order + length vacant < capacity → IsFileOrder places order (vacant ++ number ∷ []) capacity
   left number inside no_file apart fits = record {
     there = is.there;
     apart = is.apart;
@@ -42,7 +42,7 @@ module _ (places : ℕ) (order vacant : List ℕ) (capacity : ℕ) (is : IsOrder
   }
 
   -- a new place
-  grown : IsOrder (places + 1) order vacant capacity
+  grown : IsFileOrder (places + 1) order vacant capacity
   grown = record {
     there = λ k d l. omega (arith, is.there k d l);
     apart = is.apart;
@@ -53,7 +53,7 @@ module _ (places : ℕ) (order vacant : List ℕ) (capacity : ℕ) (is : IsOrder
   }
 
   -- a file less
-  less : (at : ℕ) → at < length order → IsOrder places (remove order at) vacant capacity
+  less : (at : ℕ) → at < length order → IsFileOrder places (remove order at) vacant capacity
   less at inside = record {
     there = all_remove (λ (k : ℕ). k < places) order at is.there;
     apart = all_pairs_remove (λ (x : ℕ) (y : ℕ). x ≢ y) order at inside is.apart;
@@ -64,7 +64,7 @@ module _ (places : ℕ) (order vacant : List ℕ) (capacity : ℕ) (is : IsOrder
   }
 
 -- the last vacant place is taken
-pub taken_order : (places : ℕ) (order vacant : List ℕ) (number capacity : ℕ) → IsOrder places order (vacant ++ number ∷ []) capacity → IsOrder places (order ++ number ∷ []) vacant capacity
+pub taken_order : (places : ℕ) (order vacant : List ℕ) (number capacity : ℕ) → IsFileOrder places order (vacant ++ number ∷ []) capacity → IsFileOrder places (order ++ number ∷ []) vacant capacity
 taken_order places order vacant number capacity is =
     let inside = front_and_last vacant number (λ (k : ℕ). k < places) is.vacant_there in
     let no_file = front_and_last vacant number (λ (k : ℕ). Without k order) is.no_file in
@@ -77,9 +77,9 @@ taken_order places order vacant number capacity is =
       room = omega (arith, is.room, length_push order number, length_push vacant number);
     }
 
-module _ (places : ℕ) (order vacant : List ℕ) (capacity : ℕ) (is : IsOrder places order vacant capacity) where
+module _ (places : ℕ) (order vacant : List ℕ) (capacity : ℕ) (is : IsFileOrder places order vacant capacity) where
   -- a new place is taken
-  pub pushed_order : length order + length vacant < capacity → IsOrder (places + 1) (order ++ places ∷ []) vacant capacity
+  pub pushed_order : length order + length vacant < capacity → IsFileOrder (places + 1) (order ++ places ∷ []) vacant capacity
   pushed_order fits = taken_order (places + 1) order vacant places capacity
       (left (places + 1) order vacant capacity (grown places order vacant capacity is) places (omega arith)
       (λ k d l e. omega (arith, e, is.there k d l))
@@ -87,7 +87,7 @@ module _ (places : ℕ) (order vacant : List ℕ) (capacity : ℕ) (is : IsOrder
       fits)
 
   -- a file's place is vacant
-  pub removed_order : (at : ℕ) → at < length order → IsOrder places (remove order at) (vacant ++ slice_index_or order at 0 ∷ []) capacity
+  pub removed_order : (at : ℕ) → at < length order → IsFileOrder places (remove order at) (vacant ++ slice_index_or order at 0 ∷ []) capacity
   removed_order at inside = left places (remove order at) vacant capacity (less places order vacant capacity is at inside) (slice_index_or order at 0)
       (is.there at 0 inside)
       (others order is.apart at inside)
@@ -109,20 +109,20 @@ module _ (places : List NumberedFile) (f : NumberedFile) where
     own_file inside = get_or-set_same places number f bare inside
 
   module _ (n : ℕ) (long : n ≡ length places) (order vacant : List ℕ) (capacity : ℕ) where
-    pub pushed_files : IsOrder n order vacant capacity → files_in (places ++ f ∷ []) (order ++ n ∷ []) ≡ files_in places order ++ f ∷ []
+    pub pushed_files : IsFileOrder n order vacant capacity → files_in (places ++ f ∷ []) (order ++ n ∷ []) ≡ files_in places order ++ f ∷ []
     pushed_files is =
         push_map (numbered_at places) (numbered_at (places ++ f ∷ [])) order n
         (λ k d l. get_or_append_left places (f ∷ []) bare (get_or order k d) (omega (arith, long, is.there k d l)))
         ∙ ap (λ g. files_in places order ++ g ∷ []) (get_or_push places f bare n (sym long))
 
-    pub taken_files : (number : ℕ) → IsOrder n order (vacant ++ number ∷ []) capacity → files_in (written number) (order ++ number ∷ []) ≡ files_in places order ++ f ∷ []
+    pub taken_files : (number : ℕ) → IsFileOrder n order (vacant ++ number ∷ []) capacity → files_in (written number) (order ++ number ∷ []) ≡ files_in places order ++ f ∷ []
     taken_files number is =
         let inside = front_and_last vacant number (λ (k : ℕ). k < n) is.vacant_there in
         let no_file = front_and_last vacant number (λ (k : ℕ). Without k order) is.no_file in
         push_map (numbered_at places) (numbered_at (written number)) order number (λ k d l. other_file number (get_or order k d) (no_file.1 k d l))
         ∙ ap (λ g. files_in places order ++ g ∷ []) (own_file number (omega (arith, long, inside.1)))
 
-    module _ (is : IsOrder n order vacant capacity) (at : ℕ) (inside : at < length order) where
+    module _ (is : IsFileOrder n order vacant capacity) (at : ℕ) (inside : at < length order) where
       abbrev number : ℕ
       number = slice_index_or order at 0
 

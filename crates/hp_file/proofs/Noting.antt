@@ -6,7 +6,7 @@ use Rattle.std.proofs.lemmas.Bool.{eqb-true}
 use Rattle.std.proofs.lemmas.Bool.Decides.{nat_tests}
 use Rattle.std.proofs.lemmas.List.Sums.{sum_by-le-sum_by, sum_by-set}
 use Rattle.hp_model.specs.files.Mapping.{Mapping, is_map, is_of}
-use Rattle.hp_lookup.specs.Forking.{HasNoted, HaveNoted, IsNoted, maps_named, maps_of}
+use Rattle.hp_lookup.specs.Forking.{HasNoted, HaveNoted, IsNoted, maps_named, maps_by}
 use Rattle.hp_lookup.specs.Hints.{IsMoreByMap, Noted, has_key, is_pair}
 use Rattle.hp_lookup.specs.Numbered.{NumberedFile, numbered_at}
 use Rattle.hp_lookup.proofs.Cells.{no_file}
@@ -34,7 +34,7 @@ module _ (task : ℕ) where
 
   -- ---- a file or files without maps of the task
 
-  named_few : (q : ℕ) (f : NumberedFile) → maps_named task q f ≤ maps_of task f
+  named_few : (q : ℕ) (f : NumberedFile) → maps_named task q f ≤ maps_by task f
   named_few q f = sum_by-le-sum_by (λ (m : Mapping ℕ). cond {A = ℕ} (is_map task q m) 1 0) (λ m. cond {A = ℕ} (is_of task m) 1 0) f.maps (λ m. fewer (is_of task m) (m.number == q))
     where
       fewer : (b c : Bool) → cond {A = ℕ} (b && c) 1 0 ≤ cond {A = ℕ} b 1 0
@@ -42,28 +42,28 @@ module _ (task : ℕ) where
       fewer true false = omega arith
       fewer false c = omega arith
 
-  named_none : (q : ℕ) (f : NumberedFile) → maps_of task f ≡ 0 → maps_named task q f ≡ 0
+  named_none : (q : ℕ) (f : NumberedFile) → maps_by task f ≡ 0 → maps_named task q f ≡ 0
   named_none q f none = (let few = named_few q f in omega (arith, few, none))
 
-  pub noted_bare : (f : NumberedFile) (n : Noted) → maps_of task f ≡ 0 → HasNoted task f n n
-  noted_bare f n none = noted_then 0 0 (maps_of task f) (λ q. 0) (λ q. 0) (λ q. maps_named task q f) n n n (noted_none n) (noted_none n)
+  pub noted_bare : (f : NumberedFile) (n : Noted) → maps_by task f ≡ 0 → HasNoted task f n n
+  noted_bare f n none = noted_then 0 0 (maps_by task f) (λ q. 0) (λ q. 0) (λ q. maps_named task q f) n n n (noted_none n) (noted_none n)
       (omega (arith, none)) (λ q. (let bare = named_none q f none in omega (arith, bare)))
 
-  pub named_all : (q : ℕ) (fs : List NumberedFile) → sum_by (maps_named task q) fs ≤ sum_by (maps_of task) fs
-  named_all q fs = sum_by-le-sum_by (maps_named task q) (maps_of task) fs (named_few q)
+  pub named_all : (q : ℕ) (fs : List NumberedFile) → sum_by (maps_named task q) fs ≤ sum_by (maps_by task) fs
+  named_all q fs = sum_by-le-sum_by (maps_named task q) (maps_by task) fs (named_few q)
 
-  pub noted_bare_all : (fs : List NumberedFile) (n : Noted) → sum_by (maps_of task) fs ≡ 0 → HaveNoted task fs n n
+  pub noted_bare_all : (fs : List NumberedFile) (n : Noted) → sum_by (maps_by task) fs ≡ 0 → HaveNoted task fs n n
   noted_bare_all fs n none =
-      noted_then 0 0 (sum_by (maps_of task) fs) (λ q. 0) (λ q. 0) (λ q. sum_by (maps_named task q) fs) n n n (noted_none n) (noted_none n) (omega (arith, none))
+      noted_then 0 0 (sum_by (maps_by task) fs) (λ q. 0) (λ q. 0) (λ q. sum_by (maps_named task q) fs) n n n (noted_none n) (noted_none n) (omega (arith, none))
       (λ q. (let few = named_all q fs in omega (arith, few, none)))
 
   -- a file that had none and has some now, among files that were noted
-  pub noted_at : (fs : List NumberedFile) (k : ℕ) (y : NumberedFile) (old mid new : Noted) → k < length fs → maps_of task (numbered_at fs k) ≡ 0 →
+  pub noted_at : (fs : List NumberedFile) (k : ℕ) (y : NumberedFile) (old mid new : Noted) → k < length fs → maps_by task (numbered_at fs k) ≡ 0 →
       HaveNoted task fs old mid → HasNoted task y mid new → HaveNoted task (slice_set fs k y) old new
   noted_at fs k y old mid new within none first then =
-      noted_then (sum_by (maps_of task) fs) (maps_of task y) (sum_by (maps_of task) (slice_set fs k y)) (λ q. sum_by (maps_named task q) fs)
+      noted_then (sum_by (maps_by task) fs) (maps_by task y) (sum_by (maps_by task) (slice_set fs k y)) (λ q. sum_by (maps_named task q) fs)
       (λ q. maps_named task q y) (λ q. sum_by (maps_named task q) (slice_set fs k y)) old mid new first then
-      (let step = sum_by-set (maps_of task) fs k y no_file within in omega (arith, step, none))
+      (let step = sum_by-set (maps_by task) fs k y no_file within in omega (arith, step, none))
       (λ q. (let step = sum_by-set (maps_named task q) fs k y no_file within in let bare = named_none q (numbered_at fs k) none in omega (arith, step, bare)))
 
   -- ---- one map

@@ -17,7 +17,7 @@ use Rattle.hp_lookup.specs.Files.{copied_at, file_at, parted_at}
 use Rattle.hp_lookup.specs.Numbered.{NumberedFile, numbered_at, mapping_at, place_shown, map_shown, files_shown, no_mapping}
 use Rattle.hp_lookup.specs.Held.{IsHeld, in_file, in_files, in_map}
 use Rattle.hp_lookup.specs.Level.{AreLevel}
-use Rattle.hp_lookup.specs.Places.{map_at}
+use Rattle.hp_lookup.specs.Places.{map_among}
 use Rattle.hp_file.specs.Taking.{first_copy}
 use Rattle.hp_lookup.proofs.Cells.{inserted_agrees, inserted_is, inserted_more, free_is_fresh, file_is, no_file}
 use Rattle.hp_file.proofs.Copies.{with_copy_at, copy_shows, copy_held, number_is_fresh}
@@ -54,10 +54,10 @@ module _ (s : Store) (more : ℕ) (fs : List NumberedFile) (h : IsHeld s more fs
   y_read : mapping ≡ slice_index_or (numbered_at fs k).maps j mapping
   y_read = get_or_default (numbered_at fs k).maps j no_mapping mapping jl_in
 
-  pub seen : map_at (files_shown s fs) k j ≡ map_shown s mapping
+  pub seen : map_among (files_shown s fs) k j ≡ map_shown s mapping
   seen = map_seen s fs k j l (numbered_at fs k) f_read mapping y_read jl
 
-  pub seen_place : place_at (map_at (files_shown s fs) k j) i ≡ place_shown s (place_at mapping i)
+  pub seen_place : place_at (map_among (files_shown s fs) k j) i ≡ place_shown s (place_at mapping i)
   seen_place = ap (λ (m : Map). place_at m i) seen ∙ place_seen s fs k j l (numbered_at fs k) f_read mapping y_read jl i
 
   module _ (n : ℕ) (page : Page) (t : Store) (free : page_at s n ≡ None) (below : n < length s.pages) (t_is : t ≡ inserted n page s) where
@@ -70,7 +70,7 @@ module _ (s : Store) (more : ℕ) (fs : List NumberedFile) (h : IsHeld s more fs
     -- the number is the copy at the index
     module _ (c : Bool) (g : NumberedFile) (g_is : g ≡ record (numbered_at fs k) { maps = slice_set (numbered_at fs k).maps j (with_copy_at mapping (i - mapping.start) c n) }) where
       pub put_shows : files_shown t (slice_set fs k g) ≡ slice_set (files_shown s fs) k
-          (with_map (file_at (files_shown s fs) k) j (with_place (map_at (files_shown s fs) k j) i
+          (with_map (file_at (files_shown s fs) k) j (with_place (map_among (files_shown s fs) k j) i
           (Live c (Some (record { stamp = n; page = page })))))
       put_shows =
           ap (λ u. files_shown u (slice_set fs k g)) t_is ∙ ap (λ f. files_shown (inserted n page s) (slice_set fs k f)) g_is
@@ -99,7 +99,7 @@ module _ (s : Store) (more : ℕ) (fs : List NumberedFile) (h : IsHeld s more fs
     module _ (g : NumberedFile) (g_is : g ≡ record x {
       maps = slice_set x.maps j (at_place (first_copy (mapping_at x j).owner n) i (mapping_at x j));
     }) (c : Bool)
-        (place : place_at (map_at (files_shown s fs) k j) i ≡ Live c None) where
+        (place : place_at (map_among (files_shown s fs) k j) i ≡ Live c None) where
       bare : place_at mapping i ≡ Live c None
       bare = bare_is s (place_at mapping i) c (sym seen_place ∙ place)
 
@@ -117,7 +117,7 @@ module _ (s : Store) (more : ℕ) (fs : List NumberedFile) (h : IsHeld s more fs
             });
           }) bare
 
-      pub put_view : view t more (slice_set fs k g) ≡ copied_at k j i ((map_at (files_shown s fs) k j).owner || c) n page (view s more fs)
+      pub put_view : view t more (slice_set fs k g) ≡ copied_at k j i ((map_among (files_shown s fs) k j).owner || c) n page (view s more fs)
       put_view =
           let room : s.room - 1 - more ≡ s.room - more - 1 = omega arith in
           ap (λ xs. record { files = xs; going = t.going; room = t.room - more }) (put_shows (mapping.owner || c) g put)

@@ -19,7 +19,7 @@ room_in places capacity order order_capacity vacant vacant_capacity = min (vacan
 
 -- each place of the order is there, and no two are the same; so it is with the vacant places, none of which is in the order; and
 -- the list of the vacant ones has room for all
-pub record IsOrder (places : ℕ) (order vacant : List ℕ) (capacity : ℕ) : Type 0 where
+pub record IsFileOrder (places : ℕ) (order vacant : List ℕ) (capacity : ℕ) : Type 0 where
   pub there : All (λ number. number < places) order
   pub apart : AllPairs (λ x y. x ≢ y) order
   pub vacant_there : All (λ number. number < places) vacant

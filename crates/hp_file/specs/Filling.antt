@@ -31,12 +31,12 @@ abbrev pub zeros_at : (size k a : ℕ) → List Page → Files → Files
 zeros_at size k a pages v = record (with_file_at k (with_zeros size a pages (file_at v.files k)) v) { room = v.room - length pages }
 
 -- the indices of a file from a up to b are filled by pages of these nodes, and there is this room
-abbrev pub pages_at : (size k a b : ℕ) → (nodes : List ℕ) → (room : ℕ) → Files → Files
-pages_at size k a b nodes room v = record (with_file_at k (range_filled size a b nodes (file_at v.files k)) v) { room = room }
+abbrev pub pages_put : (size k a b : ℕ) → (nodes : List ℕ) → (room : ℕ) → Files → Files
+pages_put size k a b nodes room v = record (with_file_at k (range_filled size a b nodes (file_at v.files k)) v) { room = room }
 
 module _ {X : Type 0} (took : X → Section → PoolAnswer → X → Type 0) (full : X → Type 0) (k count : ℕ) (s : Subpool) (d : X) where
   -- so many pages of these numbers by node come by a section
-  pub record IsTaken (takes : List ℕ) (new : Subpool) (left : X) : Type 0 where
+  pub record AreTakenBy (takes : List ℕ) (new : Subpool) (left : X) : Type 0 where
     pub share : new ≡ with_filled k count s
     pub section : took d (fill_for k count s) (filled_by takes) left
 
@@ -50,7 +50,7 @@ module _ {X : Type 0} (took : X → Section → PoolAnswer → X → Type 0) (fu
 
   -- taken; or for want of memory not asked for; or refused by the door
   abbrev pub IsTaking : Result (Unit {0}) Refusal → (takes : List ℕ) → (new : Subpool) (left : X) → Type 0
-  IsTaking (Ok done) takes new left = IsTaken takes new left
+  IsTaking (Ok done) takes new left = AreTakenBy takes new left
   IsTaking (Err OutOfMemory) takes new left = IsUnasked new left
   IsTaking (Err other) takes new left = IsRefused other new left
 

@@ -8,8 +8,8 @@ use Rattle.hp_file.specs.contracts.file.File.{the_row as file_row}
 use Rattle.hp_file.specs.contracts.file_list.FileList.{the_row}
 
 -- the list with a file in the place of another
-abbrev pub with_file : Listed → ℕ → NumberedFile → Listed
-with_file l at f = record l { files = slice_set l.files at f }
+abbrev pub with_listed : Listed → ℕ → NumberedFile → Listed
+with_listed l at f = record l { files = slice_set l.files at f }
 
 abbrev pub LendsFile : MutBor Listed → ℕ → MutBor NumberedFile → Fml
-LendsFile l at r = Lends the_row file_row l r (with_file l.now at)
+LendsFile l at r = Lends the_row file_row l r (with_listed l.now at)

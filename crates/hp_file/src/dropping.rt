@@ -11,7 +11,7 @@ ghost use Rattle.hp_lookup.specs.Dropping.{HasHolders, IsDropping};
 ghost use Rattle.hp_lookup.specs.Held.{in_cell, in_map, in_place, more_in};
 ghost use Rattle.hp_lookup.specs.Numbered.{no_mapping};
 ghost use Rattle.hp_file.specs.Taking.{robbed_at};
-ghost use Rattle.hp_lookup.specs.Leaving.{IsMoreButTask, ended_for, map_named, owed};
+ghost use Rattle.hp_lookup.specs.Leaving.{IsMoreButTask, ended_for, one_if_named, owed};
 
 use hp_inode::Inode;
 use hp_lookup::Hints;
@@ -241,7 +241,7 @@ fn end_map_of<N: Naming>(
         store.new }
     ensures counted { more.new ≡ more_in store.new.pages }
     ensures reserves { result + owed map.new ≡ owed map.old }
-    ensures hints { IsMoreButTask task (map_named task map.old) hints.old hints.new }
+    ensures hints { IsMoreButTask task (one_if_named task map.old) hints.old hints.new }
 {
     if map.task() != task {
         return 0;

@@ -5,7 +5,7 @@ ghost use Rattle.std.specs.List.{filter, remove, slice_set};
 ghost use Rattle.hp_lookup.specs.Leaving.{is_used};
 
 use crate::File;
-use hp_lookup::Spot;
+use hp_lookup::TaggedNumber;
 use std::alloc::{AllocError, Global};
 use std::marker::Model;
 use std::mem;
@@ -23,12 +23,12 @@ const FAR: usize = 64;
 pub struct FileList {
     alloc: Global,
     files: Vec<File>,
-    order: Vec<Spot>,
+    order: Vec<TaggedNumber>,
     vacant: Vec<u16>,
 }
 
 impl Model for FileList {
-    ghost use Rattle.hp_file.specs.FileList.{Listed, IsOrder, files_in, room_in};
+    ghost use Rattle.hp_file.specs.FileList.{Listed, IsFileOrder, files_in, room_in};
     ghost use Rattle.std.specs.Prelude.{vec_capacity, vec_len};
 
     ghost Value = { Listed };
@@ -40,7 +40,7 @@ impl Model for FileList {
           (vec_len l.vacant) (vec_capacity l.vacant);
     } };
 
-    ghost invariant = { λ l. IsOrder (vec_len l.files) l.order.items l.vacant.items
+    ghost invariant = { λ l. IsFileOrder (vec_len l.files) l.order.items l.vacant.items
         (vec_capacity l.vacant) };
 }
 
@@ -100,12 +100,12 @@ impl FileList {
         match self.vacant.pop() {
             Some(number) => {
                 self.files[number as usize] = file;
-                self.order.push_reserved(Spot::new(tag, number));
+                self.order.push_reserved(TaggedNumber::new(tag, number));
             }
             None => {
                 let number = self.files.len() as u16;
                 self.files.push_reserved(file);
-                self.order.push_reserved(Spot::new(tag, number));
+                self.order.push_reserved(TaggedNumber::new(tag, number));
             }
         }
     }

@@ -3,7 +3,7 @@ ghost use Rattle.std.specs.Prelude.{◌≡◌, ◌^◌, ◌+◌, ◌-◌, ◌<�
 ghost use Rattle.std.specs.List.{filter, sum_by};
 ghost use Rattle.hp_store.specs.Store.{holders_of, page_at};
 ghost use Rattle.hp_lookup.specs.Dropping.{HasHolders};
-ghost use Rattle.hp_lookup.specs.Forking.{AreFilled, AreReady, HasNoted, HasRoom, HaveJoined, HaveNoted, HaveRoom, IsSharing, in_list, in_lists, joined, joined_at, list_copies, list_length, maps_of, with_list};
+ghost use Rattle.hp_lookup.specs.Forking.{AreFilled, AreReady, HasNoted, HasRoom, HaveJoined, HaveNoted, HaveRoom, IsSharing, in_list, in_lists, joined, joined_at, list_copies, list_length, maps_by, with_list};
 ghost use Rattle.hp_lookup.specs.Held.{more_in};
 ghost use Rattle.hp_lookup.specs.Leaving.{is_used};
 ghost use Rattle.hp_lookup.specs.Numbered.{numbered_at};
@@ -77,7 +77,7 @@ fn children_among_all(
     child: u64,
     count: u64,
 ) -> Result<Vec<Vec<Mapping>>, AllocError>
-    requires { count ≡ sum_by (maps_of parent) files.now.files }
+    requires { count ≡ sum_by (maps_by parent) files.now.files }
     ensures { IfOk result (λ lists. AreReady parent child files.now.files lists.items) }
 {
     let mut lists = Vec::with_capacity(alloc, files.len())?;
@@ -102,7 +102,7 @@ pub fn children(
     child: u64,
     count: u64,
 ) -> Result<Vec<Vec<Mapping>>, AllocError>
-    requires { count ≡ sum_by (maps_of parent) files.now.files }
+    requires { count ≡ sum_by (maps_by parent) files.now.files }
     ensures { IfOk result (λ lists. AreReady parent child files.now.files lists.items) }
 {
     let mut lists = empty_lists(alloc, if count > 0 { files.len() } else { 0 })?;
@@ -152,8 +152,8 @@ fn join_at<N: Naming>(
 )
     requires within { at < length files.old.files }
     requires room { HasRoom (numbered_at files.old.files at) list }
-    requires none { maps_of child (numbered_at files.old.files at) ≡ 0 }
-    requires keys { maps_of child (with_list (numbered_at files.old.files at) list)
+    requires none { maps_by child (numbered_at files.old.files at) ≡ 0 }
+    requires keys { maps_by child (with_list (numbered_at files.old.files at) list)
         ≤ hints.old.room }
     requires held { (n : ℕ) → in_list n list ≤ holders_of (page_at store.old n) }
     requires some { HasHolders store.old }
@@ -184,8 +184,8 @@ pub fn join_all<N: Naming>(
     more: &mut usize,
 )
     requires room { HaveRoom files.old.files lists.items }
-    requires none { sum_by (maps_of child) files.old.files ≡ 0 }
-    requires keys { sum_by (maps_of child) (joined files.old.files lists.items) ≤ hints.old.room }
+    requires none { sum_by (maps_by child) files.old.files ≡ 0 }
+    requires keys { sum_by (maps_by child) (joined files.old.files lists.items) ≤ hints.old.room }
     requires held { (n : ℕ) → in_lists n lists.items ≤ holders_of (page_at store.old n) }
     requires some { HasHolders store.old }
     requires counted { more.old ≡ more_in store.old.pages }

@@ -5,7 +5,7 @@ ghost use Rattle.hp_store.specs.Store.{holders_of, page_at};
 ghost use Rattle.hp_lookup.specs.Dropping.{HasHolders, IsDropping};
 ghost use Rattle.hp_lookup.specs.Held.{in_files, more_in};
 ghost use Rattle.hp_lookup.specs.Keyed.{is_listed, labels_of, maps_for};
-ghost use Rattle.hp_lookup.specs.Leaving.{HasLeft, file_owed, map_sum, swept_at};
+ghost use Rattle.hp_lookup.specs.Leaving.{HaveMapsLeft, file_owed, map_sum, swept_at};
 
 use crate::file_list::FileList;
 use hp_lookup::{Departed, Hints};
@@ -25,7 +25,7 @@ pub fn drop_maps_of<N: Naming>(
     requires counted { more.old ≡ more_in store.old.pages }
     requires few { sum_by file_owed files.old.files < 2 ^ 64 }
     requires few_maps { map_sum files.old.files < 2 ^ 64 }
-    ensures { HasLeft task files.old.files files.new.files hints.old hints.new store.old
+    ensures { HaveMapsLeft task files.old.files files.new.files hints.old hints.new store.old
         store.new more.new
         result.maps result.reserves }
 {
@@ -55,7 +55,7 @@ pub fn drop_some_maps_of<N: Naming>(
     requires counted { more.old ≡ more_in store.old.pages }
     requires few { sum_by file_owed files.old.files < 2 ^ 64 }
     requires few_maps { map_sum files.old.files < 2 ^ 64 }
-    ensures { HasLeft task files.old.files files.new.files hints.old hints.new store.old
+    ensures { HaveMapsLeft task files.old.files files.new.files hints.old hints.new store.old
         store.new more.new
         result.maps result.reserves }
 {

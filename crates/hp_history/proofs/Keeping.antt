@@ -14,8 +14,8 @@ use Rattle.hp_model.specs.threads.JointRun.{keep, option_cons, receipt_of}
 use Rattle.hp_history.specs.declared.held.Held.{Held}
 use Rattle.hp_history.specs.declared.held.Held.TheVariants.{Tasks, Pool, Opener, Slot, Session, Busy}
 use Rattle.hp_history.specs.declared.law.Shape.{Shape}
-use Rattle.hp_history.specs.History.{Each, Fits, IsNoted, IsQuiet, IsSession, Turns, Whole, IsWithin, IsStep, Has, parts_of, Kept, Ends, CanGo, Mark}
-use Rattle.hp_history.specs.History.{Done, Open, Looked, IsOpener, sessions_in, opened, new_session, all_parts, slots_from, told_mark, there}
+use Rattle.hp_history.specs.History.{Each, Fits, IsNoted, IsQuiet, IsSession, Turns, Whole, IsWithin, IsSeatStep, Has, parts_of, Kept, Ends, CanGo, Mark}
+use Rattle.hp_history.specs.History.{Done, Open, Looked, IsOpener, sessions_in, opened, new_session, all_parts, held_from, told_mark, there}
 use Rattle.hp_history.specs.History.{first_of_view, rest_of_view, first_home, look_item, looked, number_in, rests, says_home, table_of, receipts_in}
 use Rattle.hp_history.proofs.Lists.{each_map, each_both, each_append, at_end, length_set}
 use Rattle.hp_history.proofs.Folds.{after_more, agree_more}
@@ -40,7 +40,7 @@ Owned slots owner z by v = Each (λ h. Owns owner by h × Has slots z h) v
 empty : Whole
 empty = record { marks = []; sessions = 0 }
 
-slots_begin : (slots : Shape) (b n : ℕ) → b + n ≤ slots.slots → Owned slots (λ p. 0) empty 0 (slots_from b (replicate n []))
+slots_begin : (slots : Shape) (b n : ℕ) → b + n ≤ slots.slots → Owned slots (λ p. 0) empty 0 (held_from b (replicate n []))
 unfolding empty
 slots_begin slots b zero l = tt
 slots_begin slots b (suc n) l = (((refl, tt), (omega arith, refl)), slots_begin slots (b + 1) n (omega arith))
@@ -221,7 +221,7 @@ opens slots id v is = subst (λ u. Splits (holds slots) id u (opened u) (new_ses
 -- ---- a step
 
 -- the order goes on, and a word is written
-core : (slots : Shape) (s : T) (h : holds slots s) (id : ℕ) (v w : List Held) → get_elem? s.views id ≡ some v → (f : Whole → Whole) → IsStep slots f v w
+core : (slots : Shape) (s : T) (h : holds slots s) (id : ℕ) (v w : List Held) → get_elem? s.views id ≡ some v → (f : Whole → Whole) → IsSeatStep slots f v w
     → (i x : ℕ) → IsNoted slots (f h.0) (slice_set s.words i x) → Kept slots (slice_set s.words i x) (set s.views id w)
 core slots s h id v w at f st i x noted =
     let z = h.0 in
@@ -248,7 +248,7 @@ core slots s h id v w at f st i x noted =
 has_of : (slots : Shape) (s : T) (h : holds slots s) (id : ℕ) (v : List Held) → get_elem? s.views id ≡ some v → Each (Has slots h.0) v
 has_of slots s h id v at = each_map (λ g t. t.1) v (h.3 id v at)
 
-pub goes_on : (slots : Shape) (id : ℕ) (f : Whole → Whole) (v w : List Held) → IsStep slots f v w → IsQuiet slots f v
+pub goes_on : (slots : Shape) (id : ℕ) (f : Whole → Whole) (v w : List Held) → IsSeatStep slots f v w → IsQuiet slots f v
     → (count : ℕ) (carried : List (ℕ × Unit {0})) → Allows (holds slots) count id (v, carried) 0 (λ x. x) (λ found now. now ≡ (w, carried))
 goes_on slots id f v w st quiet count carried s h long at small =
     let has = has_of slots s h id v at in
@@ -263,7 +263,7 @@ goes_on slots id f v w st quiet count carried s h long at small =
 -- ---- a task comes, or goes
 
 -- a step that makes another table, and a word of it
-turns_on : (slots : Shape) (id : ℕ) (f : Whole → Whole) (v w : List Held) → IsStep slots f v w → (t u : Table) → Turns slots f v t u
+turns_on : (slots : Shape) (id : ℕ) (f : Whole → Whole) (v w : List Held) → IsSeatStep slots f v w → (t u : Table) → Turns slots f v t u
     → (i : ℕ) (g : ℕ → ℕ)
     → ((words : List ℕ) → slice_index words i < 18446744073709551616 → ((j : ℕ) → Fits t j (slice_index words j)) → (j : ℕ) → Fits u j (slice_index (slice_set words i (g (slice_index words i))) j))
     → (count : ℕ) (carried : List (ℕ × Unit {0})) → Allows (holds slots) count id (v, carried) i g (λ found now. now ≡ (w, carried))
@@ -279,13 +279,14 @@ turns_on slots id f v w st t u turns i g writes count carried s h long at small 
       refl,
     )
 
-pub comes_on : (slots : Shape) (id : ℕ) (f : Whole → Whole) (v w : List Held) → IsStep slots f v w → (t : Table) (i task home word : ℕ) → home_of t task ≡ None → Turns slots f v t (added t task home)
+pub comes_on : (slots : Shape) (id : ℕ) (f : Whole → Whole) (v w : List Held) → IsSeatStep slots f v w → (t : Table) (i task home word : ℕ) → home_of t task ≡ None
+    → Turns slots f v t (added t task home)
     → i ≡ task % rests + first_home → ((n : ℕ) → word / 4 ≡ suc n → (n ≡ task) × (word % 4 ≡ home))
     → (count : ℕ) (carried : List (ℕ × Unit {0})) → Allows (holds slots) count id (v, carried) i (λ n. either (n == 0) word n) (λ found now. now ≡ (w, carried))
 comes_on slots id f v w st t i task home word absent turns place is =
     turns_on slots id f v w st t (added t task home) turns i (λ n. either (n == 0) word n) (λ words small was. words_came t words i task home word absent place is was)
 
-pub goes_away : (slots : Shape) (id : ℕ) (f : Whole → Whole) (v w : List Held) → IsStep slots f v w
+pub goes_away : (slots : Shape) (id : ℕ) (f : Whole → Whole) (v w : List Held) → IsSeatStep slots f v w
     → (t : Table) (i task home word : ℕ) → home_of t task ≡ Some home → Turns slots f v t (removed t task)
     → i ≡ task % rests + first_home → (suc task < 2 ^ 62 → home < 4 → word ≡ suc task * 4 + home)
     → (count : ℕ) (carried : List (ℕ × Unit {0})) → Allows (holds slots) count id (v, carried) i (λ n. either (n == word) 0 n) (λ found now. now ≡ (w, carried))
@@ -295,7 +296,7 @@ goes_away slots id f v w st t i task home word there turns place is =
 -- ---- a look
 
 -- nothing happens
-idle : (slots : Shape) (v : List Held) → IsStep slots (λ z. z) v v
+idle : (slots : Shape) (v : List Held) → IsSeatStep slots (λ z. z) v v
 idle slots v = record { parts = λ owner by o. o; within = λ z h w. w; tells = λ z h. h; others = λ z h has a t. t }
 
 -- what the step does, by what the word says

@@ -167,13 +167,13 @@ Has sh z (Busy k es n rs a) =
     × (keep (told_mark n) z.marks ≡ awaiting rs) × Each (OpensAs k n a) z.marks
 
 -- the slots from k on, with their trails
-abbrev pub slots_from : ℕ → List (List SlotEntry) → List Held
-slots_from k [] = []
-slots_from k (es ∷ ess) = Slot k es ∷ slots_from (k + 1) ess
+abbrev pub held_from : ℕ → List (List SlotEntry) → List Held
+held_from k [] = []
+held_from k (es ∷ ess) = Slot k es ∷ held_from (k + 1) ess
 
 -- the view of the first seat: all parts, and no session
 abbrev pub all_parts : Shape → List Held
-all_parts sh = Tasks [] ∷ Pool [] ∷ Opener 0 ∷ slots_from 0 (replicate sh.slots [])
+all_parts sh = Tasks [] ∷ Pool [] ∷ Opener 0 ∷ held_from 0 (replicate sh.slots [])
 
 -- The rule: there is one order of all events so far. Each part is with one seat at most, which has the part's trail as the order
 -- has it; so is each session, with what it was told, in order. Each look-up agrees with the table at its place in the order, and
@@ -191,7 +191,7 @@ abbrev pub AreApart : List Held → Held → Type 0
 AreApart v h = Each (λ g. Each (λ p. Each (λ q. p ≢ q) (parts_of h)) (parts_of g)) v
 
 -- what the seat has is enough to go on so, and no other part is touched
-pub record IsStep (sh : Shape) (f : Whole → Whole) (v w : List Held) : Type 0 where
+pub record IsSeatStep (sh : Shape) (f : Whole → Whole) (v w : List Held) : Type 0 where
   pub parts : (owner : ℕ → ℕ) (by : ℕ) → Each (λ h. Each (λ p. owner p ≡ by) (parts_of h)) v → Each (λ h. Each (λ p. owner p ≡ by) (parts_of h)) w
   pub within : (z : Whole) → Each (Has sh z) v → Each (IsWithin sh z.sessions) z.marks → Each (IsWithin sh (f z).sessions) (f z).marks
   pub tells : (z : Whole) → Each (Has sh z) v → Each (Has sh (f z)) w

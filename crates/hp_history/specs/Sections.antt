@@ -47,8 +47,8 @@ asked_in (Busy k es n rs a ∷ hs) = Some a
 asked_in (h ∷ hs) = asked_in hs
 
 -- the section at this place
-abbrev pub placed : ℕ → Asked → Asked
-placed place a = record { place = place; section = a.section; answer = a.answer }
+abbrev pub section_at : ℕ → Asked → Asked
+section_at place a = record { place = place; section = a.section; answer = a.answer }
 
 abbrev pub free_slot : List Held → Held
 free_slot v = Slot (slot_in v) (trail_in v)
@@ -70,24 +70,24 @@ abbrev pub pool_next : Asked → List PoolEntry → Held
 pool_next a ps = Pool (ps ++ OfSlot a.section a.answer ∷ [])
 
 -- a seat with the pool, a slot and a session, once the section was entered
-abbrev pub entered : Asked → List Held → List Held
-entered a v = pool_next a (entries_of_pool v) ∷ busy (placed (length (entries_of_pool v)) a) v ∷ []
+abbrev pub entering : Asked → List Held → List Held
+entering a v = pool_next a (entries_of_pool v) ∷ busy (section_at (length (entries_of_pool v)) a) v ∷ []
 
-abbrev pub slot_entry : SlotEvent → Reply → Option Asked → SlotEntry
-slot_entry e r asked = record { event = e; reply = r; asked = asked }
+abbrev pub entry_with : SlotEvent → Reply → Option Asked → SlotEntry
+entry_with e r asked = record { event = e; reply = r; asked = asked }
 
 abbrev pub slot_item : SlotEvent → Reply → Option Asked → List Held → Item
-slot_item e r asked v = record { entry = InSlot (slot_in v) (slot_entry e r asked); place = length (trail_in v); by = number_in v }
+slot_item e r asked v = record { entry = InSlot (slot_in v) (entry_with e r asked); place = length (trail_in v); by = number_in v }
 
 abbrev pub trail_next : SlotEvent → Reply → Option Asked → List Held → Held
-trail_next e r asked v = Slot (slot_in v) (trail_in v ++ slot_entry e r asked ∷ [])
+trail_next e r asked v = Slot (slot_in v) (trail_in v ++ entry_with e r asked ∷ [])
 
 abbrev pub receipts_next : SlotEvent → Reply → Option Asked → List Held → Held
 receipts_next e r asked v = Session (number_in v) (receipts_in v ++ receipt_of (slot_item e r asked v) ∷ [])
 
 -- once the event is over
-abbrev pub over : SlotEvent → Reply → Option Asked → List Held → List Held
-over e r asked v = trail_next e r asked v ∷ receipts_next e r asked v ∷ []
+abbrev pub once_over : SlotEvent → Reply → Option Asked → List Held → List Held
+once_over e r asked v = trail_next e r asked v ∷ receipts_next e r asked v ∷ []
 
 abbrev pub IsHeld : List Held → Type 0
 IsHeld v = IsFree v ⊎ IsBusy v
@@ -96,7 +96,7 @@ IsHeld v = IsFree v ⊎ IsBusy v
 -- place in the pool's trail
 abbrev pub IsEntered : (kept : Bool) → List Held → Option Asked → List Held → Type 0
 IsEntered kept v None w = w ≡ v
-IsEntered kept v (Some a) w = (place : ℕ) × (kept ≡ true → a.place ≡ place) × (w ≡ busy (placed place a) v ∷ [])
+IsEntered kept v (Some a) w = (place : ℕ) × (kept ≡ true → a.place ≡ place) × (w ≡ busy (section_at place a) v ∷ [])
 
 -- ---- events of the pool alone
 

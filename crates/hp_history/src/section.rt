@@ -1,7 +1,7 @@
 //! Events as they stand in the history.
 ghost use Rattle.std.specs.Prelude.{◌≡◌, ◌∷◌, [], length};
 ghost use Rattle.hp_history.specs.History.{IsSession};
-ghost use Rattle.hp_history.specs.Sections.{IsFree, IsHeld, asked_in, busy, placed, pool_in, pool_next, pool_receipt, pool_view, pool_with, receipts_next, told_more, trail_next};
+ghost use Rattle.hp_history.specs.Sections.{IsFree, IsHeld, asked_in, busy, section_at, pool_in, pool_next, pool_receipt, pool_view, pool_with, receipts_next, told_more, trail_next};
 
 use crate::history::History;
 use crate::law::{Places, Token, View};
@@ -59,7 +59,7 @@ impl<J: Places> History<J> {
         ensures trail { pool.new.views ≡ (pool_next asked (pool_in pool.old.views) ∷ []) ∷ [] }
         ensures seat { mine.new.table_id ≡ J.history }
         ensures busy { mine.new.me
-            ≡ (busy (placed (length (pool_in pool.old.views)) asked) mine.old.me.0 ∷ [], []) }
+            ≡ (busy (section_at (length (pool_in pool.old.views)) asked) mine.old.me.0 ∷ [], []) }
     {
         self.take_in(mine, mem::replace(pool, Badge::blank()).into_seat());
         self.step::<Brand, _>(mine, asked);

@@ -11,7 +11,7 @@ use Rattle.hp_inode.specs.declared.form.Form.{Form}
 use Rattle.hp_inode.specs.declared.form.Form.TheVariants.{Holes}
 use Rattle.hp_inode.specs.Blocks.{entered_count, missing_count, entered_at, page_at}
 use Rattle.hp_inode.specs.Form.{IsForm}
-use Rattle.hp_inode.specs.Kept.{IsKept, cell_by, cell_of, cells_of}
+use Rattle.hp_inode.specs.Kept.{IsKept, cell_by, kept_cell, cells_of}
 use Rattle.hp_marks.proofs.Words.{unmarked_past}
 
 -- in the empty lists there is no mark, and no page
@@ -44,8 +44,8 @@ bare_kept len small = record {
 }
 
 pub bare_paged : (len : ℕ) → 0 ≡ count_by has_page (cells_of len [] [])
-bare_paged len = sym (count_map has_page (cell_of [] []) (range_with_len 0 len)
-    ∙ count_outside (λ i. has_page (cell_of [] [] i)) 0 len (λ i low high. ap (λ t. has_page (cell_by t (page_at [] i))) (unmarked i)))
+bare_paged len = sym (count_map has_page (kept_cell [] []) (range_with_len 0 len)
+    ∙ count_outside (λ i. has_page (kept_cell [] [] i)) 0 len (λ i low high. ap (λ t. has_page (cell_by t (page_at [] i))) (unmarked i)))
 
 pub none_paged : (a b : ℕ) → 0 ≡ count_by (λ i. is_some (page_at [] i)) (range_with_len a (b - a))
 none_paged a b = sym (count_outside (λ i. is_some (page_at [] i)) a (b - a) (λ i low high. refl))

@@ -13,11 +13,11 @@ use Rattle.std.proofs.lemmas.List.Sums.{count_by-le-length}
 use Rattle.hp_model.proofs.Counting.{alike_in, count_cons, count_not, count_split, count_outside}
 use Rattle.hp_model.proofs.Ranges.{within-true, within-below, within-past}
 use Rattle.hp_model.specs.beside.Ranges.{within}
-use Rattle.hp_inode.specs.Blocks.{WordBlocks, RowBlocks, AreBlocks, block_at, entered_at, has_place, page_at, has_slot_at, entered_count, missing_count, IsRowTable}
+use Rattle.hp_inode.specs.Blocks.{WordBlocks, RowBlocks, AreBlocks, block_at, entered_at, has_word_for, page_at, has_slot_at, entered_count, missing_count, IsRowTable}
 use Rattle.hp_inode.specs.EntryBlock.{count_in, missing_in}
 use Rattle.hp_inode.specs.Later.{contents}
 use Rattle.hp_marks.specs.Marks.{marked}
-use Rattle.hp_inode.specs.Rows.{page_in, has_slot, IsTaken, TakesFirst, Rows}
+use Rattle.hp_inode.specs.Rows.{page_in, has_slot, IsPageTaken, TakesFirst, Rows}
 use Rattle.hp_inode.proofs.Removed.{parts_left}
 use Rattle.hp_marks.proofs.Words.{unmarked_past}
 
@@ -160,7 +160,7 @@ near_changed f stays old new a b le others here k = ⊎_elim
     (cases_lt k 65536)
 
 -- places up to the end of a part, by its last
-pub room_for : (words : WordBlocks) (at count : ℕ) → at % 65536 + count ≤ 65536 → 0 < count → has_place words (at + count - 1) ≡ true →
+pub room_for : (words : WordBlocks) (at count : ℕ) → at % 65536 + count ≤ 65536 → 0 < count → has_word_for words (at + count - 1) ≡ true →
     at % 65536 + count ≤ 64 * length (get_or words (at / 65536) [])
 room_for words at count fits some has =
     let block : (at + count - 1) / 65536 ≡ at / 65536 = omega (arith, fits, some) in
@@ -168,7 +168,7 @@ room_for words at count fits some has =
     omega (arith, some, place, ltb-true _ _ has, ap (λ q. length (get_or words q [])) block)
 
 -- and of the first block
-pub near_room : (words : WordBlocks) (b : ℕ) → 0 < b → b ≤ 65536 → has_place words (b - 1) ≡ true → b ≤ 64 * length (get_or words 0 [])
+pub near_room : (words : WordBlocks) (b : ℕ) → 0 < b → b ≤ 65536 → has_word_for words (b - 1) ≡ true → b ≤ 64 * length (get_or words 0 [])
 near_room words b some le has = omega (arith, some, le, ltb-true _ _ has, ap (λ q. length (get_or words q [])) {x = (b - 1) / 65536} {y = 0} (omega (arith, some, le)))
 
 -- ---- how many
@@ -306,7 +306,7 @@ table_emptied old new low high i are here others was =
     }
 
 -- the first page of a block's indices is taken out
-module _ (old new : RowBlocks) (at from to i page : ℕ) (taken : IsTaken (page_in (get_or old at [])) (page_in (get_or new at [])) from to i page)
+module _ (old new : RowBlocks) (at from to i page : ℕ) (taken : IsPageTaken (page_in (get_or old at [])) (page_in (get_or new at [])) from to i page)
     (are : AreBlocks old) (others : KeepsOthers old new at) where
   pub index_within : i < 65536
   index_within = ⊎_elim
@@ -330,7 +330,7 @@ module _ (old new : RowBlocks) (at from to i page : ℕ) (taken : IsTaken (page_
 
   -- it is the first of all from a on
   pub taken_at : (a b : ℕ) → a ≤ at * 65536 + from → to ≡ b - at * 65536 → ((k : ℕ) → a ≤ k → k < at * 65536 + from → k < b → page_at old k ≡ None) →
-      IsTaken (page_at old) (page_at new) a b (at * 65536 + i) page
+      IsPageTaken (page_at old) (page_at new) a b (at * 65536 + i) page
   taken_at a b low to_is before = record {
     first = record {
       from = omega (arith, low, taken.first.from);
@@ -382,7 +382,7 @@ module _ (old new : RowBlocks) (only : length old ≡ 1) (are : AreBlocks old) (
       (cases_lt k 65536)
   taken_only (Some p) taken =
       let same : 0 * 65536 + p.0 ≡ p.0 = omega arith in
-      subst (λ i. IsTaken (page_at old) (page_at new) a b i p.1) same
+      subst (λ i. IsPageTaken (page_at old) (page_at new) a b i p.1) same
       (taken_at old new 0 a b p.0 p.1 taken are others a b (omega arith) (omega arith) (λ k above early. absurd (omega (arith, above, early))))
 
 -- a block changes, with the pages that it had

@@ -14,10 +14,10 @@ use Rattle.hp_model.specs.declared.cell.Cell.{Cell}
 use Rattle.hp_model.specs.declared.cell.Cell.TheVariants.{Hole, Entered}
 use Rattle.hp_model.specs.files.File.{is_entered, is_hole, has_page, page_of, cell_in, cells_to}
 use Rattle.hp_model.specs.Lists.{part}
-use Rattle.hp_inode.specs.Kept.{cell_by, cell_of, cells_of, IsKept}
+use Rattle.hp_inode.specs.Kept.{cell_by, kept_cell, cells_of, IsKept}
 
 pub length-cells : (len : ℕ) (s : WordBlocks) (rows : RowBlocks) → length (cells_of len s rows) ≡ len
-length-cells len s rows = length-map-range_with_len (cell_of s rows) 0 len
+length-cells len s rows = length-map-range_with_len (kept_cell s rows) 0 len
 
 hole_by : (b : Bool) (o : Option ℕ) → b ≡ false → cell_by b o ≡ Hole
 hole_by true o e = absurd (true≢false e)
@@ -27,9 +27,9 @@ module _ (len m : ℕ) (e : WordBlocks) (rows : RowBlocks) (kept : IsKept len m 
   outside : (i : ℕ) → len ≤ i → entered_at e i ≡ false
   outside i le = ⊎_elim (λ (h : entered_at e i ≡ true). absurd (omega (arith, kept.below i h))) (λ h. h) (cases_Bool (entered_at e i))
 
-  pub cell_in-cells : (i : ℕ) → cell_in (cells_of len e rows) i ≡ cell_of e rows i
+  pub cell_in-cells : (i : ℕ) → cell_in (cells_of len e rows) i ≡ kept_cell e rows i
   cell_in-cells i = ⊎_elim
-      (λ (lt : i < len). get_or-map-range_with_len (cell_of e rows) 0 len i i Hole lt (omega arith))
+      (λ (lt : i < len). get_or-map-range_with_len (kept_cell e rows) 0 len i i Hole lt (omega arith))
       (λ (le : len ≤ i). get_or_past (cells_of len e rows) i Hole (omega (arith, length-cells len e rows)) ∙ sym (hole_by (entered_at e i) (page_at rows i) (outside i le)))
       (cases_lt i len)
 
@@ -65,15 +65,15 @@ module _ (len m : ℕ) (e : WordBlocks) (rows : RowBlocks) (kept : IsKept len m 
 
   -- the page of an entered index, changed
   module _ (i : ℕ) (o : Option ℕ) (new : RowBlocks) (in' : entered_at e i ≡ true) (here : page_at new i ≡ o) (others : (k : ℕ) → (k ≡ i → ⊥) → page_at new k ≡ page_at rows k) where
-    changed_at : (k : ℕ) → k < len → get_or (set (cells_of len e rows) i (cell_by true o)) k Hole ≡ cell_of e new k
+    changed_at : (k : ℕ) → k < len → get_or (set (cells_of len e rows) i (cell_by true o)) k Hole ≡ kept_cell e new k
     changed_at k lt = ⊎_elim
-        (λ (same : k ≡ i). subst (λ j. get_or (set (cells_of len e rows) i (cell_by true o)) j Hole ≡ cell_of e new j) (sym same)
+        (λ (same : k ≡ i). subst (λ j. get_or (set (cells_of len e rows) i (cell_by true o)) j Hole ≡ kept_cell e new j) (sym same)
         (get_or-set_same (cells_of len e rows) i (cell_by true o) Hole (omega (arith, kept.below i in', length-cells len e rows)) ∙ sym (rw (in', here) refl)))
         (λ (differs : k ≡ i → ⊥). get_or-set_other (cells_of len e rows) i k (cell_by true o) Hole differs ∙ cell_in-cells k ∙ ap (cell_by (entered_at e k)) (sym (others k differs)))
         (cases_eq k i)
 
     pub changed : cells_of len e new ≡ set (cells_of len e rows) i (cell_by true o)
-    changed = sym (fill_by_all (cell_of e new) (set (cells_of len e rows) i (cell_by true o)) len Hole (length-set (cells_of len e rows) i (cell_by true o) ∙ length-cells len e rows) changed_at)
+    changed = sym (fill_by_all (kept_cell e new) (set (cells_of len e rows) i (cell_by true o)) len Hole (length-set (cells_of len e rows) i (cell_by true o) ∙ length-cells len e rows) changed_at)
 
     pub changed_kept : ((k : ℕ) → has_slot_at new k ≡ has_slot_at rows k) → IsKept len m e new
     changed_kept slots = record {
@@ -93,7 +93,7 @@ same_count p n len below below' =
 -- cells by their places, at another length
 module _ (len m : ℕ) (e : WordBlocks) (rows : RowBlocks) (kept : IsKept len m e rows) where
   pub cells_by : (n : ℕ) (xs : List (Cell ℕ)) → length xs ≡ n → ((k : ℕ) → k < n → get_or xs k Hole ≡ cell_in (cells_of len e rows) k) → cells_of n e rows ≡ xs
-  cells_by n xs long each = sym (fill_by_all (cell_of e rows) xs n Hole long (λ k lt. each k lt ∙ cell_in-cells len m e rows kept k))
+  cells_by n xs long each = sym (fill_by_all (kept_cell e rows) xs n Hole long (λ k lt. each k lt ∙ cell_in-cells len m e rows kept k))
 
   module _ (n : ℕ) (holes : All (λ (cell : Cell ℕ). cell ≡ Hole) (drop n (cells_of len e rows))) where
     beyond : (i : ℕ) → entered_at e i ≡ true → i < n
@@ -137,17 +137,17 @@ module _ (len m : ℕ) (e : WordBlocks) (rows : RowBlocks) (kept : IsKept len m 
         )) resized_at
 
 -- a range of cells
-part_is : (len : ℕ) (s : WordBlocks) (rows : RowBlocks) (a b : ℕ) → b ≤ len → part a b (cells_of len s rows) ≡ map (cell_of s rows) (range_with_len a (b - a))
+part_is : (len : ℕ) (s : WordBlocks) (rows : RowBlocks) (a b : ℕ) → b ≤ len → part a b (cells_of len s rows) ≡ map (kept_cell s rows) (range_with_len a (b - a))
 part_is len s rows a b le = ext_get_or Hole _ _ long (λ i lt.
     get_or-take (b - a) (drop a (cells_of len s rows)) i Hole (omega (arith, lt, short)) ∙ get_or-drop a (cells_of len s rows) i Hole
-    ∙ get_or-map-range_with_len (cell_of s rows) 0 len (a + i) (a + i) Hole (omega (arith, lt, short)) (omega arith)
-    ∙ sym (get_or-map-range_with_len (cell_of s rows) a (b - a) i (a + i) Hole (omega (arith, lt, short)) refl))
+    ∙ get_or-map-range_with_len (kept_cell s rows) 0 len (a + i) (a + i) Hole (omega (arith, lt, short)) (omega arith)
+    ∙ sym (get_or-map-range_with_len (kept_cell s rows) a (b - a) i (a + i) Hole (omega (arith, lt, short)) refl))
   where
     short : length (part a b (cells_of len s rows)) ≡ b - a
     short = omega (arith, length-take (b - a) (drop a (cells_of len s rows)), length-drop a (cells_of len s rows), length-cells len s rows)
 
-    long : length (part a b (cells_of len s rows)) ≡ length (map (cell_of s rows) (range_with_len a (b - a)))
-    long = short ∙ sym (length-map-range_with_len (cell_of s rows) a (b - a))
+    long : length (part a b (cells_of len s rows)) ≡ length (map (kept_cell s rows) (range_with_len a (b - a)))
+    long = short ∙ sym (length-map-range_with_len (kept_cell s rows) a (b - a))
 
 hole_test : (b : Bool) (o : Option ℕ) → is_hole (cell_by b o) ≡ not b
 hole_test true None = refl
@@ -156,8 +156,8 @@ hole_test false o = refl
 
 pub missing_cells : (len : ℕ) (s : WordBlocks) (rows : RowBlocks) (a b : ℕ) → b ≤ len → missing_count s a b ≡ count_by is_hole (part a b (cells_of len s rows))
 missing_cells len s rows a b le =
-    sym (ap (count_by is_hole) (part_is len s rows a b le) ∙ count_map is_hole (cell_of s rows) (range_with_len a (b - a))
-    ∙ count_alike (λ i. is_hole (cell_of s rows i)) (λ i. not (entered_at s i)) (λ i. hole_test (entered_at s i) (page_at rows i)) (range_with_len a (b - a)))
+    sym (ap (count_by is_hole) (part_is len s rows a b le) ∙ count_map is_hole (kept_cell s rows) (range_with_len a (b - a))
+    ∙ count_alike (λ i. is_hole (kept_cell s rows i)) (λ i. not (entered_at s i)) (λ i. hole_test (entered_at s i) (page_at rows i)) (range_with_len a (b - a)))
 
 entered_test : (b : Bool) (o : Option ℕ) → is_entered (cell_by b o) ≡ b
 entered_test true None = refl
@@ -166,14 +166,14 @@ entered_test false o = refl
 
 pub entered_cells : (len : ℕ) (s : WordBlocks) (rows : RowBlocks) (a b : ℕ) → b ≤ len → entered_count s a b ≡ count_by is_entered (part a b (cells_of len s rows))
 entered_cells len s rows a b le =
-    sym (ap (count_by is_entered) (part_is len s rows a b le) ∙ count_map is_entered (cell_of s rows) (range_with_len a (b - a))
-    ∙ count_alike (λ i. is_entered (cell_of s rows i)) (entered_at s) (λ i. entered_test (entered_at s i) (page_at rows i)) (range_with_len a (b - a)))
+    sym (ap (count_by is_entered) (part_is len s rows a b le) ∙ count_map is_entered (kept_cell s rows) (range_with_len a (b - a))
+    ∙ count_alike (λ i. is_entered (kept_cell s rows i)) (entered_at s) (λ i. entered_test (entered_at s i) (page_at rows i)) (range_with_len a (b - a)))
 
 pub paged_cells : (len m : ℕ) (e : WordBlocks) (rows : RowBlocks) → IsKept len m e rows → (a b : ℕ) → b ≤ len →
     count_by (λ i. is_some (page_at rows i)) (range_with_len a (b - a)) ≡ count_by has_page (part a b (cells_of len e rows))
 paged_cells len m e rows kept a b le =
-    sym (ap (count_by has_page) (part_is len e rows a b le) ∙ count_map has_page (cell_of e rows) (range_with_len a (b - a))
-    ∙ count_alike (λ i. has_page (cell_of e rows i)) (λ i. is_some (page_at rows i)) (λ i. has_page_by len m e rows kept (entered_at e i) (page_at rows i) (kept.paged i)) (range_with_len a (b - a)))
+    sym (ap (count_by has_page) (part_is len e rows a b le) ∙ count_map has_page (kept_cell e rows) (range_with_len a (b - a))
+    ∙ count_alike (λ i. has_page (kept_cell e rows i)) (λ i. is_some (page_at rows i)) (λ i. has_page_by len m e rows kept (entered_at e i) (page_at rows i) (kept.paged i)) (range_with_len a (b - a)))
 
 pub entered_in_all : (len m : ℕ) (e : WordBlocks) (rows : RowBlocks) → IsKept len m e rows → m ≡ count_by is_entered (cells_of len e rows)
 entered_in_all len m e rows kept =

@@ -14,7 +14,7 @@ use Rattle.hp_model.proofs.Counting.{count_alike, count_parted, count_within, al
 use Rattle.hp_model.proofs.Ranges.{within-in, within-true, within-below, within-past}
 use Rattle.hp_model.proofs.Editing.{length-edit_range, get_or-edit_below, get_or-edit_within, get_or-edit_past}
 use Rattle.hp_inode.specs.Blocks.{WordBlocks, entered_count, entered_at, RowBlocks, page_at}
-use Rattle.hp_inode.specs.Kept.{cell_by, cell_of, cells_of, IsKept}
+use Rattle.hp_inode.specs.Kept.{cell_by, kept_cell, cells_of, IsKept}
 use Rattle.hp_inode.proofs.CellFacts.{length-cells, cell_in-cells, has_page_cell}
 
 and_right_true : (p w : Bool) → w ≡ true → (p && w) ≡ p
@@ -35,7 +35,7 @@ pub part_cell : (xs : List (Cell ℕ)) (a b j : ℕ) → j < b - a → get_or (p
 part_cell xs a b j lt = get_or-take (b - a) (drop a xs) j Hole lt ∙ get_or-drop a xs j Hole
 
 module _ (len m : ℕ) (e new : WordBlocks) (rows : RowBlocks) (a b : ℕ) (kept : IsKept len m e rows) (le : b ≤ len) (gone : (k : ℕ) → entered_at new k ≡ (entered_at e k && not (within a b k))) where
-  here : (k : ℕ) → cell_of new rows k ≡ cell_by (entered_at e k && not (within a b k)) (page_at rows k)
+  here : (k : ℕ) → kept_cell new rows k ≡ cell_by (entered_at e k && not (within a b k)) (page_at rows k)
   here k = ap (λ t. cell_by t (page_at rows k)) (gone k)
 
   in_by : (x w : Bool) (o : Option ℕ) → w ≡ true → cell_by (x && not w) o ≡ Hole
@@ -46,7 +46,7 @@ module _ (len m : ℕ) (e new : WordBlocks) (rows : RowBlocks) (a b : ℕ) (kept
   out_by true w o is = rw is refl
   out_by false w o is = refl
 
-  untouched : (k : ℕ) → within a b k ≡ false → cell_of new rows k ≡ cell_in (cells_of len e rows) k
+  untouched : (k : ℕ) → within a b k ≡ false → kept_cell new rows k ≡ cell_in (cells_of len e rows) k
   untouched k out = here k ∙ out_by (entered_at e k) (within a b k) (page_at rows k) out ∙ sym (cell_in-cells len m e rows kept k)
 
   pub dropped_cells : cells_of len new rows ≡ edit_range (λ cell. Hole) a b (cells_of len e rows)
@@ -54,7 +54,7 @@ module _ (len m : ℕ) (e new : WordBlocks) (rows : RowBlocks) (a b : ℕ) (kept
       let xs = cells_of len e rows in
       let long = length-cells len e rows in
       let f : Cell ℕ → Cell ℕ = λ cell. Hole in
-      sym (fill_by_all (cell_of new rows) (edit_range f a b xs) len Hole (length-edit_range f a b xs ∙ long) (λ k lt.
+      sym (fill_by_all (kept_cell new rows) (edit_range f a b xs) len Hole (length-edit_range f a b xs ∙ long) (λ k lt.
       ⊎_elim (λ (below : k < a). get_or-edit_below f a b xs k Hole below (omega (arith, lt, long)) ∙ sym (untouched k (within-below a b k below)))
       (λ (from : a ≤ k). ⊎_elim
       (λ (high : k < b). get_or-edit_within f a b xs k Hole from high (omega (arith, le, long)) ∙ sym (here k ∙ in_by (entered_at e k) (within a b k) (page_at rows k) (within-true a b k from high)))

@@ -6,7 +6,7 @@ use Rattle.std.proofs.Math.ListN.{get_or-map as get_or-mapped}
 use Rattle.std.proofs.lemmas.Bool.{cases_eq, cases_lt, false≢true, lt-ltb}
 use Rattle.std.proofs.lemmas.List.{ext_get_or, get_or-map, get_or-set_same, get_or-set_other, get_or_past, get_or_read, length-map, length-set, map-set, set-get_or}
 use Rattle.std.proofs.lemmas.List.Sums.{count_by-le-length, sum_by-set}
-use Rattle.hp_inode.specs.Later.{AreLater, blocks_in, contents, made_count, numbered}
+use Rattle.hp_inode.specs.Later.{AreLater, blocks_in, contents, made_count, nth_block}
 
 -- the numbers are as they were
 pub numbers_alike : (old new : List ℕ) (count : ℕ) → length new < 65536 → ((j : ℕ) → get_or new j 0 ≡ get_or old j 0) → made_count new ≡ made_count old →
@@ -57,10 +57,10 @@ module _ (places : List ℕ) (at count : ℕ) (lt : at < length places) (none : 
 -- ---- the blocks at the places
 
 module _ {X : Type 0} where
-  at_place : (places : List ℕ) (made : List X) (j : ℕ) → get_or (blocks_in places made) j None ≡ numbered made (get_or places j 0)
-  at_place places made j = get_or-mapped (numbered made) places j 0
+  at_place : (places : List ℕ) (made : List X) (j : ℕ) → get_or (blocks_in places made) j None ≡ nth_block made (get_or places j 0)
+  at_place places made j = get_or-mapped (nth_block made) places j 0
 
-  content_at : (places : List ℕ) (made : List X) (j : ℕ) (empty : X) → get_or (contents empty (blocks_in places made)) j empty ≡ unwrap_or (numbered made (get_or places j 0)) empty
+  content_at : (places : List ℕ) (made : List X) (j : ℕ) (empty : X) → get_or (contents empty (blocks_in places made)) j empty ≡ unwrap_or (nth_block made (get_or places j 0)) empty
   content_at places made j empty = get_or-mapped (λ block. unwrap_or block empty) (blocks_in places made) j None ∙ ap (λ b. unwrap_or b empty) (at_place places made j)
 
   -- other places with the same numbers
@@ -68,7 +68,7 @@ module _ {X : Type 0} where
       (j : ℕ) → get_or (contents empty (Some first ∷ blocks_in new kept)) j empty ≡ get_or (contents empty (Some first ∷ blocks_in old made)) j empty
   places_alike first old new made kept empty is same zero = refl
   places_alike first old new made kept empty is same (suc j) =
-      content_at new kept j empty ∙ ap (λ b. unwrap_or b empty) (ap (λ bs. numbered bs (get_or new j 0)) is ∙ ap (numbered made) (same j)) ∙ sym (content_at old made j empty)
+      content_at new kept j empty ∙ ap (λ b. unwrap_or b empty) (ap (λ bs. nth_block bs (get_or new j 0)) is ∙ ap (nth_block made) (same j)) ∙ sym (content_at old made j empty)
 
   later_there : (first : X) (blocks : List (Option X)) (at : ℕ) → 0 < at → get_or (Some first ∷ blocks) at None ≡ get_or blocks (at - 1) None
   later_there first blocks at later = ap (λ i. get_or (Some first ∷ blocks) i None) {x = at} {y = suc (at - 1)} (omega (arith, later))
@@ -83,7 +83,7 @@ module _ {X : Type 0} where
       IsSome (get_or (Some first ∷ blocks_in places made) at None)
   has_number first places made at later are some =
       let is : get_or places (at - 1) 0 ≡ suc (get_or places (at - 1) 0 - 1) = omega (arith, some) in
-      subst (λ (block : Option X). IsSome block) (sym (later_there first (blocks_in places made) at later ∙ at_place places made (at - 1) ∙ ap (numbered made) is))
+      subst (λ (block : Option X). IsSome block) (sym (later_there first (blocks_in places made) at later ∙ at_place places made (at - 1) ∙ ap (nth_block made) is))
       (some_within made (get_or places (at - 1) 0 - 1) (omega (arith, is, are.within (at - 1))))
 
   -- a block comes with nothing in it, at a place that had none
@@ -98,14 +98,14 @@ module _ {X : Type 0} where
     pushed_last [] = refl
     pushed_last (x ∷ xs) = pushed_last xs
 
-    older : (n : ℕ) → n ≤ length made → numbered pushed n ≡ numbered made n
+    older : (n : ℕ) → n ≤ length made → nth_block pushed n ≡ nth_block made n
     older zero within = refl
     older (suc n) within = ap (λ (xs : List X). get_or (map Some xs) n None) is_pushed ∙ pushed_of made n (omega (arith, within))
 
     module _ (count : ℕ) (is_count : count ≡ suc (length made)) where
       set_there : get_or (blocks_in (set places (at - 1) count) pushed) (at - 1) None ≡ Some empty
       set_there = at_place (set places (at - 1) count) pushed (at - 1)
-          ∙ ap (numbered pushed) (get_or-set_same places (at - 1) count 0 lt ∙ is_count)
+          ∙ ap (nth_block pushed) (get_or-set_same places (at - 1) count 0 lt ∙ is_count)
           ∙ ap (λ (xs : List X). get_or (map Some xs) (length made) None) is_pushed ∙ pushed_last made
 
       pub made_there : IsSome (get_or (Some first ∷ blocks_in (set places (at - 1) count) pushed) at None)
@@ -116,21 +116,21 @@ module _ {X : Type 0} where
       made_alike zero = refl
       made_alike (suc j) = content_at (set places (at - 1) count) pushed j empty ∙ ⊎_elim
           (λ (same : j ≡ at - 1).
-          ap (λ i. unwrap_or (numbered pushed (get_or (set places (at - 1) count) i 0)) empty) same
+          ap (λ i. unwrap_or (nth_block pushed (get_or (set places (at - 1) count) i 0)) empty) same
           ∙ ap (λ b. unwrap_or b empty) (sym (at_place (set places (at - 1) count) pushed (at - 1)) ∙ set_there)
-          ∙ sym (ap (λ i. unwrap_or (numbered made (get_or places i 0)) empty) same ∙ ap (λ n. unwrap_or (numbered made n) empty) none))
-          (λ (differs : j ≢ at - 1). ap (λ b. unwrap_or b empty) (ap (numbered pushed) (get_or-set_other places (at - 1) j count 0 differs)
+          ∙ sym (ap (λ i. unwrap_or (nth_block made (get_or places i 0)) empty) same ∙ ap (λ n. unwrap_or (nth_block made n) empty) none))
+          (λ (differs : j ≢ at - 1). ap (λ b. unwrap_or b empty) (ap (nth_block pushed) (get_or-set_other places (at - 1) j count 0 differs)
           ∙ older (get_or places j 0) (are.within j)))
           (cases_eq j (at - 1)) ∙ sym (content_at places made j empty)
 
   -- a place with a number, counted from the first block
   module _ (first : X) (places : List ℕ) (made : List X) (at n : ℕ) (later : at ≡ 0 → ⊥) (are : AreLater places (length made))
       (some : IsSome (get_or (Some first ∷ blocks_in places made) at None)) (read : n ≡ get_or places (at - 1) n) where
-    there : get_or (Some first ∷ blocks_in places made) at None ≡ numbered made (get_or places (at - 1) 0)
+    there : get_or (Some first ∷ blocks_in places made) at None ≡ nth_block made (get_or places (at - 1) 0)
     there = later_there first (blocks_in places made) at (omega (arith, later)) ∙ at_place places made (at - 1)
 
     number_some : get_or places (at - 1) 0 ≢ 0
-    number_some none = false≢true (subst (λ (block : Option X). IsSome block) (there ∙ ap (numbered made) none) some)
+    number_some none = false≢true (subst (λ (block : Option X). IsSome block) (there ∙ ap (nth_block made) none) some)
 
     place_within : at - 1 < length places
     place_within = ⊎_elim
@@ -148,21 +148,21 @@ module _ {X : Type 0} where
     number_within = omega (arith, number_is, are.within (at - 1))
 
     pub block_was : (block : X) → block ≡ get_or made (n - 1) block → get_or (Some first ∷ blocks_in places made) at None ≡ Some block
-    block_was block is = there ∙ ap (numbered made) number_is ∙ get_or-map Some made (n - 1) block None number_within ∙ ap Some (sym is)
+    block_was block is = there ∙ ap (nth_block made) number_is ∙ get_or-map Some made (n - 1) block None number_within ∙ ap Some (sym is)
 
-    other_number : (w : X) (m : ℕ) → m ≢ suc (n - 1) → numbered (set made (n - 1) w) m ≡ numbered made m
+    other_number : (w : X) (m : ℕ) → m ≢ suc (n - 1) → nth_block (set made (n - 1) w) m ≡ nth_block made m
     other_number w zero differs = refl
     other_number w (suc m) differs = ap (λ xs. get_or xs m None) (map-set Some made (n - 1) w) ∙ get_or-set_other (map Some made) (n - 1) m (Some w) None (λ same. differs (ap suc same))
 
     set_later : (w : X) → blocks_in places (set made (n - 1) w) ≡ set (blocks_in places made) (at - 1) (Some w)
     set_later w = ext_get_or None (blocks_in places (set made (n - 1) w)) (set (blocks_in places made) (at - 1) (Some w))
-        (length-map places (numbered (set made (n - 1) w)) ∙ sym (length-set (blocks_in places made) (at - 1) (Some w) ∙ length-map places (numbered made)))
+        (length-map places (nth_block (set made (n - 1) w)) ∙ sym (length-set (blocks_in places made) (at - 1) (Some w) ∙ length-map places (nth_block made)))
         (λ j lt. at_place places (set made (n - 1) w) j ∙ ⊎_elim
         (λ (same : j ≡ at - 1).
-        ap (λ i. numbered (set made (n - 1) w) (get_or places i 0)) same ∙ ap (numbered (set made (n - 1) w)) number_is
+        ap (λ i. nth_block (set made (n - 1) w) (get_or places i 0)) same ∙ ap (nth_block (set made (n - 1) w)) number_is
         ∙ ap (λ xs. get_or xs (n - 1) None) (map-set Some made (n - 1) w) ∙ get_or-set_same (map Some made) (n - 1) (Some w) None (omega (arith, number_within, length-map {B = Option X} made Some))
         ∙ sym (ap (λ i. get_or (set (blocks_in places made) (at - 1) (Some w)) i None) same
-        ∙ get_or-set_same (blocks_in places made) (at - 1) (Some w) None (omega (arith, place_within, length-map places (numbered made)))))
+        ∙ get_or-set_same (blocks_in places made) (at - 1) (Some w) None (omega (arith, place_within, length-map places (nth_block made)))))
         (λ (differs : j ≢ at - 1).
         other_number w (get_or places j 0) (λ same. differs (are.apart j (at - 1) (same ∙ sym number_is) (λ none. absurd (omega (arith, none, same)))))
         ∙ sym (get_or-set_other (blocks_in places made) (at - 1) j (Some w) None differs ∙ at_place places made j))

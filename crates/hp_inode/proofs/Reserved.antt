@@ -12,7 +12,7 @@ use Rattle.hp_model.proofs.Editing.{length-edit_range, get_or-edit_below, get_or
 use Rattle.hp_model.specs.declared.cell.Cell.TheVariants.{Hole}
 use Rattle.hp_model.specs.files.File.{entered, cell_in}
 use Rattle.hp_model.specs.Lists.{edit_range}
-use Rattle.hp_inode.specs.Kept.{cell_by, cell_of, cells_of, IsKept}
+use Rattle.hp_inode.specs.Kept.{cell_by, kept_cell, cells_of, IsKept}
 use Rattle.hp_inode.proofs.CellFacts.{length-cells, cell_in-cells}
 
 in_range : (a b i : ℕ) (t : Bool) → (within a b i && t) ≡ true → (a ≤ i) × (i < b)
@@ -66,18 +66,19 @@ module _ (len m : ℕ) (e new : WordBlocks) (rows made : RowBlocks) (a b : ℕ) 
   same_by true w o e = refl
   same_by false w o e = rw e refl
 
-  here : (k : ℕ) → cell_of new made k ≡ cell_by (entered_at e k || within a b k) (page_at rows k)
+  here : (k : ℕ) → kept_cell new made k ≡ cell_by (entered_at e k || within a b k) (page_at rows k)
   here k = ap (λ t. cell_by t (page_at made k)) (holds_new k) ∙ ap (cell_by (entered_at e k || within a b k)) (pages k)
 
   -- where the range has the index, and where it doesn't
-  touched : (k : ℕ) → a ≤ k → k < b → cell_of new made k ≡ entered (cell_in (cells_of len e rows) k)
+  touched : (k : ℕ) → a ≤ k → k < b → kept_cell new made k ≡ entered (cell_in (cells_of len e rows) k)
   touched k low high = here k ∙ entered_by (entered_at e k) (within a b k) (page_at rows k) (kept.paged k) (within-true a b k low high) ∙ ap entered (sym (cell_in-cells len m e rows kept k))
 
-  untouched : (k : ℕ) → within a b k ≡ false → cell_of new made k ≡ cell_in (cells_of len e rows) k
+  untouched : (k : ℕ) → within a b k ≡ false → kept_cell new made k ≡ cell_in (cells_of len e rows) k
   untouched k out = here k ∙ same_by (entered_at e k) (within a b k) (page_at rows k) out ∙ sym (cell_in-cells len m e rows kept k)
 
   pub reserved_cells : cells_of len new made ≡ edit_range entered a b (cells_of len e rows)
-  reserved_cells = sym (fill_by_all (cell_of new made) (edit_range entered a b (cells_of len e rows)) len Hole (length-edit_range entered a b (cells_of len e rows) ∙ length-cells len e rows) (λ k lt.
+  reserved_cells = sym (fill_by_all (kept_cell new made) (edit_range entered a b (cells_of len e rows)) len Hole (length-edit_range entered a b (cells_of len e rows) ∙ length-cells len e rows)
+      (λ k lt.
       let long = length-cells len e rows in
       ⊎_elim (λ (below : k < a). get_or-edit_below entered a b (cells_of len e rows) k Hole below (omega (arith, lt, long)) ∙ sym (untouched k (within-below a b k below)))
       (λ (from : a ≤ k). ⊎_elim

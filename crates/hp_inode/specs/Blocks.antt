@@ -28,8 +28,8 @@ RowBlocks = List Rows
 abbrev pub entered_at : WordBlocks → ℕ → Bool
 entered_at words i = marked (block_at words i) (i % block_size)
 
-abbrev pub has_place : WordBlocks → ℕ → Bool
-has_place words i = nat_lt (i % block_size) (64 * length (block_at words i))
+abbrev pub has_word_for : WordBlocks → ℕ → Bool
+has_word_for words i = nat_lt (i % block_size) (64 * length (block_at words i))
 
 abbrev pub page_at : RowBlocks → ℕ → Option ℕ
 page_at rows i = page_in (block_at rows i) (i % block_size)

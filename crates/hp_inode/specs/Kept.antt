@@ -10,11 +10,11 @@ cell_by true None = Entered
 cell_by true (Some page) = Present page
 cell_by false page = Hole
 
-abbrev pub cell_of : WordBlocks → RowBlocks → ℕ → Cell ℕ
-cell_of s rows i = cell_by (entered_at s i) (page_at rows i)
+abbrev pub kept_cell : WordBlocks → RowBlocks → ℕ → Cell ℕ
+kept_cell s rows i = cell_by (entered_at s i) (page_at rows i)
 
 abbrev pub cells_of : ℕ → WordBlocks → RowBlocks → List (Cell ℕ)
-cells_of len s rows = map (cell_of s rows) (range_with_len 0 len)
+cells_of len s rows = map (kept_cell s rows) (range_with_len 0 len)
 
 -- entered only below the length, and so many; a page and a slot as the entries say
 pub record IsKept (len count : ℕ) (entries : WordBlocks) (rows : RowBlocks) : Type 0 where

@@ -8,11 +8,11 @@ use Rattle.std.specs.Option.{unwrap_or}
 use Rattle.hp_inode.specs.Blocks.{most_blocks}
 
 -- the block of a number, of which 0 is none
-abbrev pub numbered : {X : Type 0} → List X → ℕ → Option X
-numbered made n = slice_index_or (None ∷ map Some made) n None
+abbrev pub nth_block : {X : Type 0} → List X → ℕ → Option X
+nth_block made n = slice_index_or (None ∷ map Some made) n None
 
 abbrev pub blocks_in : {X : Type 0} → List ℕ → List X → List (Option X)
-blocks_in places made = map (numbered made) places
+blocks_in places made = map (nth_block made) places
 
 abbrev pub contents : {X : Type 0} → X → List (Option X) → List X
 contents empty blocks = map (λ block. unwrap_or block empty) blocks

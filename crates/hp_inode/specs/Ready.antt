@@ -4,7 +4,7 @@ use Rattle.std.specs.List.{count_by}
 use Rattle.hp_model.specs.declared.cell.Cell.{Cell}
 use Rattle.hp_model.specs.files.File.{has_page}
 use Rattle.hp_inode.specs.Kept.{IsKept, cells_of}
-use Rattle.hp_inode.specs.Blocks.{WordBlocks, RowBlocks, has_slot_at, has_place}
+use Rattle.hp_inode.specs.Blocks.{WordBlocks, RowBlocks, has_slot_at, has_word_for}
 
 -- a file's cells, and the range that can be entered with no memory
 pub record Ready : Type 0 where
@@ -18,4 +18,4 @@ pub record IsReady (len count pages : ℕ) (entries : WordBlocks) (rows : RowBlo
   pub paged : pages ≡ count_by has_page (cells_of len entries rows)
   pub small : b < 2 ^ 32
   pub slots : (k : ℕ) → a ≤ k → k < b → has_slot_at rows k ≡ true
-  pub room : (k : ℕ) → a ≤ k → k < b → has_place entries k ≡ true
+  pub room : (k : ℕ) → a ≤ k → k < b → has_word_for entries k ≡ true

@@ -33,7 +33,7 @@ pub record IsFirstPage (pages : ℕ → Option ℕ) (a i : ℕ) : Type 0 where
   pub none_before : (k : ℕ) → a ≤ k → k < i → pages k ≡ None
 
 -- the first page of the indices from a up to b, at index i, is gone, and all others stay
-pub record IsTaken (old new : ℕ → Option ℕ) (a b i page : ℕ) : Type 0 where
+pub record IsPageTaken (old new : ℕ → Option ℕ) (a b i page : ℕ) : Type 0 where
   pub first : IsFirstPage old a i
   pub below : i < b
   pub was : old i ≡ Some page
@@ -66,4 +66,4 @@ FindsPage rows a found = MatchOption found ((k : ℕ) → a ≤ k → page_in ro
 
 -- an index with its page, of those from a up to b, or none where none has one
 abbrev pub TakesFirst : (ℕ → Option ℕ) → (ℕ → Option ℕ) → ℕ → ℕ → Option (ℕ × ℕ) → Type 0
-TakesFirst old new a b taken = MatchOption taken ((k : ℕ) → a ≤ k → k < b → old k ≡ None) (λ p. IsTaken old new a b p.0 p.1)
+TakesFirst old new a b taken = MatchOption taken ((k : ℕ) → a ≤ k → k < b → old k ≡ None) (λ p. IsPageTaken old new a b p.0 p.1)

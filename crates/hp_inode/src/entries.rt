@@ -2,7 +2,7 @@
 ghost use Rattle.std.specs.Prelude.{ℕ, ◌≡◌, ◌≢◌, ◌+◌, ◌*◌, ◌<◌, ◌≤◌, ◌^◌, ◌&&◌, ◌||◌, [], length, not, true, false, IfOk, IsTrue, OnOk, OnErr, MatchOption};
 ghost use Rattle.std.specs.List.{slice_index_or};
 ghost use Rattle.hp_model.specs.beside.Ranges.{within};
-ghost use Rattle.hp_inode.specs.Blocks.{block_size, most_blocks, entered_at, has_place, entered_count, missing_count};
+ghost use Rattle.hp_inode.specs.Blocks.{block_size, most_blocks, entered_at, has_word_for, entered_count, missing_count};
 ghost use Rattle.hp_inode.specs.EntryBlock.{count_in, missing_in};
 ghost use Rattle.hp_marks.specs.Marks.{marked};
 
@@ -118,7 +118,7 @@ impl Entries {
     /// Makes room for the indices from `a` up to `b`. For none it takes no memory.
     pub fn make_room(&mut self, a: u64, b: u64) -> Result<(), AllocError>
         requires { b < 2 ^ 32 }
-        ensures ok { OnOk result ((k : ℕ) → a ≤ k → k < b → has_place self.new k ≡ true) }
+        ensures ok { OnOk result ((k : ℕ) → a ≤ k → k < b → has_word_for self.new k ≡ true) }
         ensures same { (k : ℕ) → entered_at self.new k ≡ entered_at self.old k }
     {
         if b <= BLOCK {
@@ -151,7 +151,7 @@ impl Entries {
 
     /// Puts the indices from `a` up to `b` in.
     pub fn add(&mut self, a: u64, b: u64)
-        requires { (k : ℕ) → a ≤ k → k < b → has_place self.old k ≡ true }
+        requires { (k : ℕ) → a ≤ k → k < b → has_word_for self.old k ≡ true }
         ensures { (k : ℕ) → entered_at self.new k ≡ (entered_at self.old k || within a b k) }
     {
         if b <= BLOCK {

@@ -39,9 +39,9 @@ taken_at n (TakePage home) a = if a.node == n then 1 else 0
 taken_at n (FillPages pages count) a = if a.granted then count_by (λ k. k == n) (rising_nodes count a.pages) else 0
 taken_at n other a = 0
 
-abbrev pub put_at : ℕ → Section → ℕ
-put_at n (GiveBack puts pages) = slice_index_or puts n 0
-put_at n other = 0
+abbrev pub given_at : ℕ → Section → ℕ
+given_at n (GiveBack puts pages) = slice_index_or puts n 0
+given_at n other = 0
 
 -- the usage doesn't rise, or ends within the limit
 abbrev pub IsLimited : Slot → Slot → Type 0
@@ -58,7 +58,7 @@ pub record Change (old new : Slot) (raised lowered : ℕ) (taken put : ℕ → �
   pub limited : IsLimited old new
 
 abbrev pub Moves : Slot → Section → PoolAnswer → Slot → Type 0
-Moves old s a new = Change old new (raised_by s a) (lowered_by s a) (λ n. taken_at n s a) (λ n. put_at n s) (takes s a)
+Moves old s a new = Change old new (raised_by s a) (lowered_by s a) (λ n. taken_at n s a) (λ n. given_at n s) (takes s a)
 
 abbrev pub Stays : Slot → Slot → Type 0
 Stays old new = Change old new 0 0 (λ n. 0) (λ n. 0) 0

@@ -4,7 +4,7 @@ use Rattle.hp_model.specs.declared.entry.PoolEntry.{PoolEntry}
 use Rattle.hp_model.specs.declared.entry.PoolEntry.TheVariants.{OfSlot}
 use Rattle.hp_model.specs.declared.section.PoolAnswer.{PoolAnswer}
 use Rattle.hp_model.specs.declared.section.Section.{Section}
-use Rattle.hp_model.specs.pool.Pool.{puts_from, released, section, settled}
+use Rattle.hp_model.specs.pool.Pool.{puts_from, released, section, trimmed}
 use Rattle.hp_model.specs.pool.PoolCounts.{Pool}
 use Rattle.hp_model.specs.threads.PoolRun.{IsPoolRun, IsPoolStep}
 use Rattle.hp_model.specs.machine.Settled.{IsSettledPool}
@@ -22,7 +22,7 @@ use Rattle.hp_model.specs.pool.Pool.{granted_at, no_pages}
 use Rattle.hp_subpool.specs.Subpool.{Subpool}
 use Rattle.std.specs.Bool.{MatchBool}
 use Rattle.hp_trail.specs.Keeping.{has_room, one_less, with_entry}
-use Rattle.hp_locked.specs.Views.{IsFresh, Asks, HasPlaces, IsAnswered, CoreView, IsCore, IsGiven, IsPlace, IsPoolTrail, IsSeated, IsTrailOf}
+use Rattle.hp_locked.specs.Views.{IsNewTrail, HasAsked, HasPlaces, IsAnswered, CoreView, IsCore, IsGiven, IsPlace, IsPoolTrail, IsSeated, IsTrailOf}
 use Rattle.atomic_table.specs.Seated.{TableId}
 use Rattle.hp_history.specs.declared.held.Held.{Held}
 use Rattle.hp_history.specs.declared.held.Held.TheVariants.{Pool as PoolPart}
@@ -38,7 +38,7 @@ use Rattle.hp_model.specs.declared.answer.Answer.TheVariants.{Number}
 use Rattle.hp_model.specs.declared.event.PoolEvent.TheVariants.{Nr}
 
 pub fresh_core : (fs : List ℕ) (o : Option (List PoolEntry)) (left : Option ℕ) (extra : ℕ) (p : Pool) → p ≡ idle_pool fs → IsReady p →
-    (IsSettled p → IsSettledPool p) → IsFresh o → 2 * frames_of (idle_pool fs).nodes.rows ≤ extra
+    (IsSettled p → IsSettledPool p) → IsNewTrail o → 2 * frames_of (idle_pool fs).nodes.rows ≤ extra
     → IsCore (idle_pool fs) o left extra p
 fresh_core fs o left extra p is ready law fresh enough = record {
   trail = starts o fresh;
@@ -49,7 +49,7 @@ fresh_core fs o left extra p is ready law fresh enough = record {
   places = none left (ap to_return is ∙ nothing);
 }
   where
-    starts : (o : Option (List PoolEntry)) → IsFresh o → IsPoolTrail (idle_pool fs) o p
+    starts : (o : Option (List PoolEntry)) → IsNewTrail o → IsPoolTrail (idle_pool fs) o p
     starts None fresh = tt
     starts (Some es) fresh = subst (λ (xs : List PoolEntry). IsPoolRun (idle_pool fs) xs p) (sym fresh) (sym is)
 
@@ -152,7 +152,7 @@ module _ {X : Type 0} (E : X → Option (List PoolEntry)) (L : X → Option ℕ)
   Unnoted n = (new ≡ old) × (n ≡ 0) × (after ≡ before)
 
   -- the section as it is said of the pool
-  gave : (a : Asked) → q ≡ settled (released k (puts_from 0 puts p)) → Noted puts k a → section p a.section ≡ (a.answer, q)
+  gave : (a : Asked) → q ≡ trimmed (released k (puts_from 0 puts p)) → Noted puts k a → section p a.section ≡ (a.answer, q)
   gave a moved n = ap (section p) n.0 ∙ ap (λ (x : Pool). (granted_at 0, x)) (sym moved) ∙ ap (λ x. (x, q)) (sym n.1)
 
   noted_as : (counts : List ℕ) (m : ℕ) (t : Option Asked) → counts ≡ puts → m ≡ k → IfSome t (λ a. Noted counts m a) → IfSome t (λ a. Noted puts k a)
@@ -161,7 +161,7 @@ module _ {X : Type 0} (E : X → Option (List PoolEntry)) (L : X → Option ℕ)
   none_as : (counts : List ℕ) (m : ℕ) (t : Option Asked) → counts ≡ puts → m ≡ k → IfNone t (Unnoted (sum counts + m)) → IfNone t (Unnoted (sum puts + k))
   none_as counts m t same falls n = subst (λ (x : List ℕ). IfNone t (Unnoted (sum x + k))) same (subst (λ (x : ℕ). IfNone t (Unnoted (sum counts + x))) falls n)
 
-  keeps : (start : Pool) (t : Option Asked) → IsCore start (E old) (L old) (R old) p → q ≡ settled (released k (puts_from 0 puts p)) →
+  keeps : (start : Pool) (t : Option Asked) → IsCore start (E old) (L old) (R old) p → q ≡ trimmed (released k (puts_from 0 puts p)) →
       (sum puts + k ≡ 0 → q ≡ p) → IsReady q → (IsSettled q → IsSettledPool q)
       → (0 < sum puts + k → to_return q < to_return p)
       → IfSome t (λ a. Noted puts k a) → IfNone t (Unnoted (sum puts + k)) → IsCore start (E new) (L new) (R new) q
@@ -170,17 +170,17 @@ module _ {X : Type 0} (E : X → Option (List PoolEntry)) (L : X → Option ℕ)
   keeps start None core moved stays ready law less n none =
       subst (λ (x : Pool). IsCore start (E new) (L new) (R new) x) (sym (stays none.1)) (subst (λ (x : X). IsCore start (E x) (L x) (R x) p) (sym none.0) core)
 
-  is_given : (t : Option Asked) → q ≡ settled (released k (puts_from 0 puts p)) → (sum puts + k ≡ 0 → q ≡ p) → IfSome t (λ a. Noted puts k a) →
+  is_given : (t : Option Asked) → q ≡ trimmed (released k (puts_from 0 puts p)) → (sum puts + k ≡ 0 → q ≡ p) → IfSome t (λ a. Noted puts k a) →
       IfNone t (Unnoted (sum puts + k)) → IsGiven puts k (view p old before) (view q new after) t
   is_given (Some a) moved stays n none = (record { changes = gave a moved n; run = ap pool_in n.7; entries = n.3; place = n.2 }, n.0, n.1, n.4)
   is_given None moved stays n none = (ap (λ x. view x new after) (stays none.1) ∙ ap (λ x. view p x after) none.0 ∙ ap (view p old) none.2, none.1)
 
-  seats : (history : TableId) (start : Pool) (id id2 : TableId) (t : Option Asked) → IsSeated history start id before (E old) p → id2 ≡ history → q ≡ settled (released k (puts_from 0 puts p))
+  seats : (history : TableId) (start : Pool) (id id2 : TableId) (t : Option Asked) → IsSeated history start id before (E old) p → id2 ≡ history → q ≡ trimmed (released k (puts_from 0 puts p))
       → (sum puts + k ≡ 0 → q ≡ p) → IfSome t (λ a. Noted puts k a) → IfNone t (Unnoted (sum puts + k)) → IsSeated history start id2 after (E new) q
   seats history start id id2 (Some a) was named moved stays n none = seated_more history start id id2 before after (E old) (E new) p (OfSlot a.section a.answer) q was n.3 named n.7 (gave a moved n)
   seats history start id id2 None was named moved stays n none = seated_stays history start id id2 before after (E old) (E new) p q was (ap E none.0) named none.2 (stays none.1)
 
-  module _ (counts : List ℕ) (m : ℕ) (same : counts ≡ puts) (falls : m ≡ k) (moved : q ≡ settled (released k (puts_from 0 puts p)))
+  module _ (counts : List ℕ) (m : ℕ) (same : counts ≡ puts) (falls : m ≡ k) (moved : q ≡ trimmed (released k (puts_from 0 puts p)))
       (stays : sum puts + k ≡ 0 → q ≡ p) (t : Option Asked) (n : IfSome t (λ a. Noted counts m a))
       (none : IfNone t (Unnoted (sum counts + m))) where
     pub given_noted : (start : Pool) → IsCore start (E old) (L old) (R old) p → IsReady q → (IsSettled q → IsSettledPool q) →

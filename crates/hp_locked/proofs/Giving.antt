@@ -5,7 +5,7 @@ use Rattle.std.proofs.lemmas.Bool.{eq-eqb}
 use Rattle.std.proofs.lemmas.List.{length-append}
 use Rattle.std.proofs.lemmas.List.Sums.{sum_by-append, sum_by-cons}
 use Rattle.hp_model.specs.files.Page.{Page}
-use Rattle.hp_model.specs.pool.Pool.{puts_from, released, settled}
+use Rattle.hp_model.specs.pool.Pool.{puts_from, released, trimmed}
 use Rattle.hp_model.specs.pool.PoolCounts.{IsSettled, Pool, used as in_use}
 use Rattle.hp_model.specs.threads.Closing.{to_return}
 use Rattle.hp_model.proofs.RowMoves.{puts_are}
@@ -83,15 +83,15 @@ pages_for (a ∷ b ∷ c ∷ d ∷ e ∷ rest) l = absurd (omega (arith, l))
 -- ---- what they leave
 
 module _ (xs : List ℕ) (long : length xs ≡ 4) (p q : Pool) (k : ℕ) (ready : IsReady p) where
-  pub ready_after : IsSettled q → q ≡ settled (released k (puts_from 0 xs p)) → IsReady q
+  pub ready_after : IsSettled q → q ≡ trimmed (released k (puts_from 0 xs p)) → IsReady q
   ready_after is moved =
       let some = pages_for xs long in
-      settled_ready some.0 k p q ready is (subst (λ (ys : List ℕ). q ≡ settled (released k (puts_from 0 ys p))) (sym some.1) moved)
+      settled_ready some.0 k p q ready is (subst (λ (ys : List ℕ). q ≡ trimmed (released k (puts_from 0 ys p))) (sym some.1) moved)
 
-  pub same_after : q ≡ settled (released k (puts_from 0 xs p)) → sum xs + k ≡ 0 → q ≡ p
+  pub same_after : q ≡ trimmed (released k (puts_from 0 xs p)) → sum xs + k ≡ 0 → q ≡ p
   same_after moved none =
       let some = pages_for xs long in
-      let given = all_given some.0 k p q ready (subst (λ (ys : List ℕ). q ≡ settled (released k (puts_from 0 ys p))) (sym some.1) moved) in
+      let given = all_given some.0 k p q ready (subst (λ (ys : List ℕ). q ≡ trimmed (released k (puts_from 0 ys p))) (sym some.1) moved) in
       given.none (subst (λ (ys : List ℕ). sum ys + k ≡ 0) (sym some.1) none)
 
 module _ (xs : List ℕ) (long : length xs ≡ 4) (s next : Subpool) (base p left q : Pool) where
@@ -99,7 +99,7 @@ module _ (xs : List ℕ) (long : length xs ≡ 4) (s next : Subpool) (base p lef
   Put n ys = (next ≡ record s { pages = s.pages - n }) × (p ≡ released (fall s n) (puts_from 0 ys base))
 
   abbrev Both : ℕ → ℕ → List ℕ → Type 0
-  Both k n ys = Put n ys → n ≤ s.pages → left ≡ released (fall next k) p → q ≡ settled left → q ≡ settled (released (fall s (n + k)) (puts_from 0 ys base))
+  Both k n ys = Put n ys → n ≤ s.pages → left ≡ released (fall next k) p → q ≡ trimmed left → q ≡ trimmed (released (fall s (n + k)) (puts_from 0 ys base))
 
   pub both_moved : (k : ℕ) → Both k (sum xs) xs
   both_moved k =
@@ -108,8 +108,8 @@ module _ (xs : List ℕ) (long : length xs ≡ 4) (s next : Subpool) (base p lef
 
   abbrev Whole : (held : ℕ) → Subpool → Pool → ℕ → List ℕ → Type 0
   Whole held last closed n ys =
-      Put n ys → n ≡ s.pages → held ≡ used next → last ≡ record next { held = next.held - held } → left ≡ released (fall next held) p → closed ≡ released last.min left → q ≡ settled closed
-      → q ≡ settled (released (committed_of s) (puts_from 0 ys base))
+      Put n ys → n ≡ s.pages → held ≡ used next → last ≡ record next { held = next.held - held } → left ≡ released (fall next held) p → closed ≡ released last.min left → q ≡ trimmed closed
+      → q ≡ trimmed (released (committed_of s) (puts_from 0 ys base))
 
   pub all_moved : (held : ℕ) (last : Subpool) (closed : Pool) → Whole held last closed (sum xs) xs
   all_moved held last closed =
@@ -119,7 +119,7 @@ module _ (xs : List ℕ) (long : length xs ≡ 4) (s next : Subpool) (base p lef
 
 -- ---- less is left that could be given back
 
-pub lowers : (xs : List ℕ) (k : ℕ) (p q : Pool) → q ≡ settled (released k (puts_from 0 xs p)) → in_use q + sum xs ≡ in_use p →
+pub lowers : (xs : List ℕ) (k : ℕ) (p q : Pool) → q ≡ trimmed (released k (puts_from 0 xs p)) → in_use q + sum xs ≡ in_use p →
     (sum xs ≡ 0 → k ≤ p.committed) → 0 < sum xs + k → to_return q < to_return p
 lowers xs k p q is used covers some = go (sum xs) used covers some
   where

@@ -98,10 +98,10 @@ pub record DoorView : Type 0 where
   pub mine : List Held
 
 -- this section, so answered, at some place
-abbrev pub Asks : Option Asked → Section → PoolAnswer → Type 0
-Asks t s a = (place : ℕ) × (t ≡ Some (record { place = place; section = s; answer = a }))
+abbrev pub HasAsked : Option Asked → Section → PoolAnswer → Type 0
+HasAsked t s a = (place : ℕ) × (t ≡ Some (record { place = place; section = s; answer = a }))
 
 -- a trail with nothing in it yet
-abbrev pub IsFresh : {E : Type 0} → Option (List E) → Type 0
-IsFresh None = Unit {0}
-IsFresh (Some es) = es ≡ []
+abbrev pub IsNewTrail : {E : Type 0} → Option (List E) → Type 0
+IsNewTrail None = Unit {0}
+IsNewTrail (Some es) = es ≡ []

@@ -6,8 +6,8 @@ ghost use Rattle.hp_model.specs.declared.entry.Asked.{Asked as AskedValue};
 ghost use Rattle.hp_model.specs.declared.section.PoolAnswer.{PoolAnswer};
 ghost use Rattle.hp_model.specs.declared.section.Section.{Section};
 ghost use Rattle.hp_store.specs.Store.{page_at};
-ghost use Rattle.hp_locked.specs.Opened.{IsOpenedAt, shown};
-ghost use Rattle.hp_locked.specs.Views.{Asks};
+ghost use Rattle.hp_locked.specs.Opened.{IsOpenedAt, as_share};
+ghost use Rattle.hp_locked.specs.Views.{HasAsked};
 
 use crate::gate::Gate;
 use crate::nodes::NodeLocks;
@@ -103,10 +103,10 @@ impl<'a, N: Naming + Places, R: Wait, G: Gate, S: Notes, const K: usize> Door<'a
     ) -> Result<(Subpool<N>, Limits), Refusal>
         requires ready { self.old.asked ≡ None }
         requires bytes { 0 < page_bytes }
-        ensures { IsOpenedAt (λ d s a e. Asks e.asked s a
+        ensures { IsOpenedAt (λ d s a e. HasAsked e.asked s a
             × IsEntered (K == 1) d.mine e.asked e.mine)
             (λ d. (d.asked ≡ None) × ((K == 1) ≡ true)) page_bytes options.now
-            self.old self.new (shown (λ s. s) result) }
+            self.old self.new (as_share (λ s. s) result) }
     {
         let mine = &mut self.mine;
         let opened = self
@@ -162,7 +162,7 @@ impl<'a, N: Naming + Places, R: Wait, G: Gate, S: Notes, const K: usize> PoolDoo
 
     ghost is_ready = { λ d. d.asked ≡ None };
 
-    ghost took = { λ d s a e. Asks e.asked s a × IsEntered (K == 1) d.mine e.asked e.mine };
+    ghost took = { λ d s a e. HasAsked e.asked s a × IsEntered (K == 1) d.mine e.asked e.mine };
 
     ghost is_full = { λ d. (d.asked ≡ None) × ((K == 1) ≡ true) };
 
@@ -313,7 +313,7 @@ pub trait SessionDoor: PoolDoor {
         requires ready { Self.PoolDoor.is_ready self.old }
         requires bytes { 0 < page_bytes }
         ensures { IsOpenedAt Self.PoolDoor.took Self.PoolDoor.is_full page_bytes options.now
-            self.old self.new (shown Self.PoolDoor.share_of result) };
+            self.old self.new (as_share Self.PoolDoor.share_of result) };
 
     // a door that is ready was not used
     ghost begins: { (d : Self) → Self.PoolDoor.is_ready d → asked d ≡ None };
@@ -321,7 +321,7 @@ pub trait SessionDoor: PoolDoor {
     // its seat is then busy with the section
     ghost tells: { (d : Self) (s : Section) (a : PoolAnswer) (e : Self) →
         Self.PoolDoor.took d s a e
-        → Asks (asked e) s a × IsEntered keeps (mine d) (asked e) (mine e) };
+        → HasAsked (asked e) s a × IsEntered keeps (mine d) (asked e) (mine e) };
 }
 
 impl<'a, N: Naming + Places, R: Wait, G: Gate, S: Notes, const K: usize> SessionDoor

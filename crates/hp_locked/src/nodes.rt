@@ -3,7 +3,7 @@ ghost use Rattle.std.specs.Prelude.{◌≡◌, ◌+◌, ◌<◌, ◌≤◌, ◌^
 ghost use Rattle.std.specs.List.{sum};
 ghost use Rattle.hp_mount_door.specs.Door.{by_node};
 ghost use Rattle.hp_mount_door.specs.Filling.{AreRising, nodes_in};
-ghost use Rattle.hp_own_pool.specs.Parcel.{IsPart, amount_of};
+ghost use Rattle.hp_own_pool.specs.Parcel.{IsPart, claimed};
 
 use crate::gate::Gate;
 use hp_model::naming::Naming;
@@ -46,10 +46,10 @@ fn add_part_at<N: Naming, R: Wait, G: Gate, const K: usize>(
     batch: &mut PageBatch<N>,
 )
     requires part { IsPart K part }
-    requires room { amount_of part ≤ batch.old.room }
+    requires room { claimed part ≤ batch.old.room }
     ensures pages { nodes_in batch.new.pages
-        ≡ replicate (amount_of part) K ++ nodes_in batch.old.pages }
-    ensures room { batch.new.room + amount_of part ≡ batch.old.room }
+        ≡ replicate (claimed part) K ++ nodes_in batch.old.pages }
+    ensures room { batch.new.room + claimed part ≡ batch.old.room }
 {
     if let Some(claim) = part {
         let mut value = lock.lock(rt);

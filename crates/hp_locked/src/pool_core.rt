@@ -13,7 +13,7 @@ ghost use Rattle.hp_pool.specs.Sums.{idle_pool};
 ghost use Rattle.hp_subpool.specs.Subpool.{committed_of};
 ghost use Rattle.hp_trail.specs.Keeping.{has_room};
 ghost use Rattle.hp_locked.specs.Told.{IsPoolEventDone, pool_reply};
-ghost use Rattle.hp_locked.specs.Views.{IsFresh, IsPoolTrail, IsTrailOf, frames_list};
+ghost use Rattle.hp_locked.specs.Views.{IsNewTrail, IsPoolTrail, IsTrailOf, frames_list};
 
 mod giving;
 mod opening;
@@ -77,7 +77,7 @@ impl<N: Naming + Places, T: Trail<PoolEntry>> Core<N, T> {
     pub fn new(pool: Pool<N>, trail: T, seat: Token) -> Self
         requires start { pool ≡ idle_pool (frames_list N.frames) }
         requires ready { IsReady pool }
-        requires fresh { IsFresh (T.entries trail) }
+        requires fresh { IsNewTrail (T.entries trail) }
         requires enough { 2 * frames_of (idle_pool (frames_list N.frames)).nodes.rows
             ≤ T.extra trail }
         requires named { seat.table_id ≡ N.history }

@@ -12,7 +12,7 @@ use Rattle.hp_model.specs.declared.cell.Cell.TheVariants.{Hole, Entered, Present
 use Rattle.hp_model.specs.files.File.{with_cell, cell_at, cell_in, new_file}
 use Rattle.hp_model.specs.files.Page.{Page}
 use Rattle.hp_model.specs.files.Spot.{cell_written}
-use Rattle.hp_store.specs.Store.{Store, Holding, page_at, holders_of, first_held, written, inserted}
+use Rattle.hp_store.specs.Store.{Store, Holding, page_at, holders_of, first_held, written_in, inserted}
 use Rattle.hp_store.specs.Store as store
 use Rattle.hp_lookup.specs.Files.{file_at}
 use Rattle.hp_lookup.specs.Numbered.{NumberedFile, numbered_at, page_in, cell_shown, map_shown, file_shown, files_shown}
@@ -165,13 +165,13 @@ module _ (n : ℕ) (s : Store) (offset : ℕ) (bytes : List ℕ) (some : Holding
   t = store.overwritten n offset bytes s
 
   abbrev now : Holding
-  now = written offset bytes some
+  now = written_in offset bytes some
 
   pub now_is : page_at t n ≡ Some now
-  now_is = get_or-set_same s.pages n (option_map (written offset bytes) (page_at s n)) None within ∙ ap (option_map (written offset bytes)) is
+  now_is = get_or-set_same s.pages n (option_map (written_in offset bytes) (page_at s n)) None within ∙ ap (option_map (written_in offset bytes)) is
 
   pub write_agrees : Agree n s t
-  write_agrees k other = get_or-set_other s.pages n k (option_map (written offset bytes) (page_at s n)) None other
+  write_agrees k other = get_or-set_other s.pages n k (option_map (written_in offset bytes) (page_at s n)) None other
 
   pub write_holders : (m : ℕ) → holders_of (page_at t m) ≡ holders_of (page_at s m)
   write_holders m = ⊎_elim
@@ -190,9 +190,9 @@ module _ (n : ℕ) (s : Store) (offset : ℕ) (bytes : List ℕ) (some : Holding
 
   pub write_held : (more : ℕ) (fs : List NumberedFile) → IsHeld s more fs → IsHeld t more fs
   write_held more fs h =
-      let step = sum_by-set more_of s.pages n (option_map (written offset bytes) (page_at s n)) None within in
+      let step = sum_by-set more_of s.pages n (option_map (written_in offset bytes) (page_at s n)) None within in
       let was = ap more_of is in
-      let here = ap (λ o. more_of (option_map (written offset bytes) o)) is in
+      let here = ap (λ o. more_of (option_map (written_in offset bytes) o)) is in
       let same : more_in t.pages ≡ more_in s.pages = omega (arith, step, was, here) in
       record { held = λ m. write_holders m ∙ h.held m; some = write_some h.some; alone = h.alone; apart = h.apart; counted = h.counted ∙ sym same; parts = h.parts }
 

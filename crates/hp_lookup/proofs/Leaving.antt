@@ -15,7 +15,7 @@ use Rattle.hp_model.proofs.Counting.{count_alike, count_map}
 use Rattle.hp_store.specs.Store.{Store, holders_of, page_at}
 use Rattle.hp_lookup.specs.Dropping.{IsDropping, IsLeft}
 use Rattle.hp_lookup.specs.Held.{IsHeld, in_cell, in_cells, in_file, in_files, in_map, more_in}
-use Rattle.hp_lookup.specs.Hints.{AreNoted, IsFiles, IsMore, Noted, has_key, has_name as has_noted}
+use Rattle.hp_lookup.specs.Hints.{AreNoted, IsFiles, IsMore, Noted, has_key, is_noted_as as has_noted}
 use Rattle.hp_lookup.specs.Keyed.{Label, has_label, is_listed, is_name_of, key_of, keys_in, label_of, labels_of, maps_for}
 use Rattle.hp_lookup.specs.Leaving.{file_owed, is_used, owed}
 use Rattle.hp_lookup.specs.Level.{AreLevel}

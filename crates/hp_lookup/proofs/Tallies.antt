@@ -16,7 +16,7 @@ use Rattle.hp_model.proofs.Counting.{count_cons, count_map}
 use Rattle.hp_model.proofs.Distinct.{same_members}
 use Rattle.hp_store.specs.Store.{Store}
 use Rattle.hp_lookup.specs.Asking.{is_first_of}
-use Rattle.hp_lookup.specs.Forking.{maps_of}
+use Rattle.hp_lookup.specs.Forking.{maps_by}
 use Rattle.hp_lookup.specs.Hints.{IsFiles, Noted}
 use Rattle.hp_lookup.specs.Keyed.{Label, is_listed, key_of, label_of, labels_of, maps_for, tasks_in}
 use Rattle.hp_lookup.specs.Numbered.{NumberedFile, files_shown, with_truncated}
@@ -30,10 +30,10 @@ use Rattle.hp_lookup.proofs.Unique.{tasks_counted}
 pub own_maps : (task : ℕ) (f : NumberedFile) → maps_for task (label_of f) ≡ count_by (is_of task) f.maps
 own_maps task f = count_map (λ (k : ℕ × ℕ). k.0 == task) key_of f.maps
 
-pub maps_labelled : (task : ℕ) (fs : List NumberedFile) → sum_by (maps_for task) (labels_of fs) ≡ sum_by (maps_of task) fs
+pub maps_labelled : (task : ℕ) (fs : List NumberedFile) → sum_by (maps_for task) (labels_of fs) ≡ sum_by (maps_by task) fs
 maps_labelled task [] = refl
 maps_labelled task (f ∷ fs) = (let here = own_maps task f in let rest = maps_labelled task fs in
-    omega (arith, here, rest, sum_by-cons (maps_for task) (label_of f) (labels_of fs), sum_by-cons (maps_of task) f fs))
+    omega (arith, here, rest, sum_by-cons (maps_for task) (label_of f) (labels_of fs), sum_by-cons (maps_by task) f fs))
 
 -- files whose maps are none of the task's stay as they are when its maps go
 pub none_leave : (task : ℕ) (fs : List NumberedFile) → sum_by (maps_for task) (labels_of fs) ≡ 0 → All (λ (l : Label). is_listed l ≡ true) (labels_of fs) → map (λ f. emptied (left_by task f)) fs ≡ fs

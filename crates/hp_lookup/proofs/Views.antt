@@ -14,7 +14,7 @@ use Rattle.hp_model.specs.files.Mapping.{Mapping, place_at, copy_of}
 use Rattle.hp_model.specs.files.Page.{Copy, zeros}
 use Rattle.hp_model.specs.machine.Promises.{no_map}
 use Rattle.hp_model.specs.files.Value.{value, shown}
-use Rattle.hp_lookup.specs.Places.{map_at}
+use Rattle.hp_lookup.specs.Places.{map_among}
 use Rattle.std.proofs.Math.ListN as listn
 use Rattle.hp_model.specs.files.Spot.{cell_written}
 use Rattle.hp_store.specs.Store.{Store, Holding, page_at, holders_of, bytes_of, inserted}
@@ -205,7 +205,7 @@ module _ (s : Store) (fs : List NumberedFile) (k j : ℕ) (l : k < length (files
   file_seen : file_at (files_shown s fs) k ≡ file_shown s x
   file_seen = file_read s fs k l x read
 
-  pub map_seen : map_at (files_shown s fs) k j ≡ map_shown s y
+  pub map_seen : map_among (files_shown s fs) k j ≡ map_shown s y
   map_seen =
       let long = length-map x.maps (map_shown s) in
       let same = ap (λ (f : File). length f.maps) file_seen in
@@ -216,11 +216,11 @@ module _ (s : Store) (fs : List NumberedFile) (k j : ℕ) (l : k < length (files
 
   module _ (size i : ℕ) where
     abbrev shows : List ℕ
-    shows = value size (file_at (files_shown s fs) k) (map_at (files_shown s fs) k j) i
+    shows = value size (file_at (files_shown s fs) k) (map_among (files_shown s fs) k j) i
 
     shows_by : (o : Option Copy) → copy_of (place_at (map_shown s y) i) ≡ o → shows ≡ elim o [ None ↦ shown size (cell_at (file_shown s x) i) | Some copy ↦ copy.page.bytes ]
     shows_by o e =
-        ap (λ f. value size f (map_at (files_shown s fs) k j) i) file_seen ∙ ap (λ m. value size (file_shown s x) m i) map_seen
+        ap (λ f. value size f (map_among (files_shown s fs) k j) i) file_seen ∙ ap (λ m. value size (file_shown s x) m i) map_seen
         ∙ ap (λ q. elim q [ None ↦ shown size (cell_at (file_shown s x) i) | Some copy ↦ copy.page.bytes ]) e
 
     pub copy_shows : (n : ℕ) → copy_of (place_at y i) ≡ Some n → shows ≡ (page_in (page_at s n)).bytes
@@ -240,7 +240,7 @@ bytes_same None = refl
 bytes_same (Some h) = refl
 
 -- the page that a store lends
-pub page_lent : (o : Option Holding) (p : Page) → option_map store.page_of o ≡ Some p → p ≡ page_in o
+pub page_lent : (o : Option Holding) (p : Page) → option_map store.held_page o ≡ Some p → p ≡ page_in o
 page_lent None p e = cc
 page_lent (Some h) p e = cc
 

@@ -6,18 +6,18 @@ use Rattle.hp_model.specs.files.MountCounts.{is_waiting}
 use Rattle.hp_store.specs.Store.{Store}
 use Rattle.hp_lookup.specs.Dropping.{IsDropping}
 use Rattle.hp_lookup.specs.Held.{in_files, more_in}
-use Rattle.hp_lookup.specs.Hints.{IsMore, Noted, has_key, has_name, is_pair}
+use Rattle.hp_lookup.specs.Hints.{IsMore, Noted, has_key, is_noted_as, is_pair}
 use Rattle.hp_lookup.specs.Forking.{maps_named}
 use Rattle.hp_lookup.specs.Numbered.{NumberedFile, mapping_at, numbered_at, with_truncated}
 
 -- the lesser of a task and one that is known, if any
-abbrev pub least_of : Option ℕ → ℕ → ℕ
-least_of None task = task
-least_of (Some known) task = min known task
+abbrev pub lesser_task : Option ℕ → ℕ → ℕ
+lesser_task None task = task
+lesser_task (Some known) task = min known task
 
 -- the least of some tasks and one that is known, if any
 abbrev pub least_among : Option ℕ → List ℕ → Option ℕ
-least_among known tasks = fold (λ k task. Some (least_of k task)) known tasks
+least_among known tasks = fold (λ k task. Some (lesser_task k task)) known tasks
 
 -- what a map's owner has reserved and not consumed
 abbrev pub owed : Mapping ℕ → ℕ
@@ -72,27 +72,27 @@ abbrev pub swept_at : ℕ → List NumberedFile → List NumberedFile
 swept_at k fs = if is_used (numbered_at fs k) then fs else remove fs k
 
 -- one where the map is the task's of that number
-abbrev pub map_named : ℕ → Mapping ℕ → ℕ → ℕ
-map_named task m number = if is_map task number m then 1 else 0
+abbrev pub one_if_named : ℕ → Mapping ℕ → ℕ → ℕ
+one_if_named task m number = if is_map task number m then 1 else 0
 
 -- of what was noted only maps of one task are forgotten, and each whose number is counted is; or only one map is. Nothing is
 -- noted, and there is no less room
 pub record IsMoreButTask (task : ℕ) (named : ℕ → ℕ) (old new : Noted) : Type 0 where
-  pub names : (name : List ℕ) → has_name name new ≡ false → has_name name old ≡ false
+  pub names : (name : List ℕ) → is_noted_as name new ≡ false → is_noted_as name old ≡ false
   pub keys : (other number : ℕ) → (other == task) ≡ false → has_key other number new ≡ false → has_key other number old ≡ false
   pub gone : (number : ℕ) → 0 < named number → has_key task number new ≡ false
   pub less : IsMore new old
   pub room : old.room ≤ new.room
 
 pub record IsMoreButMap (task number : ℕ) (old new : Noted) : Type 0 where
-  pub names : (name : List ℕ) → has_name name new ≡ false → has_name name old ≡ false
+  pub names : (name : List ℕ) → is_noted_as name new ≡ false → is_noted_as name old ≡ false
   pub keys : (t n : ℕ) → is_pair t n (task, number) ≡ false → has_key t n new ≡ false → has_key t n old ≡ false
   pub gone : has_key task number new ≡ false
   pub less : IsMore new old
   pub room : old.room ≤ new.room
 
 -- all maps of a task left some files: so many maps and reservations went, and pages of which they were the last holders
-pub record HasLeft (task : ℕ) (files ended : List NumberedFile) (old new : Noted) (store now : Store) (more maps reserves : ℕ) : Type 0 where
+pub record HaveMapsLeft (task : ℕ) (files ended : List NumberedFile) (old new : Noted) (store now : Store) (more maps reserves : ℕ) : Type 0 where
   pub left : ended ≡ map (λ f. emptied (left_by task f)) files
   pub dropping : IsDropping (λ n. in_files n files) (λ n. in_files n ended) store now
   pub counted : more ≡ more_in now.pages

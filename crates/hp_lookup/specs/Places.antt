@@ -16,15 +16,15 @@ use Rattle.hp_lookup.specs.Files.{file_at}
 abbrev pub has_it : (task number : ℕ) → File → Bool
 has_it task number f = list_any (is_map task number) f.maps
 
-abbrev pub map_at : List File → (file map : ℕ) → Map
-map_at fs file map = slice_index_or (file_at fs file).maps map no_map
+abbrev pub map_among : List File → (file map : ℕ) → Map
+map_among fs file map = slice_index_or (file_at fs file).maps map no_map
 
 -- the bytes that a map shows at an index
 abbrev pub shown_at : (size : ℕ) → List File → MapPlace → (index : ℕ) → List ℕ
-shown_at size fs at index = value size (file_at fs at.file) (map_at fs at.file at.map) index
+shown_at size fs at index = value size (file_at fs at.file) (map_among fs at.file at.map) index
 
 abbrev pub spot_of : List File → (file map : ℕ) → Spot
-spot_of fs file map = record { file_no = file; file = file_at fs file; map_no = map; map = map_at fs file map }
+spot_of fs file map = record { file_no = file; file = file_at fs file; map_no = map; map = map_among fs file map }
 
 -- a mount of these files
 abbrev pub mount_with : Limits → List File → Mount

@@ -1,6 +1,6 @@
 //! What files and maps are found by.
 ghost use Rattle.std.specs.Prelude.{◌≡◌, ◌+◌, ◌<◌, ◌≤◌, false, slice_get, true, [], IfNone, IsOk, IsTrue, OnErr, OnOk, Some};
-ghost use Rattle.hp_lookup.specs.Hints.{AreSame, IsMoreBut, IsMoreByMap, IsMoreByName, has_key, has_name};
+ghost use Rattle.hp_lookup.specs.Hints.{AreSame, IsMoreBut, IsMoreByMap, IsMoreByName, has_key, is_noted_as};
 ghost use Rattle.hp_lookup.specs.Leaving.{IsMoreButMap};
 
 use crate::file_tag::FileTag;
@@ -71,7 +71,7 @@ impl Hints {
     /// The tag of the file with the name, if it was noted. Whoever finds the file elsewhere may set it right. No memory is asked
     /// for.
     pub fn file(&self, name: &[u8]) -> Option<&Cell<FileTag>>
-        ensures { IfNone result (has_name name.now self.now ≡ false) }
+        ensures { IfNone result (is_noted_as name.now self.now ≡ false) }
     {
         match self.files.get_full(NameQuery { name }) {
             Some((at, noted, _)) => {
@@ -97,7 +97,7 @@ impl Hints {
     pub fn note_file(&mut self, name: FileName, tag: FileTag) -> Result<(), AllocError>
         ensures more { IsMoreByName name self.old self.new }
         ensures err { OnErr result (self.new ≡ self.old) }
-        ensures noted { OnOk result (has_name name self.new ≡ true) }
+        ensures noted { OnOk result (is_noted_as name self.new ≡ true) }
     {
         let key = Tagged::new(name, tag);
         let Ok((at, _)) = self.files.insert_full(key, ()) else {

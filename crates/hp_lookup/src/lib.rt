@@ -24,6 +24,6 @@ pub use map_place::MapPlace;
 pub use map_tag::MapTag;
 pub use name::FileName;
 pub use next_map::{MapRange, NextMap};
-pub use spot::Spot;
+pub use spot::TaggedNumber;
 pub use tags::Tags;
 pub use task_counts::TaskCounts;

@@ -30,11 +30,11 @@ pub fn tag_in(word: u64) -> u64 {
 /// The number of the place where a file lies, of 16 bits, and above it 48 bits of the file's tag, in one word. Contracts see the
 /// number.
 #[derive(Drop)]
-pub struct Spot {
+pub struct TaggedNumber {
     word: u64,
 }
 
-impl Model for Spot {
+impl Model for TaggedNumber {
     ghost use Rattle.std.specs.Prelude.{ℕ, ◌%◌};
     ghost use Rattle.hp_lookup.specs.Spots.{all_places};
 
@@ -43,11 +43,11 @@ impl Model for Spot {
     ghost view = { λ s. s.word % all_places };
 }
 
-impl Spot {
+impl TaggedNumber {
     pub fn new(tag: u64, number: u16) -> Self
         ensures { result ≡ number }
     {
-        Spot {
+        TaggedNumber {
             word: word_of(tag, number as u64),
         }
     }

@@ -55,7 +55,7 @@ impl MapFlags {
         self.contains(MapFlags::OWNER)
     }
 
-    pub fn is_unmapped(self) -> bool
+    pub fn is_marked(self) -> bool
         ensures { result ≡ has_unmapped self.0 }
     {
         self.contains(MapFlags::UNMAPPED)

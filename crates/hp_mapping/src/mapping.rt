@@ -146,10 +146,10 @@ impl Mapping {
     }
 
     /// Whether a copy was taken away from the map (`mm/hugetlbfs_reserv.rst`).
-    pub fn is_unmapped(&self) -> bool
+    pub fn is_marked(&self) -> bool
         ensures { result ≡ self.now.unmapped }
     {
-        self.flags.is_unmapped()
+        self.flags.is_marked()
     }
 
     /// The places from the file's index on that stand one behind another: of a small map up to the last one that was

@@ -28,7 +28,7 @@ use Rattle.hp_model.specs.declared.step.Intent.TheVariants.{Read, Write}
 use Rattle.hp_lookup.specs.declared.map_place.MapPlace.{MapPlace}
 use Rattle.hp_mount_laws.specs.Done.{Enters, IsAccessed, Tried}
 use Rattle.hp_mount.specs.Found.{IsPlaced, spot_of, tests_of, why_not}
-use Rattle.hp_mount_laws.specs.Reach.{IsTouched, first_of, spot_at, with_place_at}
+use Rattle.hp_mount_laws.specs.Reach.{IsFileTouched, first_of, spot_at, with_place_at}
 use Rattle.hp_mount.specs.declared.mount.reach.Asked.{Asked}
 use Rattle.hp_mount.specs.declared.mount.reach.Asked.TheVariants.{Page, Bytes}
 use Rattle.hp_mount.specs.declared.mount.reach.MapAccess.{MapAccess}
@@ -184,7 +184,7 @@ module _ {X : Type 0} (took : X → Section → PoolAnswer → X → Type 0) (fu
 
 -- ---- the same map after an access
 
-pub again_is : (m n : Mount) (file map : ℕ) → file < length m.files → map < length (file_in m file).maps → IsTouched m n file → again n (spot_at m file map) ≡ spot_at n file map
+pub again_is : (m n : Mount) (file map : ℕ) → file < length m.files → map < length (file_in m file).maps → IsFileTouched m n file → again n (spot_at m file map) ≡ spot_at n file map
 again_is m n file map fl ml t =
     let files = t.files in
     let maps = t.maps in

@@ -22,7 +22,7 @@ use Rattle.hp_lookup.specs.Dropping.{IsLeft}
 use Rattle.hp_lookup.specs.Files.{Files, copied_at, file_at, parted_at, taken_back_at}
 use Rattle.hp_file.specs.States.{AreAgreed}
 use Rattle.hp_mount_laws.specs.Reach.{has_reserve, with_place_at}
-use Rattle.hp_mount_laws.specs.Kept.{IsKept, mount_of}
+use Rattle.hp_mount_laws.specs.Kept.{IsKept, mount_from}
 use Rattle.hp_mount_laws.proofs.Keeping.{grown, grows, mount_left}
 use Rattle.hp_mount_laws.proofs.Ways.{fresh_choice, is_fresh}
 use Rattle.hp_subpool.specs.Subpool.{Subpool, used}
@@ -60,7 +60,7 @@ owes_nothing m i consumed place e = either m.owner consumed (ap (λ p. m.owner &
     either false b e = refl
 
 -- The mount is `m` as a caller sees it, and `mount_of s inodes v.files` as its fields show it.
-module _ (s : Subpool) (v : Files) (inodes : Option ℕ) (m : Mount) (c : IsKept s v (mount_of s inodes v.files)) (view : mount_of s inodes v.files ≡ m)
+module _ (s : Subpool) (v : Files) (inodes : Option ℕ) (m : Mount) (c : IsKept s v (mount_from s inodes v.files)) (view : mount_from s inodes v.files ≡ m)
     (k j i : ℕ) (file : k < length m.files) (inside : j < length (file_in m k).maps) where
   abbrev f : File
   f = file_at v.files k
@@ -76,7 +76,7 @@ module _ (s : Subpool) (v : Files) (inodes : Option ℕ) (m : Mount) (c : IsKept
 
   -- what is left is the mount with the copy
   pub placed_left : (p : Place Copy) (new : Subpool) (w : Files) → new.max ≡ s.max → new.min ≡ s.min →
-      w.files ≡ slice_set v.files k (with_map f j (with_place y i p)) → mount_of new inodes w.files ≡ with_place_at m k j i p
+      w.files ≡ slice_set v.files k (with_map f j (with_place y i p)) → mount_from new inodes w.files ≡ with_place_at m k j i p
   placed_left p new w max_is min_is files = mount_left s new inodes (slice_set v.files k (with_map f j (with_place y i p))) w.files max_is min_is
       files ∙ ap (λ (x : Mount). with_place_at x k j i p) view
 
@@ -84,8 +84,8 @@ module _ (s : Subpool) (v : Files) (inodes : Option ℕ) (m : Mount) (c : IsKept
   pub owner_held : (consumed : Bool) → place_at y i ≡ Live consumed None → has_reserve y i ≡ true → 0 < s.held
   owner_held consumed place e =
       let is = owes y i consumed place e in
-      let choice : Choice = fresh_choice false (Some (mount_of s inodes v.files)) in
-      let none : is_among choice.stamp (flat_map stamps_of v.files) ≡ false = above (mount_of s inodes v.files) in
+      let choice : Choice = fresh_choice false (Some (mount_from s inodes v.files)) in
+      let none : is_among choice.stamp (flat_map stamps_of v.files) ≡ false = above (mount_from s inodes v.files) in
       let copy : Copy = record { stamp = choice.stamp; page = record { node = 0; bytes = [] } } in
       let all = grows s v inodes c k l (with_map f j (with_place y i (Live true (Some copy)))) 0 1 0
       (copy_consumes f j y i copy here (place ∙ ap (λ b. Live b None) is.1) is.0 (fresh_in choice.stamp v.files k l none)) in
@@ -103,7 +103,7 @@ module _ (s : Subpool) (v : Files) (inodes : Option ℕ) (m : Mount) (c : IsKept
     fresh_here : is_among stamp (stamps_of f) ≡ false
     fresh_here = fresh_in stamp v.files k l fresh
 
-    pub reserved_kept : has_reserve y i ≡ true → new ≡ with_page s → w ≡ copied_at k j i (y.owner || consumed) stamp page v → IsKept new w (mount_of new inodes w.files)
+    pub reserved_kept : has_reserve y i ≡ true → new ≡ with_page s → w ≡ copied_at k j i (y.owner || consumed) stamp page v → IsKept new w (mount_from new inodes w.files)
     reserved_kept e new_is w_is =
         let is = owes y i consumed place e in
         let held = owner_held consumed place e in
@@ -117,7 +117,7 @@ module _ (s : Subpool) (v : Files) (inodes : Option ℕ) (m : Mount) (c : IsKept
         (ap (λ (x : Files). x.files) w_is ∙ ap (λ b. slice_set v.files k (with_map f j (with_place y i (Live (b || consumed) (Some copy))))) is.0)
 
     pub reserved_left : has_reserve y i ≡ true → new ≡ with_page s → w ≡ copied_at k j i (y.owner || consumed) stamp page v →
-        mount_of new inodes w.files ≡ with_place_at m k j i (Live true (Some copy))
+        mount_from new inodes w.files ≡ with_place_at m k j i (Live true (Some copy))
     reserved_left e new_is w_is = placed_left (Live true (Some copy)) new w (ap (λ (x : Subpool). x.max) new_is) (ap (λ (x : Subpool). x.min) new_is)
         (ap (λ (x : Files). x.files) w_is ∙ ap (λ b. slice_set v.files k (with_map f j (with_place y i (Live (b || consumed) (Some copy))))) (owes y i consumed place e).0)
 
@@ -126,7 +126,7 @@ module _ (s : Subpool) (v : Files) (inodes : Option ℕ) (m : Mount) (c : IsKept
       files_are : w.files ≡ slice_set v.files k (with_map f j (with_place y i (Live consumed (Some copy))))
       files_are = ap (λ (x : Files). x.files) w_is ∙ ap (λ b. slice_set v.files k (with_map f j (with_place y i (Live b (Some copy))))) (owes_nothing y i consumed place none)
 
-      pub granted_kept : s.held < spare → IsKept new w (mount_of new inodes w.files)
+      pub granted_kept : s.held < spare → IsKept new w (mount_from new inodes w.files)
       granted_kept enough =
           let held_is = ap (λ (x : Subpool). x.held) new_is in
           let pages_is = ap (λ (x : Subpool). x.pages) new_is in
@@ -135,14 +135,14 @@ module _ (s : Subpool) (v : Files) (inodes : Option ℕ) (m : Mount) (c : IsKept
           (copy_grows f j y i consumed copy here place fresh_here) (ap (λ (x : Subpool). x.max) new_is) (ap (λ (x : Subpool). x.min) new_is)
           pages_is (omega (arith, held_is, pages_is)) (omega (arith, held_is, room_is, enough)) (ap (λ (x : Files). x.going) w_is) files_are
 
-      pub granted_left : mount_of new inodes w.files ≡ with_place_at m k j i (Live consumed (Some copy))
+      pub granted_left : mount_from new inodes w.files ≡ with_place_at m k j i (Live consumed (Some copy))
       granted_left = placed_left (Live consumed (Some copy)) new w (ap (λ (x : Subpool). x.max) new_is) (ap (λ (x : Subpool). x.min) new_is) files_are
 
   -- a copy that several maps hold
   module _ (consumed : Bool) (old : Copy) (place : place_at y i ≡ Live consumed (Some old)) (agreed : AreAgreed f) (new : Subpool) (w : Files) where
     module _ (stamp : ℕ) (page : Page) (fresh : is_among stamp (flat_map stamps_of v.files) ≡ false) (several : is_held_once f old.stamp ≡ false)
         (new_is : new ≡ with_granted s) (w_is : w ≡ parted_at k j i consumed stamp page v) where
-      pub parted_kept : IsKept new w (mount_of new inodes w.files)
+      pub parted_kept : IsKept new w (mount_from new inodes w.files)
       parted_kept =
           let held_is = ap (λ (x : Subpool). x.held) new_is in
           let pages_is = ap (λ (x : Subpool). x.pages) new_is in
@@ -153,7 +153,7 @@ module _ (s : Subpool) (v : Files) (inodes : Option ℕ) (m : Mount) (c : IsKept
           (copy_parts f j y i consumed old copy here place agreed several (fresh_in stamp v.files k l fresh)) (ap (λ (x : Subpool). x.max) new_is) (ap (λ (x : Subpool). x.min) new_is)
           pages_is (omega (arith, held_is, pages_is)) (omega (arith, held_is, room_is, room)) (ap (λ (x : Files). x.going) w_is) (ap (λ (x : Files). x.files) w_is)
 
-      pub parted_left : mount_of new inodes w.files ≡ with_place_at m k j i (Live consumed (Some (record { stamp = stamp; page = page })))
+      pub parted_left : mount_from new inodes w.files ≡ with_place_at m k j i (Live consumed (Some (record { stamp = stamp; page = page })))
       parted_left = placed_left (Live consumed (Some (record { stamp = stamp; page = page }))) new w (ap (λ (x : Subpool). x.max) new_is)
           (ap (λ (x : Subpool). x.min) new_is) (ap (λ (x : Files). x.files) w_is)
 
@@ -161,7 +161,7 @@ module _ (s : Subpool) (v : Files) (inodes : Option ℕ) (m : Mount) (c : IsKept
       abbrev g : File
       g = with_map (record f { maps = map (robbed old.stamp) f.maps }) j y
 
-      pub back_kept : IsKept new w (mount_of new inodes w.files)
+      pub back_kept : IsKept new w (mount_from new inodes w.files)
       back_kept =
           let grew = takes_back f j y i consumed old here place agreed in
           let all = grows s v inodes c k l g 0 0 0 grew in
@@ -181,6 +181,6 @@ module _ (s : Subpool) (v : Files) (inodes : Option ℕ) (m : Mount) (c : IsKept
           nothing [] e = refl
           nothing (p ∷ ps) e = absurd (omega (arith, e))
 
-      pub back_left : mount_of new inodes w.files ≡ with_file m k (with_map (record (file_in m k) { maps = map (robbed old.stamp) (file_in m k).maps }) j (map_in (file_in m k) j))
+      pub back_left : mount_from new inodes w.files ≡ with_file m k (with_map (record (file_in m k) { maps = map (robbed old.stamp) (file_in m k).maps }) j (map_in (file_in m k) j))
       back_left = mount_left s new inodes (slice_set v.files k g) w.files (ap (λ (x : Subpool). x.max) new_is) (ap (λ (x : Subpool). x.min) new_is) files
           ∙ ap (λ (x : Mount). with_file x k (with_map (record (file_in x k) { maps = map (robbed old.stamp) (file_in x k).maps }) j (map_in (file_in x k) j))) view

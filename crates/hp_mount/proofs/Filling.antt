@@ -25,10 +25,10 @@ use Rattle.hp_laws.proofs.counts.MountMoves.{MountFills, file_fills}
 use Rattle.hp_laws.proofs.lists.NodesOf.{length-nodes_of}
 use Rattle.hp_mount_door.specs.Filling.{with_filled}
 use Rattle.hp_lookup.specs.Files.{Files, file_at}
-use Rattle.hp_file.specs.Filling.{IsTaking, pages_at}
+use Rattle.hp_file.specs.Filling.{IsTaking, pages_put}
 use Rattle.hp_mount_laws.specs.Done.{Enters, Through, Tried}
 use Rattle.hp_mount_laws.specs.Reach.{first_of}
-use Rattle.hp_mount_laws.specs.Kept.{IsKept, mount_of}
+use Rattle.hp_mount_laws.specs.Kept.{IsKept, mount_from}
 use Rattle.hp_mount_laws.proofs.Trying.{tests_fail, tests_pass, tried_as}
 use Rattle.hp_mount_laws.proofs.Keeping.{mount_left}
 use Rattle.hp_mount_laws.proofs.Ways.{fresh_choice, is_fresh, refused_at}
@@ -37,10 +37,10 @@ use Rattle.hp_subpool.specs.Subpool.{Subpool, used}
 
 -- ---- the share and the files that are left
 
-module _ (s : Subpool) (v : Files) (inodes : Option ℕ) (c : IsKept s v (mount_of s inodes v.files)) (k : ℕ) (l : k < length v.files)
+module _ (s : Subpool) (v : Files) (inodes : Option ℕ) (c : IsKept s v (mount_from s inodes v.files)) (k : ℕ) (l : k < length v.files)
     (size a b more count : ℕ) (more_is : more ≡ unentered a b (file_at v.files k)) (count_is : count ≡ lacking a b (file_at v.files k)) where
   abbrev m : Mount
-  m = mount_of s inodes v.files
+  m = mount_from s inodes v.files
 
   module _ (takes : List ℕ) where
     abbrev g : File
@@ -65,12 +65,12 @@ module _ (s : Subpool) (v : Files) (inodes : Option ℕ) (c : IsKept s v (mount_
       omega (arith, pages, usage, wide, had, was, more_is)
 
   module _ (takes : List ℕ) (new : Subpool) (w : Files) (new_is : new ≡ with_filled more count s)
-      (w_is : w ≡ pages_at size k a b (rising_nodes count takes) (max v.room (s.held + more) - count) v) where
-    pub filled_left : mount_of new inodes w.files ≡ with_file m k (g takes)
+      (w_is : w ≡ pages_put size k a b (rising_nodes count takes) (max v.room (s.held + more) - count) v) where
+    pub filled_left : mount_from new inodes w.files ≡ with_file m k (g takes)
     filled_left = mount_left s new inodes (slice_set v.files k (g takes)) w.files
         (ap (λ (x : Subpool). x.max) new_is) (ap (λ (x : Subpool). x.min) new_is) (ap (λ (x : Files). x.files) w_is)
 
-    pub filled_kept : IsKept new w (mount_of new inodes w.files)
+    pub filled_kept : IsKept new w (mount_from new inodes w.files)
     filled_kept =
         let all = fills takes in
         let more_pages = all.pages in

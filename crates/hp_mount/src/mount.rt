@@ -8,15 +8,15 @@ ghost use Rattle.hp_model.specs.files.Page.{Page as PageValue};
 ghost use Rattle.hp_model.specs.machine.Plan.{gives};
 ghost use Rattle.hp_model.specs.machine.SlotEvent.{has_maps};
 ghost use Rattle.hp_model.specs.beside.Told.{told_reply};
-ghost use Rattle.hp_model.specs.text.Writing.{IsWithinLimit, IsWithinLimits};
+ghost use Rattle.hp_model.specs.text.Writing.{IsSmallLimit, IsWithinLimits};
 ghost use Rattle.hp_model.specs.Profile.{most_bytes};
 ghost use Rattle.hp_store.specs.Batch.{Batch as BatchValue};
 ghost use Rattle.hp_store.specs.Store.{Store as StoreValue, page_at};
 ghost use Rattle.hp_subpool.specs.Subpool.{Subpool as ShareValue};
 ghost use Rattle.hp_mount_laws.specs.Alone.{IsDoneAlone};
 ghost use Rattle.hp_mount_laws.specs.Done.{IsDone};
-ghost use Rattle.hp_events.specs.Event.{event_of, is_usage, shows_bytes};
-ghost use Rattle.hp_mount_laws.specs.Kept.{mount_of};
+ghost use Rattle.hp_events.specs.Event.{as_event, is_usage, shows_bytes};
+ghost use Rattle.hp_mount_laws.specs.Kept.{mount_from};
 ghost use Rattle.hp_events.specs.Memory.{asks_memory};
 
 mod contents;
@@ -58,19 +58,19 @@ pub struct Mount<N: Naming> {
 
 impl<N: Naming> Model for Mount<N> {
     ghost use Rattle.hp_model.specs.files.File.{Mount as MountValue};
-    ghost use Rattle.hp_mount_laws.specs.Kept.{IsKept, mount_of};
+    ghost use Rattle.hp_mount_laws.specs.Kept.{IsKept, mount_from};
 
     ghost Value = { MountValue };
 
-    ghost view = { λ s. mount_of s.share s.inodes s.files.files };
+    ghost view = { λ s. mount_from s.share s.inodes s.files.files };
 
-    ghost invariant = { λ s. IsKept s.share s.files (mount_of s.share s.inodes s.files.files) };
+    ghost invariant = { λ s. IsKept s.share s.files (mount_from s.share s.inodes s.files.files) };
 }
 
 // A limit as it is. Its number is below 2^64, as each number of the code.
 fn told(limit: Option<u64>) -> Option<u64>
     ensures same { result ≡ limit }
-    ensures small { IsWithinLimit result }
+    ensures small { IsSmallLimit result }
 {
     match limit {
         Some(most) => Some(most),
@@ -83,7 +83,7 @@ impl<N: Naming> Mount<N> {
     pub fn new(alloc: Global, share: Subpool<N>, inodes: Option<u64>) -> Self
         requires pages { share.pages ≡ 0 }
         requires held { share.held ≡ 0 }
-        ensures { result ≡ mount_of share inodes [] }
+        ensures { result ≡ mount_from share inodes [] }
     {
         Mount {
             share,
@@ -133,11 +133,11 @@ impl<N: Naming> Mount<N> {
         requires page_bytes { page_bytes ≡ N.page_bytes }
         requires room { shows_bytes event ≡ true → most_bytes ≤ length room.old }
         ensures done { (k : ℕ) → IsDone D.took D.is_full N.page_bytes k (Some self.old) door.old
-            (event_of home event.entry) (told_reply result) (Some self.new) door.new }
+            (as_event home event.entry) (told_reply result) (Some self.new) door.new }
         ensures left { D.is_left door.new }
-        ensures memory { asks_memory (Some self.old) (event_of home event.entry) ≡ false
+        ensures memory { asks_memory (Some self.old) (as_event home event.entry) ≡ false
             → told_reply result ≢ Err Refusal.OutOfMemory }
-        ensures limits { is_usage (event_of home event.entry) ≡ true
+        ensures limits { is_usage (as_event home event.entry) ≡ true
             → IsWithinLimits (told_reply result) }
     {
         match event {

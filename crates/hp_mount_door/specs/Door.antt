@@ -22,8 +22,8 @@ IsDoorRefusal other denied full = ⊥
 abbrev pub grant_for : ℕ → ℕ → Subpool → Section
 grant_for home k s = Grant home (rise s k)
 
-abbrev pub page_for : ℕ → Subpool → Section
-page_for home s = GrantPage home (rise s 1)
+abbrev pub grant_one : ℕ → Subpool → Section
+grant_one home s = GrantPage home (rise s 1)
 
 -- refused by this section, or with nothing changed as TraceFull
 abbrev pub IsRefusedAt : {X : Type 0} (took : X → Section → PoolAnswer → X → Type 0) (is_full : X → Type 0) → Section → X → X → Refusal → Type 0

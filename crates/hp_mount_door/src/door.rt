@@ -9,7 +9,7 @@ ghost use Rattle.hp_subpool.specs.Subpool.{Subpool as ShareValue, committed_of, 
 ghost use Rattle.hp_store.specs.Batch.{Batch as BatchValue};
 ghost use Rattle.hp_mount_door.specs.Filling.{AreRising, fill_for, with_filled};
 ghost use Rattle.hp_mount_door.specs.Limits.{IsLimitedAt};
-ghost use Rattle.hp_mount_door.specs.Door.{IsDoorRefusal, IsRefusedAt, GivesBack, by_node, grant_for, page_for, with_page, with_granted, with_reserves, with_less};
+ghost use Rattle.hp_mount_door.specs.Door.{IsDoorRefusal, IsRefusedAt, GivesBack, by_node, grant_for, grant_one, with_page, with_granted, with_reserves, with_less};
 
 use hp_model::refusal::Refusal;
 
@@ -80,11 +80,11 @@ pub trait PoolDoor {
         requires within { ShareIsFull (share_of share.old) 1 ≡ false }
         requires few { used (share_of share.old) + 1 < 2 ^ 64 }
         ensures ok { IfOk result (λ page.
-            took self.old (page_for home (share_of share.old))
+            took self.old (grant_one home (share_of share.old))
             (granted_at (page_of page).node) self.new) }
         ensures share { OnOk result (share_of share.new ≡ with_granted (share_of share.old)) }
         ensures err { IfErr result (λ e.
-            IsRefusedAt took is_full (page_for home (share_of share.old)) self.old self.new e) }
+            IsRefusedAt took is_full (grant_one home (share_of share.old)) self.old self.new e) }
         ensures unchanged { OnErr result (share.new ≡ share.old) }
         ensures left { is_left self.new };
 

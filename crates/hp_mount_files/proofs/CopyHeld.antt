@@ -17,7 +17,7 @@ use Rattle.hp_store.specs.Store.{Store, held_count, holders_of, page_at}
 use Rattle.hp_lookup.specs.Files.{file_at}
 use Rattle.hp_lookup.specs.Held.{IsHeld, in_cell, in_file, in_map, in_place}
 use Rattle.hp_lookup.specs.Numbered.{NumberedFile, copy_shown, file_shown, files_shown, map_shown, mapping_at, no_mapping, numbered_at, page_in, place_shown}
-use Rattle.hp_lookup.specs.Places.{map_at}
+use Rattle.hp_lookup.specs.Places.{map_among}
 use Rattle.hp_file.specs.States.{AreAgreed, is_stamp_at}
 use Rattle.hp_lookup.proofs.Cells.{file_is, no_file}
 use Rattle.hp_file.proofs.Drops.{live_copy, place_inside}
@@ -83,7 +83,7 @@ module _ (s : Store) (more : ℕ) (fs : List NumberedFile) (h : IsHeld s more fs
     y_is = map_read ∙ ap (λ (f : NumberedFile). slice_index_or f.maps j y) (x_is s more fs h k j i l jl x read)
         ∙ get_or_default (numbered_at fs k).maps j y no_mapping (jl_in s more fs h k j i l jl x read)
 
-    pub no_copy : copy_of (place_at y i) ≡ None → copy_of (place_at (map_at (files_shown s fs) k j) i) ≡ None
+    pub no_copy : copy_of (place_at y i) ≡ None → copy_of (place_at (map_among (files_shown s fs) k j) i) ≡ None
     no_copy none = ap copy_of (seen_place s more fs h k j i l jl x read) ∙ no_copy_seen s (place_at (mapping s more fs h k j i l jl x read) i) (ap (λ m. copy_of (place_at m i)) (sym y_is) ∙ none)
 
     module _ (n : ℕ) (there : copy_of (place_at y i) ≡ Some n) where
@@ -96,7 +96,7 @@ module _ (s : Store) (more : ℕ) (fs : List NumberedFile) (h : IsHeld s more fs
       here : copy_of (place_at (mapping s more fs h k j i l jl x read) i) ≡ Some n
       here = ap (λ m. copy_of (place_at m i)) (sym y_is) ∙ there
 
-      pub copy_there : copy_of (place_at (map_at (files_shown s fs) k j) i) ≡ Some (copy_shown s n)
+      pub copy_there : copy_of (place_at (map_among (files_shown s fs) k j) i) ≡ Some (copy_shown s n)
       copy_there = ap copy_of (seen_place s more fs h k j i l jl x read) ∙ copy_seen s (place_at (mapping s more fs h k j i l jl x read) i) n here
 
       -- the number stands in one of the file's maps
@@ -133,7 +133,7 @@ module _ (s : Store) (more : ℕ) (fs : List NumberedFile) (h : IsHeld s more fs
       pub held_once : (b : Bool) → (holders_of (page_at s n) == 1) ≡ b → is_held_once (file_at (files_shown s fs) k) n ≡ b
       held_once b e = ap (λ c. c == 1) (sym holders_counted) ∙ e
 
-      pub stamp_there : (copy : Copy) → copy_of (place_at (map_at (files_shown s fs) k j) i) ≡ Some copy → copy.stamp ≡ n
+      pub stamp_there : (copy : Copy) → copy_of (place_at (map_among (files_shown s fs) k j) i) ≡ Some copy → copy.stamp ≡ n
       stamp_there copy e = stamp_is copy (copy_shown s n) (sym e ∙ copy_there)
         where
           stamp_is : (a b : Copy) → Some a ≡ Some b → a.stamp ≡ b.stamp
@@ -145,7 +145,7 @@ module _ (s : Store) (more : ℕ) (fs : List NumberedFile) (h : IsHeld s more fs
   shown_number (Live c None) copy e = cc
   shown_number (Live c (Some q)) copy e = (q, refl)
 
-  pub number_there : (copy : Copy) → copy_of (place_at (map_at (files_shown s fs) k j) i) ≡ Some copy → (q : ℕ) × (copy_of (place_at (mapping_at x j) i) ≡ Some q)
+  pub number_there : (copy : Copy) → copy_of (place_at (map_among (files_shown s fs) k j) i) ≡ Some copy → (q : ℕ) × (copy_of (place_at (mapping_at x j) i) ≡ Some q)
   number_there copy e =
       let m : Mapping ℕ = mapping s more fs h k j i l jl x read in
       let found = shown_number (place_at m i) copy (ap copy_of (sym (seen_place s more fs h k j i l jl x read)) ∙ e) in

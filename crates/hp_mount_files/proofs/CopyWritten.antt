@@ -15,7 +15,7 @@ use Rattle.hp_lookup.specs.declared.copy_state.CopyState.TheVariants as state
 use Rattle.hp_lookup.specs.Files.{file_at, placed_at}
 use Rattle.hp_lookup.specs.Held.{IsHeld, in_cell, in_file, in_map, in_place}
 use Rattle.hp_lookup.specs.Numbered.{NumberedFile, cell_shown, file_shown, files_shown, map_shown, no_mapping, numbered_at, page_in, place_shown}
-use Rattle.hp_lookup.specs.Places.{map_at}
+use Rattle.hp_lookup.specs.Places.{map_among}
 use Rattle.hp_file.specs.States.{IsCopyState}
 use Rattle.hp_lookup.proofs.Cells as cells
 use Rattle.hp_lookup.proofs.Cells.{file_is, no_file, write_agrees, write_held}
@@ -28,7 +28,7 @@ use Rattle.hp_lookup.proofs.Views.{some_of, some_within, view}
 module _ (s : Store) (more : ℕ) (fs : List NumberedFile) (h : IsHeld s more fs) (k j i : ℕ) (l : k < length (files_shown s fs))
     (jl : j < length (file_at (files_shown s fs) k).maps) (x : NumberedFile) (read : x ≡ slice_index_or fs k x) (y : Mapping ℕ)
     (map_read : y ≡ slice_index_or x.maps j y)
-    (n : ℕ) (there : copy_of (place_at y i) ≡ Some n) (once : IsCopyState state.HeldOnce (file_at (files_shown s fs) k) (place_at (map_at (files_shown s fs) k j) i)) where
+    (n : ℕ) (there : copy_of (place_at y i) ≡ Some n) (once : IsCopyState state.HeldOnce (file_at (files_shown s fs) k) (place_at (map_among (files_shown s fs) k j) i)) where
   same_stamp : once.0.stamp ≡ n
   same_stamp = stamp_there s more fs h k j i l jl x read y map_read n there once.0 once.1
 
@@ -74,14 +74,14 @@ module _ (s : Store) (more : ℕ) (fs : List NumberedFile) (h : IsHeld s more fs
     written_place : (p : Place ℕ) → copy_of p ≡ Some n → place_shown u p ≡ place_written offset bytes (place_shown s p)
     written_place p e =
         let live = live_copy p n e in
-        let now : page_at u n ≡ Some (store.written offset bytes some) = now_is in
+        let now : page_at u n ≡ Some (store.written_in offset bytes some) = now_is in
         ap (place_shown u) live.1 ∙ ap (λ h. Live live.0 (Some (record { stamp = n; page = page_in h }))) now
         ∙ ap (λ h. place_written offset bytes (Live live.0 (Some (record { stamp = n; page = page_in h })))) (sym is) ∙ ap (λ p. place_written offset bytes (place_shown s p)) (sym live.1)
       where
-        now_is : page_at u n ≡ Some (store.written offset bytes some)
+        now_is : page_at u n ≡ Some (store.written_in offset bytes some)
         now_is = cells.now_is n s offset bytes some is below
 
-    shows : files_shown u fs ≡ (placed_at k j i (place_written offset bytes (place_at (map_at (files_shown s fs) k j) i)) (view s more fs)).files
+    shows : files_shown u fs ≡ (placed_at k j i (place_written offset bytes (place_at (map_among (files_shown s fs) k j) i)) (view s more fs)).files
     shows =
         let agree = write_agrees n s offset bytes some is below in
         let inner = within s more fs h k j i l jl x read in
@@ -98,17 +98,17 @@ module _ (s : Store) (more : ℕ) (fs : List NumberedFile) (h : IsHeld s more fs
         let files = map_but (file_shown s) (file_shown u) (in_file n) (file_same n s u agree) fs k no_file inner (omega (arith, one, place_most, map_most, file_most, all)) in
         let place_now : place_shown u (slice_index_or m.places o Gone) ≡ place_written offset bytes (place_shown s (place_at m i)) =
         ap (place_shown u) (sym (place_here m i at.2)) ∙ written_place (place_at m i) here in
-        let map_now : map_shown u m ≡ with_place (map_shown s m) i (place_written offset bytes (place_at (map_at (files_shown s fs) k j) i)) =
+        let map_now : map_shown u m ≡ with_place (map_shown s m) i (place_written offset bytes (place_at (map_among (files_shown s fs) k j) i)) =
         ap (λ ps. record (map_shown s m) { places = ps }) (places ∙ ap (slice_set (map (place_shown s) m.places) o)
         (place_now ∙ ap (place_written offset bytes) (sym (seen_place s more fs h k j i l jl x read)))) in
-        let file_now : file_shown u f ≡ with_map (file_shown s f) j (with_place (map_at (files_shown s fs) k j) i (place_written offset bytes (place_at (map_at (files_shown s fs) k j) i))) =
+        let file_now : file_shown u f ≡ with_map (file_shown s f) j (with_place (map_among (files_shown s fs) k j) i (place_written offset bytes (place_at (map_among (files_shown s fs) k j) i))) =
         ap (λ cs. record { name = f.name; cells = cs; maps = map (map_shown u) f.maps }) bare
         ∙ ap (λ ms. record (file_shown s f) { maps = ms }) (maps ∙ ap (slice_set (map (map_shown s) f.maps) j)
-        (map_now ∙ ap (λ (q : Map). with_place q i (place_written offset bytes (place_at (map_at (files_shown s fs) k j) i)))
+        (map_now ∙ ap (λ (q : Map). with_place q i (place_written offset bytes (place_at (map_among (files_shown s fs) k j) i)))
         (sym (seen s more fs h k j i l jl x read)))) in
         files ∙ ap (slice_set (files_shown s fs) k) (file_now ∙ ap (λ (g : File).
-        with_map g j (with_place (map_at (files_shown s fs) k j) i (place_written offset bytes (place_at (map_at (files_shown s fs) k j) i))))
+        with_map g j (with_place (map_among (files_shown s fs) k j) i (place_written offset bytes (place_at (map_among (files_shown s fs) k j) i))))
         (sym (file_is s fs k inner)))
 
-    pub copy_write_view : view t more fs ≡ placed_at k j i (place_written offset bytes (place_at (map_at (files_shown s fs) k j) i)) (view s more fs)
+    pub copy_write_view : view t more fs ≡ placed_at k j i (place_written offset bytes (place_at (map_among (files_shown s fs) k j) i)) (view s more fs)
     copy_write_view = ap (λ u. view u more fs) t_is ∙ ap (λ xs. record { files = xs; going = s.going; room = s.room - more }) shows

@@ -6,7 +6,7 @@ use Rattle.std.proofs.lemmas.Slice.Eq.{bytes_eq-Decides}
 use Rattle.hp_model.specs.Lists.{found}
 use Rattle.hp_model.specs.machine.SlotEvent.{has_name}
 use Rattle.hp_store.specs.Store.{Store}
-use Rattle.hp_lookup.specs.Hints.{IsFiles, IsMoreByName, Noted, has_name as has_noted}
+use Rattle.hp_lookup.specs.Hints.{IsFiles, IsMoreByName, Noted, is_noted_as as has_noted}
 use Rattle.hp_lookup.specs.Keyed.{has_label, labels_of}
 use Rattle.hp_lookup.specs.Numbered.{NumberedFile, files_shown}
 use Rattle.hp_lookup.proofs.Level.{none_level}

@@ -16,7 +16,7 @@ use Rattle.hp_lookup.specs.Forking.{maps_named}
 use Rattle.hp_lookup.specs.Held.{in_file, in_files, in_map}
 use Rattle.hp_lookup.specs.Hints.{IsFiles, Noted, has_key}
 use Rattle.hp_lookup.specs.Keyed.{Label, is_key, key_of, keys_in, label_of, labels_of, maps_for}
-use Rattle.hp_lookup.specs.Leaving.{HasLeft, emptied, file_owed, is_used, left_by, map_sum}
+use Rattle.hp_lookup.specs.Leaving.{HaveMapsLeft, emptied, file_owed, is_used, left_by, map_sum}
 use Rattle.hp_lookup.specs.Numbered.{NumberedFile, file_shown, files_shown, map_shown, with_truncated}
 use Rattle.hp_file.proofs.Cutting.{none_mapped}
 use Rattle.hp_file.proofs.Drops.{drop_as}
@@ -144,7 +144,7 @@ maps_in gs = sum_through (λ (q : Label). length q.keys) label_of gs ∙ each gs
 -- ---- as code leaves the files: those that it went over, as it left them, and those that it kept
 
 module _ {n later : Noted} {s t : Store} {more now maps : ℕ} {tally : ℕ → ℕ} {fs ended kept : List NumberedFile} {task r k : ℕ}
-    (is : IsFiles n s more maps tally fs) (went : HasLeft task fs ended n later s t now k r) (kept_is : kept ≡ filter is_used ended) where
+    (is : IsFiles n s more maps tally fs) (went : HaveMapsLeft task fs ended n later s t now k r) (kept_is : kept ≡ filter is_used ended) where
   ended_is : ended ≡ map (λ f. emptied (left_by task f)) fs
   ended_is = went.left
 

@@ -17,7 +17,7 @@ use Rattle.hp_model.proofs.Counting.{count_cons, count_map}
 use Rattle.hp_store.specs.Store.{Store}
 use Rattle.hp_lookup.specs.Forking.{IsSharing, children_of, with_children}
 use Rattle.hp_lookup.specs.Held.{IsHeld, in_cell, in_cells, in_file, in_files, in_map, in_place, more_in}
-use Rattle.hp_lookup.specs.Hints.{IsFiles, Noted, has_key, has_name as has_noted}
+use Rattle.hp_lookup.specs.Hints.{IsFiles, Noted, has_key, is_noted_as as has_noted}
 use Rattle.hp_lookup.specs.Keyed.{IsKeyed, Label, has_label, is_listed, key_of, keys_in, label_of, labels_of, maps_for}
 use Rattle.hp_lookup.specs.Leaving.{file_owed, map_sum, owed}
 use Rattle.hp_lookup.specs.Level.{AreLevel, copy_in}

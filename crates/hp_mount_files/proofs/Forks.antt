@@ -15,11 +15,11 @@ use Rattle.hp_model.proofs.Counting.{count_not}
 use Rattle.hp_store.specs.Store.{Store, held_count, holders_of, page_at}
 use Rattle.hp_lookup.specs.Dropping.{IsLeft, count_at}
 use Rattle.hp_lookup.specs.Files.{Files}
-use Rattle.hp_lookup.specs.Forking.{AreReady, HaveJoined, HaveNoted, HaveRoom, IsSharing, children_of, in_list, in_lists, joined, list_copies, maps_named, maps_of, with_children}
+use Rattle.hp_lookup.specs.Forking.{AreReady, HaveJoined, HaveNoted, HaveRoom, IsSharing, children_of, in_list, in_lists, joined, list_copies, maps_named, maps_by, with_children}
 use Rattle.hp_lookup.specs.Held.{in_map}
 use Rattle.hp_lookup.specs.Hints.{AreSame, IsFiles, Noted}
 use Rattle.hp_lookup.specs.Keyed.{IsKeyed, Label, is_listed, keys_in, label_of, labels_of, maps_for}
-use Rattle.hp_lookup.specs.Leaving.{HasLeft, emptied, is_used, left_by, map_sum}
+use Rattle.hp_lookup.specs.Leaving.{HaveMapsLeft, emptied, is_used, left_by, map_sum}
 use Rattle.hp_lookup.specs.Numbered.{NumberedFile, files_shown, with_truncated}
 use Rattle.hp_lookup.specs.Places.{all_maps}
 use Rattle.hp_file.proofs.Entering.{room_keeps, room_view}
@@ -38,8 +38,8 @@ use Rattle.hp_lookup.proofs.Views.{view}
 -- ---- files that are used
 
 -- the maps of a task are those of files that are used
-used_maps : (task : ℕ) (fs : List NumberedFile) → sum_by (maps_of task) (filter is_used fs) ≡ sum_by (maps_of task) fs
-used_maps task = used_sum (maps_of task) (λ f out. ap (count_by (is_of task)) (empty_file f out).0)
+used_maps : (task : ℕ) (fs : List NumberedFile) → sum_by (maps_by task) (filter is_used fs) ≡ sum_by (maps_by task) fs
+used_maps task = used_sum (maps_by task) (λ f out. ap (count_by (is_of task)) (empty_file f out).0)
 
 used_still : (fs : List NumberedFile) → All (λ (l : Label). is_listed l ≡ true) (labels_of fs) → filter is_used fs ≡ fs
 used_still [] all = refl
@@ -48,7 +48,7 @@ used_still (f ∷ fs) all =
     ∙ ap (λ gs. f ∷ gs) (used_still fs (λ i e l. all (suc i) e (omega (arith, l))))
 
 -- as many maps go as the task had
-maps_leave : (task : ℕ) (fs : List NumberedFile) → map_sum (map (λ f. emptied (left_by task f)) fs) + sum_by (maps_of task) fs ≡ map_sum fs
+maps_leave : (task : ℕ) (fs : List NumberedFile) → map_sum (map (λ f. emptied (left_by task f)) fs) + sum_by (maps_by task) fs ≡ map_sum fs
 maps_leave task [] = refl
 maps_leave task (f ∷ fs) =
     let here = long (is_used (left_by task f)) in
@@ -63,7 +63,7 @@ maps_leave task (f ∷ fs) =
       rest,
       sum_by-cons (λ (f : NumberedFile). length f.maps) (emptied (left_by task f))
           (map (λ f. emptied (left_by task f)) fs),
-      sum_by-cons (maps_of task) f fs,
+      sum_by-cons (maps_by task) f fs,
       sum_by-cons (λ (f : NumberedFile). length f.maps) f fs,
     )
   where
@@ -247,7 +247,7 @@ set_out {parent} {child} {held} {all} {maps} {v} {old} {n} {s} {t} {more} {tally
 
 module _ {n dropped : Noted} {s t : Store} {more now maps held : ℕ} {tally : ℕ → ℕ} {fs ended : List NumberedFile} {parent child r k : ℕ}
     {lists : List (Vec (Mapping ℕ))} {v : Files} (set : IsSet parent child held v n s more maps tally fs lists)
-    (apart : (parent == child) ≡ false) (went : HasLeft child fs ended n dropped s t now k r) where
+    (apart : (parent == child) ≡ false) (went : HaveMapsLeft child fs ended n dropped s t now k r) where
   ended_is : ended ≡ map (λ f. emptied (left_by child f)) fs
   ended_is = went.left
 
@@ -281,15 +281,15 @@ module _ {n dropped : Noted} {s t : Store} {more now maps held : ℕ} {tally : �
   none_left : sum_by (maps_for child) (labels_of K) ≡ 0
   none_left = sym (left.keyed.tallied child) ∙ ap (λ b. cond b 0 (tally child)) own_task
 
-  pub join_none : sum_by (maps_of child) ended ≡ 0
+  pub join_none : sum_by (maps_by child) ended ≡ 0
   join_none = sym (used_maps child ended) ∙ sym (maps_labelled child K) ∙ none_left
 
   -- the child gets as many as its parent has
-  pub join_keys : sum_by (maps_of child) (joined ended lists) ≡ tally parent
+  pub join_keys : sum_by (maps_by child) (joined ended lists) ≡ tally parent
   join_keys =
       let hs : List NumberedFile = map (λ f. with_children parent child f) K in
       let all : filter is_used (joined ended lists) ≡ hs = ap (filter is_used) (ready_joined parent child apart ended lists ready_now) ∙ used_all parent child apart ended in
-      let labelled = sym (used_maps child (joined ended lists)) ∙ ap (sum_by (maps_of child)) all ∙ sym (maps_labelled child hs) in
+      let labelled = sym (used_maps child (joined ended lists)) ∙ ap (sum_by (maps_by child)) all ∙ sym (maps_labelled child hs) in
       let came = tally_more parent child apart child K ∙ ap (λ b. sum_by (maps_for child) (labels_of K) + cond b (sum_by (maps_for parent) (labels_of K)) 0) own_task in
       let its = sym (left.keyed.tallied parent) ∙ ap (λ b. cond b 0 (tally parent)) other_task in
       let none = none_left in
@@ -303,7 +303,7 @@ module _ {n dropped : Noted} {s t : Store} {more now maps held : ℕ} {tally : �
     pub all_used : k ≡ 0 → filter is_used joint ≡ joint
     all_used none =
         let left_all = ap map_sum ended_is in
-        let bare : sum_by (maps_of child) fs ≡ 0 = (let gone = went.gone in let all = maps_leave child fs in omega (arith, none, gone, all, left_all)) in
+        let bare : sum_by (maps_by child) fs ≡ 0 = (let gone = went.gone in let all = maps_leave child fs in omega (arith, none, gone, all, left_all)) in
         let same : ended ≡ fs = ended_is ∙ none_leave child fs (maps_labelled child fs ∙ bare) set.is.keyed.kept in
         let still : K ≡ ended = ap (filter is_used) same ∙ used_still fs set.is.keyed.kept ∙ sym same in
         ap (filter is_used) joint_all ∙ used_all parent child apart ended ∙ ap (map (λ f. with_children parent child f)) still ∙ sym joint_all

@@ -13,7 +13,7 @@ use Rattle.hp_lookup.specs.declared.copy_state.CopyState.TheVariants as state
 use Rattle.hp_lookup.specs.Files.{file_at}
 use Rattle.hp_lookup.specs.Held.{IsHeld}
 use Rattle.hp_lookup.specs.Numbered.{NumberedFile, copy_shown, file_shown, files_shown, map_shown, mapping_at}
-use Rattle.hp_lookup.specs.Places.{map_at}
+use Rattle.hp_lookup.specs.Places.{map_among}
 use Rattle.hp_file.specs.States.{IsCopyState}
 use Rattle.hp_file.specs.Taking.{first_copy}
 use Rattle.hp_lookup.proofs.Cells.{file_is, inserted_is, no_file}
@@ -25,7 +25,7 @@ use Rattle.hp_lookup.proofs.Views.{files_len}
 
 pub once_left : (t : Store) (now : ℕ) (fs : List NumberedFile) (k j i : ℕ) (g : NumberedFile) (n : ℕ) → IsHeld t now (slice_set fs k g) →
     k < length fs → j < length g.maps → copy_of (place_at (mapping_at g j) i) ≡ Some n → holders_of (page_at t n) ≡ 1
-    → IsCopyState state.HeldOnce (file_at (files_shown t (slice_set fs k g)) k) (place_at (map_at (files_shown t (slice_set fs k g)) k j) i)
+    → IsCopyState state.HeldOnce (file_at (files_shown t (slice_set fs k g)) k) (place_at (map_among (files_shown t (slice_set fs k g)) k j) i)
 once_left t now fs k j i g n h within jg there one =
     let gs : List NumberedFile = slice_set fs k g in
     let long = length-set fs k g in
@@ -46,8 +46,8 @@ module _ (s : Store) (more : ℕ) (fs : List NumberedFile) (h : IsHeld s more fs
     (jl : j < length (file_at (files_shown s fs) k).maps) (x : NumberedFile) (read : x ≡ slice_index_or fs k x) (n : ℕ) (page : Page) (t : Store)
     (free : page_at s n ≡ None) (below : n < length s.pages) (t_is : t ≡ inserted n page s)
     (g : NumberedFile) (g_is : g ≡ record x { maps = slice_set x.maps j (at_place (first_copy (mapping_at x j).owner n) i (mapping_at x j)) })
-    (c : Bool) (place : place_at (map_at (files_shown s fs) k j) i ≡ Live c None) where
-  pub put_once : 0 < s.room - more → IsCopyState state.HeldOnce (file_at (files_shown t (slice_set fs k g)) k) (place_at (map_at (files_shown t (slice_set fs k g)) k j) i)
+    (c : Bool) (place : place_at (map_among (files_shown s fs) k j) i ≡ Live c None) where
+  pub put_once : 0 < s.room - more → IsCopyState state.HeldOnce (file_at (files_shown t (slice_set fs k g)) k) (place_at (map_among (files_shown t (slice_set fs k g)) k j) i)
   put_once room =
       let owned : Bool = (mapping s more fs h k j i l jl x read).owner || c in
       let is = put s more fs h k j i l jl x read n page t free below t_is g g_is c place in

@@ -12,7 +12,7 @@ use Rattle.hp_lookup.specs.declared.copy_state.CopyState.{CopyState}
 use Rattle.hp_lookup.specs.Files.{Files, file_at}
 use Rattle.hp_lookup.specs.Held.{IsHeld, in_file}
 use Rattle.hp_lookup.specs.Numbered.{NumberedFile, files_shown, map_shown, mapping_at, no_mapping, numbered_at, place_shown}
-use Rattle.hp_lookup.specs.Places.{map_at}
+use Rattle.hp_lookup.specs.Places.{map_among}
 use Rattle.hp_lookup.proofs.Cells.{file_is, no_file}
 use Rattle.hp_lookup.proofs.Lifting.{at_most}
 use Rattle.hp_lookup.proofs.Views.{files_len, map_seen, place_seen, read_is, view}
@@ -27,11 +27,12 @@ module _ {v w : Files} (same : v ≡ w) (k : ℕ) where
     pub map_here : j < length (file_at w.files k).maps → j < length (file_at v.files k).maps
     map_here below = subst (λ (x : Files). j < length (file_at x.files k).maps) (sym same) below
 
-    pub place_here : (i : ℕ) {p : Place Copy} → place_at (map_at w.files k j) i ≡ p → place_at (map_at v.files k j) i ≡ p
-    place_here i is = ap (λ (x : Files). place_at (map_at x.files k j) i) same ∙ is
+    pub place_here : (i : ℕ) {p : Place Copy} → place_at (map_among w.files k j) i ≡ p → place_at (map_among v.files k j) i ≡ p
+    place_here i is = ap (λ (x : Files). place_at (map_among x.files k j) i) same ∙ is
 
-    pub state_here : (i : ℕ) (state : CopyState) → IsCopyState state (file_at w.files k) (place_at (map_at w.files k j) i) → IsCopyState state (file_at v.files k) (place_at (map_at v.files k j) i)
-    state_here i state is = subst (λ (x : Files). IsCopyState state (file_at x.files k) (place_at (map_at x.files k j) i)) (sym same) is
+    pub state_here : (i : ℕ) (state : CopyState) → IsCopyState state (file_at w.files k) (place_at (map_among w.files k j) i)
+        → IsCopyState state (file_at v.files k) (place_at (map_among v.files k j) i)
+    state_here i state is = subst (λ (x : Files). IsCopyState state (file_at x.files k) (place_at (map_among x.files k j) i)) (sym same) is
 
 -- ---- the file and the map that code reads
 
@@ -66,16 +67,16 @@ module _ (s : Store) (more : ℕ) (fs : List NumberedFile) {w : Files} (same : v
           omega (arith, here, seen, long, own)
 
       module _ (i : ℕ) where
-        place_inside : place_at (map_at w.files k j) i ≡ place_shown s (place_at (mapping_at x j) i)
+        place_inside : place_at (map_among w.files k j) i ≡ place_shown s (place_at (mapping_at x j) i)
         place_inside =
             let l : k < length (files_shown s fs) = file_here same k below in
             let jl : j < length (file_at (files_shown s fs) k).maps = map_here same k j there in
             let reads = get_or_default x.maps j no_mapping (mapping_at x j) map_inside in
-            sym (ap (λ (v : Files). place_at (map_at v.files k j) i) same)
+            sym (ap (λ (v : Files). place_at (map_among v.files k j) i) same)
             ∙ ap (λ (m : Map). place_at m i) (map_seen s fs k j l x read (mapping_at x j) reads jl) ∙ place_seen s fs k j l x read (mapping_at x j) reads jl i
 
-        pub live_inside : is_live (place_at (map_at w.files k j) i) ≡ true → is_live (place_at (mapping_at x j) i) ≡ true
+        pub live_inside : is_live (place_at (map_among w.files k j) i) ≡ true → is_live (place_at (mapping_at x j) i) ≡ true
         live_inside live = sym (ap is_live place_inside ∙ live_shown s (place_at (mapping_at x j) i)) ∙ live
 
-        pub copy_inside : IsSome (copy_of (place_at (map_at w.files k j) i)) → IsSome (copy_of (place_at (mapping_at x j) i))
+        pub copy_inside : IsSome (copy_of (place_at (map_among w.files k j) i)) → IsSome (copy_of (place_at (mapping_at x j) i))
         copy_inside some = some_shown s (place_at (mapping_at x j) i) (subst (λ p. IsSome (copy_of p)) place_inside some)

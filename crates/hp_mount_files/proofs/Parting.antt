@@ -19,7 +19,7 @@ use Rattle.hp_lookup.specs.Files.{file_at, parted_at}
 use Rattle.hp_lookup.specs.Held.{IsHeld, in_place, more_in}
 use Rattle.hp_lookup.specs.Level.{AreLevel}
 use Rattle.hp_lookup.specs.Numbered.{NumberedFile, files_shown, mapping_at, numbered_at, place_shown}
-use Rattle.hp_lookup.specs.Places.{map_at}
+use Rattle.hp_lookup.specs.Places.{map_among}
 use Rattle.hp_file.specs.States.{IsCopyState}
 use Rattle.hp_lookup.proofs.Cells.{free_is_fresh, no_file, inserted_agrees, inserted_is, inserted_more, some_put}
 use Rattle.hp_file.proofs.Copies.{fresh_stands, with_copy_at}
@@ -44,7 +44,7 @@ going_stays q s two = by (page_at s q) two
   where
     either : (h : Holding) (b : Bool) → (h.holders == 1) ≡ b → 1 < h.holders → (store.dropped_by q (Some h) s).going ≡ s.going
     either h true e l = (let one : h.holders ≡ 1 = grind (arith, nat_tests, e) in absurd (omega (arith, one, l)))
-    either h false e l = ap (λ b. (cond b (record (store.with_page q None s) { going = s.going ++ store.page_of h ∷ [] }) (store.with_page q (Some (store.held_once_less h)) s)).going) e
+    either h false e l = ap (λ b. (cond b (record (store.with_page q None s) { going = s.going ++ store.held_page h ∷ [] }) (store.with_page q (Some (store.held_once_less h)) s)).going) e
 
     by : (o : Option Holding) → 1 < holders_of o → (store.dropped_by q o s).going ≡ s.going
     by None l = refl
@@ -52,7 +52,7 @@ going_stays q s two = by (page_at s q) two
 
 module _ (s : Store) (more : ℕ) (fs : List NumberedFile) (h : IsHeld s more fs) (k j i : ℕ) (l : k < length (files_shown s fs))
     (jl : j < length (file_at (files_shown s fs) k).maps) (x : NumberedFile) (read : x ≡ slice_index_or fs k x)
-    (several : IsCopyState state.HeldBySeveral (file_at (files_shown s fs) k) (place_at (map_at (files_shown s fs) k j) i)) where
+    (several : IsCopyState state.HeldBySeveral (file_at (files_shown s fs) k) (place_at (map_among (files_shown s fs) k j) i)) where
   abbrev m : Mapping ℕ
   m = mapping s more fs h k j i l jl x read
 
@@ -147,7 +147,7 @@ module _ (s : Store) (more : ℕ) (fs : List NumberedFile) (h : IsHeld s more fs
           let had = h.counted in
           omega (arith, count, step, left, same, had)
 
-      module _ (c : Bool) (copy : Copy) (place : place_at (map_at (files_shown s fs) k j) i ≡ Live c (Some copy)) where
+      module _ (c : Bool) (copy : Copy) (place : place_at (map_among (files_shown s fs) k j) i ≡ Live c (Some copy)) where
         place_is : place_at m i ≡ Live c (Some q)
         place_is = shown_live s (place_at m i) c copy q (ap (λ y. copy_of (place_at y i)) (sym x_there) ∙ there) (sym (seen_place s more fs h k j i l jl x read) ∙ place)
 
@@ -187,7 +187,7 @@ module _ (s : Store) (more : ℕ) (fs : List NumberedFile) (h : IsHeld s more fs
         pub part_levels : AreLevel x.maps → AreLevel g.maps
         part_levels = put_levels s more fs h k j i l jl x read n page v free below refl c g put live
 
-        pub part_once : IsCopyState state.HeldOnce (file_at (files_shown t gs) k) (place_at (map_at (files_shown t gs) k j) i)
+        pub part_once : IsCopyState state.HeldOnce (file_at (files_shown t gs) k) (place_at (map_among (files_shown t gs) k j) i)
         part_once =
             let had = d.held n in
             let none = is_other q n apart_numbers in
@@ -197,7 +197,7 @@ module _ (s : Store) (more : ℕ) (fs : List NumberedFile) (h : IsHeld s more fs
 
 -- there is room for its page
 pub room_there : (s : Store) (more : ℕ) (fs : List NumberedFile) (h : IsHeld s more fs) (k j i : ℕ) → k < length (files_shown s fs) → j < length (file_at (files_shown s fs) k).maps
-    → IsCopyState state.HeldBySeveral (file_at (files_shown s fs) k) (place_at (map_at (files_shown s fs) k j) i) → 0 < s.room
+    → IsCopyState state.HeldBySeveral (file_at (files_shown s fs) k) (place_at (map_among (files_shown s fs) k j) i) → 0 < s.room
 room_there s more fs h k j i l jl several =
     let long = files_len s fs in
     let x : NumberedFile = numbered_at fs k in

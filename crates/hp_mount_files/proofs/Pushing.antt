@@ -7,7 +7,7 @@ use Rattle.std.proofs.lemmas.List.Elements.{All-append, All-cons, All-nil}
 use Rattle.std.proofs.lemmas.List.Sums.{sum_by_push}
 use Rattle.hp_store.specs.Store.{Store}
 use Rattle.hp_lookup.specs.Held.{IsHeld, in_cell, in_cells, in_file, in_files}
-use Rattle.hp_lookup.specs.Hints.{AreNoted, IsFiles, IsMore, Noted, has_key, has_name as has_noted}
+use Rattle.hp_lookup.specs.Hints.{AreNoted, IsFiles, IsMore, Noted, has_key, is_noted_as as has_noted}
 use Rattle.hp_lookup.specs.Keyed.{IsKeyed, Label, has_label, is_listed, keys_in, label_of, labels_of, maps_for}
 use Rattle.hp_lookup.specs.Level.{AreLevel}
 use Rattle.hp_lookup.specs.Numbered.{NumberedFile, numbered_at}

@@ -24,7 +24,7 @@ use Rattle.hp_lookup.specs.Dropping.{IsDropping, IsLeft}
 use Rattle.hp_lookup.specs.Files.{file_at, taken_back_at}
 use Rattle.hp_lookup.specs.Held.{in_cell, in_file, in_map, in_place, more_in}
 use Rattle.hp_lookup.specs.Hints.{IsFiles, Noted}
-use Rattle.hp_lookup.specs.Places.{map_at}
+use Rattle.hp_lookup.specs.Places.{map_among}
 use Rattle.hp_lookup.specs.Keyed.{key_of, label_of}
 use Rattle.hp_lookup.specs.Level.{AreLevel, copy_in}
 use Rattle.hp_lookup.specs.Numbered.{NumberedFile, copy_shown, file_shown, files_shown, map_shown, mapping_at, no_mapping, place_shown}
@@ -279,7 +279,7 @@ module _ (n : Noted) (s t : Store) (more now maps : ℕ) (tally : ℕ → ℕ) (
     (l : k < length (files_shown s fs)) (jl : j < length (file_at (files_shown s fs) k).maps) (x y : NumberedFile) (read : x ≡ slice_index_or fs k x)
     (y_is : (q : ℕ) → copy_of (place_at (mapping_at x j) i) ≡ Some q → y ≡ with_taken_back q j i x)
     (d : IsDropping (λ r. in_file r x) (λ r. in_file r y) s t) (counted : now ≡ more_in t.pages) (copy : Copy)
-    (there : copy_of (place_at (map_at (files_shown s fs) k j) i) ≡ Some copy) where
+    (there : copy_of (place_at (map_among (files_shown s fs) k j) i) ≡ Some copy) where
   found : (q : ℕ) × (copy_of (place_at (mapping_at x j) i) ≡ Some q)
   found = number_there s more fs is.held k j i l jl x read copy there
 
@@ -322,7 +322,7 @@ module _ (n : Noted) (s t : Store) (more now maps : ℕ) (tally : ℕ → ℕ) (
       let rest = bare_others ms (λ a r e. only (suc a) r e) in
       omega (arith, here, rest, sum_by-cons (in_map found.0) (robbed_at found.0 i m) (map (robbed_at found.0 i) ms))
 
-  pub back_once : IsCopyState state.HeldOnce (file_at (files_shown t (slice_set fs k y)) k) (place_at (map_at (files_shown t (slice_set fs k y)) k j) i)
+  pub back_once : IsCopyState state.HeldOnce (file_at (files_shown t (slice_set fs k y)) k) (place_at (map_among (files_shown t (slice_set fs k y)) k j) i)
   back_once =
       let q : ℕ = found.0 in
       let rob : Mapping ℕ → Mapping ℕ = robbed_at found.0 i in

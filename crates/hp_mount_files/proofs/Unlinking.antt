@@ -20,7 +20,7 @@ use Rattle.hp_store.specs.Store.{Store, holders_of, page_at}
 use Rattle.hp_lookup.specs.Dropping.{IsDropping, IsLeft}
 use Rattle.hp_lookup.specs.Files.{edited_at, file_at}
 use Rattle.hp_lookup.specs.Held.{IsHeld, in_cell, in_cells, in_file, in_files, more_in}
-use Rattle.hp_lookup.specs.Hints.{AreNoted, IsFiles, IsMoreBut, Noted, has_name as has_noted}
+use Rattle.hp_lookup.specs.Hints.{AreNoted, IsFiles, IsMoreBut, Noted, is_noted_as as has_noted}
 use Rattle.hp_lookup.specs.Keyed.{Label, has_label, is_key, is_listed, is_name_of, key_of, keys_in, label_of, labels_of, maps_for}
 use Rattle.hp_lookup.specs.Places.{IsNamed}
 use Rattle.hp_lookup.specs.Level.{AreLevel}

@@ -5,7 +5,7 @@ ghost use Rattle.hp_model.specs.files.Value.{shown};
 ghost use Rattle.hp_lookup.specs.Files.{file_at, copied_at, parted_at, placed_at, taken_back_at};
 ghost use Rattle.std.specs.List.{sum_by, flat_map};
 ghost use Rattle.hp_model.specs.files.MountCounts.{file_pages, stamps_of};
-ghost use Rattle.hp_lookup.specs.Places.{shown_at, map_at};
+ghost use Rattle.hp_lookup.specs.Places.{shown_at, map_among};
 ghost use Rattle.hp_model.specs.declared.place.Place.TheVariants.{Live};
 ghost use Rattle.hp_model.specs.files.Mapping.{copy_of, is_live, place_at};
 ghost use Rattle.hp_model.specs.files.Spot.{place_written};
@@ -46,7 +46,7 @@ pub trait MapPages<P> {
         requires file { at.file < length (seen self.now).files }
         requires map { at.map < length (file_at (seen self.now).files at.file).maps }
         ensures state { IsCopyState result (file_at (seen self.now).files at.file)
-            (place_at (map_at (seen self.now).files at.file at.map) index) }
+            (place_at (map_among (seen self.now).files at.file at.map) index) }
         ensures agreed { AreAgreed (file_at (seen self.now).files at.file) }
         ensures few { result ≡ CopyState.HeldBySeveral
             → sum_by file_pages (seen self.now).files + (seen self.now).room ≤ 2 ^ 32 };
@@ -57,18 +57,18 @@ pub trait MapPages<P> {
         requires file { at.file < length (seen self.old).files }
         requires map { at.map < length (file_at (seen self.old).files at.file).maps }
         requires live { IsTrue (is_live
-            (place_at (map_at (seen self.old).files at.file at.map) index)) }
+            (place_at (map_among (seen self.old).files at.file at.map) index)) }
         requires bare { copy_of
-            (place_at (map_at (seen self.old).files at.file at.map) index) ≡ None }
+            (place_at (map_among (seen self.old).files at.file at.map) index) ≡ None }
         requires room { 0 < (seen self.old).room }
         ensures fresh { is_among result (flat_map stamps_of (seen self.old).files) ≡ false }
         ensures copied { (consumed : Bool)
-            → place_at (map_at (seen self.old).files at.file at.map) index ≡ Live consumed None
+            → place_at (map_among (seen self.old).files at.file at.map) index ≡ Live consumed None
             → seen self.new ≡ copied_at at.file at.map index
-            ((map_at (seen self.old).files at.file at.map).owner || consumed)
+            ((map_among (seen self.old).files at.file at.map).owner || consumed)
             result (page_of page) (seen self.old) }
         ensures once { IsCopyState CopyState.HeldOnce (file_at (seen self.new).files at.file)
-            (place_at (map_at (seen self.new).files at.file at.map) index) };
+            (place_at (map_among (seen self.new).files at.file at.map) index) };
 
     /// Puts a page in the place of a copy that several maps hold, and answers its stamp, which is fresh. The others keep
     /// theirs. It takes no memory, as there is room for a page to each holder beyond the first.
@@ -77,39 +77,39 @@ pub trait MapPages<P> {
         requires map { at.map < length (file_at (seen self.old).files at.file).maps }
         requires several { IsCopyState CopyState.HeldBySeveral
             (file_at (seen self.old).files at.file)
-            (place_at (map_at (seen self.old).files at.file at.map) index) }
+            (place_at (map_among (seen self.old).files at.file at.map) index) }
         ensures fresh { is_among result (flat_map stamps_of (seen self.old).files) ≡ false }
         ensures parted { (consumed : Bool) (copy : Copy)
-            → place_at (map_at (seen self.old).files at.file at.map) index
+            → place_at (map_among (seen self.old).files at.file at.map) index
             ≡ Live consumed (Some copy)
             → seen self.new ≡ parted_at at.file at.map index consumed
             result (page_of page) (seen self.old) }
         ensures once { IsCopyState CopyState.HeldOnce (file_at (seen self.new).files at.file)
-            (place_at (map_at (seen self.new).files at.file at.map) index) };
+            (place_at (map_among (seen self.new).files at.file at.map) index) };
 
     /// Takes a map's copy at an index from all other maps of its file, which are marked. It takes a step for each of these.
     fn take_back(&mut self, at: MapPlace, index: u64)
         requires file { at.file < length (seen self.old).files }
         requires map { at.map < length (file_at (seen self.old).files at.file).maps }
         requires copy { IsSome (copy_of
-            (place_at (map_at (seen self.old).files at.file at.map) index)) }
+            (place_at (map_among (seen self.old).files at.file at.map) index)) }
         ensures files { (copy : Copy)
-            → copy_of (place_at (map_at (seen self.old).files at.file at.map) index) ≡ Some copy
+            → copy_of (place_at (map_among (seen self.old).files at.file at.map) index) ≡ Some copy
             → (seen self.new).files
             ≡ taken_back_at at.file at.map copy.stamp (seen self.old).files }
         ensures left { IsLeft 0 (seen self.old) (seen self.new) }
         ensures once { IsCopyState CopyState.HeldOnce (file_at (seen self.new).files at.file)
-            (place_at (map_at (seen self.new).files at.file at.map) index) };
+            (place_at (map_among (seen self.new).files at.file at.map) index) };
 
     /// Writes bytes into a copy at an index that the map alone holds, from an offset on.
     fn write_copy(&mut self, at: MapPlace, index: u64, offset: usize, bytes: &[u8])
         requires file { at.file < length (seen self.old).files }
         requires map { at.map < length (file_at (seen self.old).files at.file).maps }
         requires once { IsCopyState CopyState.HeldOnce (file_at (seen self.old).files at.file)
-            (place_at (map_at (seen self.old).files at.file at.map) index) }
+            (place_at (map_among (seen self.old).files at.file at.map) index) }
         requires fits { offset + length bytes.now ≤ page_bytes }
         ensures { seen self.new ≡ placed_at at.file at.map index
             (place_written offset bytes.now
-            (place_at (map_at (seen self.old).files at.file at.map) index))
+            (place_at (map_among (seen self.old).files at.file at.map) index))
             (seen self.old) };
 }

@@ -24,7 +24,7 @@ use Rattle.hp_lookup.specs.Dropping.{IsLeft}
 use Rattle.hp_lookup.specs.Files.{Files, edited_at}
 use Rattle.hp_mount_laws.specs.Done.{Tried}
 use Rattle.hp_mount_laws.specs.Reach.{first_of}
-use Rattle.hp_mount_laws.specs.Kept.{IsKept, mount_of}
+use Rattle.hp_mount_laws.specs.Kept.{IsKept, mount_from}
 use Rattle.hp_mount_laws.proofs.Trying.{tests_fail, tests_pass}
 use Rattle.hp_mount_laws.proofs.Ending.{gave}
 use Rattle.hp_mount_laws.proofs.Ways.{fresh_choice, is_fresh, refused_at}
@@ -33,12 +33,12 @@ use Rattle.hp_subpool.specs.Subpool.{Subpool, fall}
 -- ---- the share and the files that are left: w is what the files are before the pages go back
 
 -- gs are the files that are left
-module _ (s : Subpool) (v w : Files) (inodes : Option ℕ) (c : IsKept s v (mount_of s inodes v.files)) (gs : List File) (reserves : ℕ) (left : IsLeft reserves v w) (w_is : w.files ≡ gs) where
+module _ (s : Subpool) (v w : Files) (inodes : Option ℕ) (c : IsKept s v (mount_from s inodes v.files)) (gs : List File) (reserves : ℕ) (left : IsLeft reserves v w) (w_is : w.files ≡ gs) where
   abbrev m : Mount
-  m = mount_of s inodes v.files
+  m = mount_from s inodes v.files
 
   abbrev n : Mount
-  n = mount_of s inodes gs
+  n = mount_from s inodes gs
 
   none_going : length v.going ≡ 0
   none_going = ap length c.going
@@ -53,15 +53,15 @@ module _ (s : Subpool) (v w : Files) (inodes : Option ℕ) (c : IsKept s v (moun
   enough_held = (let all = held_are in omega (arith, all))
 
   pub keeps : (new : Subpool) (last : Files) → length gs ≤ length v.files → new ≡ with_less (length w.going) reserves s →
-      last ≡ record w { going = [] } → IsKept new last (mount_of new inodes last.files)
+      last ≡ record w { going = [] } → IsKept new last (mount_from new inodes last.files)
   keeps new last fewer new_is last_is =
       let pages = pages_are in
       let held = held_are in
       let room = c.room in
       let more = left.room in
       let few = c.few in
-      subst (λ x. IsKept x last (mount_of x inodes last.files)) (sym new_is) (subst
-      (λ x. IsKept (with_less (length w.going) reserves s) x (mount_of (with_less (length w.going) reserves s) inodes x.files)) (sym last_is)
+      subst (λ x. IsKept x last (mount_from x inodes last.files)) (sym new_is) (subst
+      (λ x. IsKept (with_less (length w.going) reserves s) x (mount_from (with_less (length w.going) reserves s) inodes x.files)) (sym last_is)
       (record {
         pages = omega (arith, pages);
         used = omega (arith, pages, held);
@@ -70,33 +70,33 @@ module _ (s : Subpool) (v w : Files) (inodes : Option ℕ) (c : IsKept s v (moun
         few = subst (λ fs. length fs ≤ most_files) (sym w_is) (omega (arith, few, fewer));
       }))
 
-  pub leaves : (new : Subpool) (last : Files) → new ≡ with_less (length w.going) reserves s → last ≡ record w { going = [] } → mount_of new inodes last.files ≡ n
-  leaves new last new_is last_is = ap (λ (x : Subpool). mount_of x inodes last.files) new_is ∙ ap (λ (x : Files). mount_of s inodes x.files) last_is ∙ ap (mount_of s inodes) w_is
+  pub leaves : (new : Subpool) (last : Files) → new ≡ with_less (length w.going) reserves s → last ≡ record w { going = [] } → mount_from new inodes last.files ≡ n
+  leaves new last new_is last_is = ap (λ (x : Subpool). mount_from x inodes last.files) new_is ∙ ap (λ (x : Files). mount_from s inodes x.files) last_is ∙ ap (mount_from s inodes) w_is
 
-  falls : fall s (length w.going + reserves) ≡ fall_of (Some m) (Some (mount_of s inodes w.files))
+  falls : fall s (length w.going + reserves) ≡ fall_of (Some m) (Some (mount_from s inodes w.files))
   falls = (let pages = pages_are in let held = held_are in let was = c.used in omega (arith, pages, held, was))
 
   pub gave_through : {X : Type 0} (took : X → Section → PoolAnswer → X → Type 0) (door left : X) → GivesBack took w.going (fall s (length w.going + reserves)) door left
       → ThroughDoor took (gives Done (Some m) (Some n)) (Some m) door (Ok Done) (Some n) left
-  gave_through took door after back = subst (λ x. ThroughDoor took (gives Done (Some m) (Some x)) (Some m) door (Ok Done) (Some x) after) (ap (mount_of s inodes) w_is)
-      (gave took Done (Some m) (Some (mount_of s inodes w.files)) w.going (fall s (length w.going + reserves)) door after
+  gave_through took door after back = subst (λ x. ThroughDoor took (gives Done (Some m) (Some x)) (Some m) door (Ok Done) (Some x) after) (ap (mount_from s inodes) w_is)
+      (gave took Done (Some m) (Some (mount_from s inodes w.files)) w.going (fall s (length w.going + reserves)) door after
       (λ i. (let all = left.nodes i in let none = ap (count_by (λ (page : Page). page.node == i)) c.going in omega (arith, all, none))) falls back)
 
 -- one file for another, or gone
-module _ (s : Subpool) (v w : Files) (inodes : Option ℕ) (c : IsKept s v (mount_of s inodes v.files)) (k : ℕ) (g : File) (reserves : ℕ)
+module _ (s : Subpool) (v w : Files) (inodes : Option ℕ) (c : IsKept s v (mount_from s inodes v.files)) (k : ℕ) (g : File) (reserves : ℕ)
     (left : IsLeft reserves v w) (w_is : w.files ≡ edited_at k g v.files) where
-  pub kept : (new : Subpool) (last : Files) → new ≡ with_less (length w.going) reserves s → last ≡ record w { going = [] } → IsKept new last (mount_of new inodes last.files)
+  pub kept : (new : Subpool) (last : Files) → new ≡ with_less (length w.going) reserves s → last ≡ record w { going = [] } → IsKept new last (mount_from new inodes last.files)
   kept new last new_is last_is =
       keeps s v w inodes c (edited_at k g v.files) reserves left w_is new last
       (let both = length-filter_both is_kept (λ x. not (is_kept x)) (λ x. refl) (slice_set v.files k g) in let long = length-set v.files k g in omega (arith, both, long)) new_is last_is
 
   pub left_is : (new : Subpool) (last : Files) → new ≡ with_less (length w.going) reserves s → last ≡ record w { going = [] } →
-      mount_of new inodes last.files ≡ swept (with_file (mount_of s inodes v.files) k g)
+      mount_from new inodes last.files ≡ swept (with_file (mount_from s inodes v.files) k g)
   left_is = leaves s v w inodes c (edited_at k g v.files) reserves left w_is
 
   pub given : {X : Type 0} (took : X → Section → PoolAnswer → X → Type 0) (door left : X) → GivesBack took w.going (fall s (length w.going + reserves)) door left
-      → ThroughDoor took (gives Done (Some (mount_of s inodes v.files)) (Some (swept (with_file (mount_of s inodes v.files) k g))))
-      (Some (mount_of s inodes v.files)) door (Ok Done) (Some (swept (with_file (mount_of s inodes v.files) k g))) left
+      → ThroughDoor took (gives Done (Some (mount_from s inodes v.files)) (Some (swept (with_file (mount_from s inodes v.files) k g))))
+      (Some (mount_from s inodes v.files)) door (Ok Done) (Some (swept (with_file (mount_from s inodes v.files) k g))) left
   given = gave_through s v w inodes c (edited_at k g v.files) reserves left w_is
 
 -- ---- the plan: a file by its name, tests, and what it gives back

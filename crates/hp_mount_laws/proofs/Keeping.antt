@@ -20,7 +20,7 @@ use Rattle.hp_laws.proofs.counts.MountMoves.{MountGrows, IsFileAt, file_grows, n
 use Rattle.hp_lookup.specs.declared.next_map.MapRange.{MapRange}
 use Rattle.hp_lookup.specs.Asking.{wants}
 use Rattle.hp_lookup.specs.Files.{Files, file_at, filled_at, mapped_at, with_anon, with_cell_at}
-use Rattle.hp_mount_laws.specs.Kept.{IsKept, mount_of}
+use Rattle.hp_mount_laws.specs.Kept.{IsKept, mount_from}
 use Rattle.hp_subpool.specs.Subpool as share
 use Rattle.hp_subpool.specs.Subpool.{Subpool, used}
 
@@ -35,16 +35,16 @@ module _ (s : Subpool) (v : Files) (m : Mount) (c : IsKept s v m) (max_is : m.li
 
 -- ---- the mount that a share and files leave
 
-pub mount_left : (s new : Subpool) (inodes : Option ℕ) (fs gs : List File) → new.max ≡ s.max → new.min ≡ s.min → gs ≡ fs → mount_of new inodes gs ≡ mount_of s inodes fs
+pub mount_left : (s new : Subpool) (inodes : Option ℕ) (fs gs : List File) → new.max ≡ s.max → new.min ≡ s.min → gs ≡ fs → mount_from new inodes gs ≡ mount_from s inodes fs
 mount_left s new inodes fs gs max_is min_is files = ap (λ x. record { limits = record { max = x; min = new.min; inodes = inodes }; files = gs }) max_is
     ∙ ap (λ x. record { limits = record { max = s.max; min = x; inodes = inodes }; files = gs }) min_is
     ∙ ap (λ xs. record { limits = record { max = s.max; min = s.min; inodes = inodes }; files = xs }) files
 
 -- ---- files with so many pages and so much usage more
 
-module _ (s : Subpool) (v : Files) (inodes : Option ℕ) (c : IsKept s v (mount_of s inodes v.files)) where
-  pub raised : (fs : List File) (node p u : ℕ) → MountGrows (mount_of s inodes v.files) (mount_of s inodes fs) node p u → length fs ≤ most_files → (new : Subpool) (w : Files)
-      → new.max ≡ s.max → new.min ≡ s.min → new.pages ≡ s.pages + p → used new ≡ used s + u → new.held ≤ w.room → w.going ≡ v.going → w.files ≡ fs → IsKept new w (mount_of new inodes w.files)
+module _ (s : Subpool) (v : Files) (inodes : Option ℕ) (c : IsKept s v (mount_from s inodes v.files)) where
+  pub raised : (fs : List File) (node p u : ℕ) → MountGrows (mount_from s inodes v.files) (mount_from s inodes fs) node p u → length fs ≤ most_files → (new : Subpool) (w : Files)
+      → new.max ≡ s.max → new.min ≡ s.min → new.pages ≡ s.pages + p → used new ≡ used s + u → new.held ≤ w.room → w.going ≡ v.going → w.files ≡ fs → IsKept new w (mount_from new inodes w.files)
   raised fs node p u all few new w max_is min_is pages_is used_is room going files =
       let had = c.pages in
       let was = c.used in
@@ -65,26 +65,26 @@ module _ (s : Subpool) (v : Files) (inodes : Option ℕ) (c : IsKept s v (mount_
     abbrev anon : File
     anon = mapped task number a n sharing reserving (new_file None)
 
-    pub anon_kept : length v.files < most_files → IsKept new w (mount_of new inodes w.files)
+    pub anon_kept : length v.files < most_files → IsKept new w (mount_from new inodes w.files)
     anon_kept l =
         let held_is = ap (λ (x : Subpool). x.held) new_is in
         let pages_is = ap (λ (x : Subpool). x.pages) new_is in
         let room_is = ap (λ (x : Files). x.room) w_is in
         let same : s.pages ≡ s.pages + 0 = omega arith in
-        let all = new_grows (mount_of s inodes v.files) None anon (asked sharing reserving a n (new_file None)) (mapped_grows task number a n sharing reserving (new_file None)) in
+        let all = new_grows (mount_from s inodes v.files) None anon (asked sharing reserving a n (new_file None)) (mapped_grows task number a n sharing reserving (new_file None)) in
         raised (v.files ++ anon ∷ []) 0 0 (asked sharing reserving a n (new_file None)) all
         (let long = length-append v.files (anon ∷ []) in omega (arith, long, l)) new w (ap (λ (x : Subpool). x.max) new_is)
         (ap (λ (x : Subpool). x.min) new_is)
         (pages_is ∙ same) (omega (arith, held_is, pages_is, more_is)) (omega (arith, held_is, room_is)) (ap (λ (x : Files). x.going) w_is) (ap (λ (x : Files). x.files) w_is)
 
-    pub anon_left : mount_of new inodes w.files ≡ with_new (mount_of s inodes v.files) anon
+    pub anon_left : mount_from new inodes w.files ≡ with_new (mount_from s inodes v.files) anon
     anon_left = mount_left s new inodes (v.files ++ anon ∷ []) w.files (ap (λ (x : Subpool). x.max) new_is) (ap (λ (x : Subpool). x.min) new_is) (ap (λ (x : Files). x.files) w_is)
 
 -- ---- a file for another, with so many pages and so much usage more
 
-module _ (s : Subpool) (v : Files) (inodes : Option ℕ) (c : IsKept s v (mount_of s inodes v.files)) (k : ℕ) (l : k < length v.files) where
+module _ (s : Subpool) (v : Files) (inodes : Option ℕ) (c : IsKept s v (mount_from s inodes v.files)) (k : ℕ) (l : k < length v.files) where
   abbrev m : Mount
-  m = mount_of s inodes v.files
+  m = mount_from s inodes v.files
 
   here : IsFileAt m k (file_at v.files k)
   here = record { within = l; is = λ d. get_or_default v.files k d (new_file None) l }
@@ -93,7 +93,7 @@ module _ (s : Subpool) (v : Files) (inodes : Option ℕ) (c : IsKept s v (mount_
   grows g node p u h = file_grows m k (file_at v.files k) g node p u here h
 
   pub grown : (new : Subpool) (w : Files) (g : File) (node p u : ℕ) → FileGrows (file_at v.files k) g node p u → new.max ≡ s.max → new.min ≡ s.min → new.pages ≡ s.pages + p → used new ≡ used s + u
-      → new.held ≤ w.room → w.going ≡ v.going → w.files ≡ slice_set v.files k g → IsKept new w (mount_of new inodes w.files)
+      → new.held ≤ w.room → w.going ≡ v.going → w.files ≡ slice_set v.files k g → IsKept new w (mount_from new inodes w.files)
   grown new w g node p u h max_is min_is pages_is used_is room going files =
       raised s v inodes c (slice_set v.files k g) node p u (grows g node p u h)
       (let long = length-set v.files k g in let few = c.few in omega (arith, long, few)) new w max_is min_is pages_is used_is room going files
@@ -112,7 +112,7 @@ module _ (s : Subpool) (v : Files) (inodes : Option ℕ) (c : IsKept s v (mount_
   -- ---- an entered index gets its page
 
   pub entry_kept : (i : ℕ) (page : Page) (new : Subpool) (w : Files) → i < length (file_at v.files k).cells → cell_at (file_at v.files k) i ≡ Entered → new ≡ with_page s → w ≡ filled_at k i page v
-      → IsKept new w (mount_of new inodes w.files)
+      → IsKept new w (mount_from new inodes w.files)
   entry_kept i page new w below entered new_is w_is =
       let held = some_held i below entered in
       let room = c.room in
@@ -124,7 +124,7 @@ module _ (s : Subpool) (v : Files) (inodes : Option ℕ) (c : IsKept s v (mount_
       pages_is (omega (arith, held_is, pages_is, held)) (omega (arith, held_is, room_is, room, held)) (ap (λ (x : Files). x.going) w_is) (ap (λ (x : Files). x.files) w_is)
 
   pub entry_left : (i : ℕ) (page : Page) (new : Subpool) (w : Files) → new ≡ with_page s → w ≡ filled_at k i page v →
-      mount_of new inodes w.files ≡ with_file m k (with_cell (file_in m k) i (Present page))
+      mount_from new inodes w.files ≡ with_file m k (with_cell (file_in m k) i (Present page))
   entry_left i page new w new_is w_is = mount_left s new inodes (slice_set v.files k (with_cell (file_at v.files k) i (Present page))) w.files
       (ap (λ (x : Subpool). x.max) new_is) (ap (λ (x : Subpool). x.min) new_is) (ap (λ (x : Files). x.files) w_is)
 
@@ -149,7 +149,7 @@ module _ (s : Subpool) (v : Files) (inodes : Option ℕ) (c : IsKept s v (mount_
       ∙ set_twice v.files k (with_cell (file_at v.files k) i Entered) (with_cell (file_at v.files k) i cell)
 
   pub hole_kept : (i spare : ℕ) (page : Page) (new : Subpool) (w : Files) → i < length (file_at v.files k).cells → cell_at (file_at v.files k) i ≡ Hole → s.held < spare → new ≡ with_granted s
-      → w ≡ filled_at k i page (with_cell_at k i Entered (roomier spare)) → IsKept new w (mount_of new inodes w.files)
+      → w ≡ filled_at k i page (with_cell_at k i Entered (roomier spare)) → IsKept new w (mount_from new inodes w.files)
   hole_kept i spare page new w below hole enough new_is w_is =
       let held_is = ap (λ (x : Subpool). x.held) new_is in
       let pages_is = ap (λ (x : Subpool). x.pages) new_is in
@@ -159,7 +159,7 @@ module _ (s : Subpool) (v : Files) (inodes : Option ℕ) (c : IsKept s v (mount_
       pages_is (omega (arith, held_is, pages_is)) (omega (arith, held_is, room_is, enough)) (ap (λ (x : Files). x.going) w_is) (ap (λ (x : Files). x.files) w_is ∙ again_files i spare (Present page))
 
   pub granted_left : (i spare : ℕ) (page : Page) (new : Subpool) (w : Files) → new ≡ with_granted s →
-      w ≡ filled_at k i page (with_cell_at k i Entered (roomier spare)) → mount_of new inodes w.files
+      w ≡ filled_at k i page (with_cell_at k i Entered (roomier spare)) → mount_from new inodes w.files
       ≡ with_file m k (with_cell (file_in m k) i (Present page))
   granted_left i spare page new w new_is w_is = mount_left s new inodes (slice_set v.files k (with_cell (file_at v.files k) i (Present page))) w.files
       (ap (λ (x : Subpool). x.max) new_is) (ap (λ (x : Subpool). x.min) new_is)
@@ -177,12 +177,12 @@ module _ (s : Subpool) (v : Files) (inodes : Option ℕ) (c : IsKept s v (mount_
       set_read (z ∷ xs) (suc j) d = ap (λ ys. z ∷ ys) (set_read xs j d)
 
   pub hole_stays : (i spare : ℕ) (new : Subpool) (w : Files) → cell_at (file_at v.files k) i ≡ Hole → new ≡ s →
-      w ≡ with_cell_at k i Hole (with_cell_at k i Entered (roomier spare)) → mount_of new inodes w.files ≡ m
+      w ≡ with_cell_at k i Hole (with_cell_at k i Entered (roomier spare)) → mount_from new inodes w.files ≡ m
   hole_stays i spare new w hole new_is w_is = mount_left s new inodes v.files w.files (ap (λ (x : Subpool). x.max) new_is)
       (ap (λ (x : Subpool). x.min) new_is) (ap (λ (x : Files). x.files) w_is ∙ hole_again i spare hole)
 
   pub hole_keeps : (i spare : ℕ) (new : Subpool) (w : Files) → cell_at (file_at v.files k) i ≡ Hole → new ≡ s →
-      w ≡ with_cell_at k i Hole (with_cell_at k i Entered (roomier spare)) → IsKept new w (mount_of new inodes w.files)
+      w ≡ with_cell_at k i Hole (with_cell_at k i Entered (roomier spare)) → IsKept new w (mount_from new inodes w.files)
   hole_keeps i spare new w hole new_is w_is =
       let room_is = ap (λ (x : Files). x.room) w_is in
       let room = c.room in
@@ -200,7 +200,7 @@ module _ (s : Subpool) (v : Files) (inodes : Option ℕ) (c : IsKept s v (mount_
   module _ (task number a n more : ℕ) (sharing : Sharing) (reserving : Reserving) (new : Subpool) (w : Files)
       (more_is : more ≡ asked sharing reserving a n (file_at v.files k)) (new_is : new ≡ with_reserves more s)
       (w_is : w ≡ mapped_at k task number a n (max v.room (s.held + more)) sharing reserving v) where
-    pub map_kept : IsKept new w (mount_of new inodes w.files)
+    pub map_kept : IsKept new w (mount_from new inodes w.files)
     map_kept =
         let held_is = ap (λ (x : Subpool). x.held) new_is in
         let pages_is = ap (λ (x : Subpool). x.pages) new_is in
@@ -211,24 +211,24 @@ module _ (s : Subpool) (v : Files) (inodes : Option ℕ) (c : IsKept s v (mount_
         (ap (λ (x : Subpool). x.min) new_is)
         (pages_is ∙ plain) (omega (arith, held_is, pages_is, more_is)) (omega (arith, held_is, room_is)) (ap (λ (x : Files). x.going) w_is) (ap (λ (x : Files). x.files) w_is)
 
-    pub map_left : mount_of new inodes w.files ≡ with_file m k (mapped task number a n sharing reserving (file_in m k))
+    pub map_left : mount_from new inodes w.files ≡ with_file m k (mapped task number a n sharing reserving (file_in m k))
     map_left = mount_left s new inodes (slice_set v.files k (mapped task number a n sharing reserving (file_at v.files k))) w.files
         (ap (λ (x : Subpool). x.max) new_is) (ap (λ (x : Subpool). x.min) new_is) (ap (λ (x : Files). x.files) w_is)
 
 -- ---- more room alone
 
-module _ (s : Subpool) (v w : Files) (inodes : Option ℕ) (c : IsKept s v (mount_of s inodes v.files)) (w_is : w ≡ record v { room = w.room }) where
-  pub room_left : mount_of s inodes w.files ≡ mount_of s inodes v.files
-  room_left = ap (λ (x : Files). mount_of s inodes x.files) w_is
+module _ (s : Subpool) (v w : Files) (inodes : Option ℕ) (c : IsKept s v (mount_from s inodes v.files)) (w_is : w ≡ record v { room = w.room }) where
+  pub room_left : mount_from s inodes w.files ≡ mount_from s inodes v.files
+  room_left = ap (λ (x : Files). mount_from s inodes x.files) w_is
 
 -- ---- what a new map asks for
 
-module _ (s : Subpool) (v : Files) (inodes : Option ℕ) (m : Mount) (c : IsKept s v (mount_of s inodes v.files)) (view : mount_of s inodes v.files ≡ m) where
+module _ (s : Subpool) (v : Files) (inodes : Option ℕ) (m : Mount) (c : IsKept s v (mount_from s inodes v.files)) (view : mount_from s inodes v.files ≡ m) where
   pub wants_is : (k : ℕ) (range : MapRange) → wants range (file_at v.files k) ≡ wants range (file_at m.files k)
   wants_is k range = ap (λ (x : Mount). wants range (file_at x.files k)) view
 
   pub full_as : (k n : ℕ) (b : Bool) → n ≡ k → b ≡ share.is_full s n → grant.is_full m k ≡ b
-  full_as k n b n_is b_is = ap (grant.is_full m) (sym n_is) ∙ sym (ap (λ (x : Mount). grant.is_full x n) view) ∙ sym (full_is s v (mount_of s inodes v.files) c refl refl n) ∙ sym b_is
+  full_as k n b n_is b_is = ap (grant.is_full m) (sym n_is) ∙ sym (ap (λ (x : Mount). grant.is_full x n) view) ∙ sym (full_is s v (mount_from s inodes v.files) c refl refl n) ∙ sym b_is
 
   pub rise_as : (k : ℕ) → share.rise s k ≡ grant.rise m k
-  rise_as k = rise_is s v (mount_of s inodes v.files) c refl refl k ∙ ap (λ (x : Mount). grant.rise x k) view
+  rise_as k = rise_is s v (mount_from s inodes v.files) c refl refl k ∙ ap (λ (x : Mount). grant.rise x k) view

@@ -26,7 +26,7 @@ use Rattle.hp_lookup.specs.Files.{Files}
 use Rattle.hp_lookup.specs.Places.{all_maps, all_tasks}
 use Rattle.hp_lookup.proofs.MapNumbers.{among_distinct}
 use Rattle.hp_mount_laws.specs.Done.{Tried}
-use Rattle.hp_mount_laws.specs.Kept.{IsKept, mount_of}
+use Rattle.hp_mount_laws.specs.Kept.{IsKept, mount_from}
 use Rattle.hp_mount_laws.proofs.Trying.{tests_fail, tests_pass}
 use Rattle.hp_mount_laws.proofs.Giving.{bad_range, good_range}
 use Rattle.hp_mount_laws.proofs.Ways.{fresh_choice, is_fresh, refused_at}
@@ -47,7 +47,7 @@ has_as task fs = twice (is_among task (all_tasks fs)) ∙ among_distinct task (m
 
 -- ---- what the share holds bounds the reservations
 
-pub few_reserves : (s : Subpool) (v : Files) (inodes : Option ℕ) → IsKept s v (mount_of s inodes v.files) → (held : ℕ) → held ≡ s.held → held < 2 ^ 64 → sum_by file_reserves v.files < 2 ^ 64
+pub few_reserves : (s : Subpool) (v : Files) (inodes : Option ℕ) → IsKept s v (mount_from s inodes v.files) → (held : ℕ) → held ≡ s.held → held < 2 ^ 64 → sum_by file_reserves v.files < 2 ^ 64
 few_reserves s v inodes c held held_is small = (let all = c.used in let pages = c.pages in omega (arith, all, pages, held_is, small))
 
 -- ---- the files that are left are no more

@@ -27,7 +27,7 @@ use Rattle.hp_lookup.specs.Files.{Files}
 use Rattle.hp_mount_laws.specs.Alone.{IsDoneAlone}
 use Rattle.hp_mount_laws.specs.Done.{Enters, Through, Tried}
 use Rattle.hp_mount_laws.specs.Reach.{first_of}
-use Rattle.hp_mount_laws.specs.Kept.{IsKept, mount_of}
+use Rattle.hp_mount_laws.specs.Kept.{IsKept, mount_from}
 use Rattle.hp_mount_laws.specs.Making.{create_tests, map_tests}
 use Rattle.hp_mount_laws.proofs.Trying.{tests_fail, tests_pass, tried_as}
 use Rattle.hp_mount_laws.proofs.Ways.{fresh_choice, is_fresh, refused_at}
@@ -36,11 +36,11 @@ use Rattle.hp_subpool.specs.Subpool.{Subpool}
 
 -- ---- what asks nothing of the pool
 
-pub usage_alone : (s : Subpool) (v : Files) (inodes : Option ℕ) → IsKept s v (mount_of s inodes v.files) → (max ino : Option ℕ) (min used n : ℕ) →
+pub usage_alone : (s : Subpool) (v : Files) (inodes : Option ℕ) → IsKept s v (mount_from s inodes v.files) → (max ino : Option ℕ) (min used n : ℕ) →
     max ≡ s.max → min ≡ s.min → used ≡ share.used s → ino ≡ inodes → n ≡ length v.files
-    → (size k : ℕ) → IsDoneAlone size k (Some (mount_of s inodes v.files)) Df (Ok (UsageAnswer max min used ino n)) (Some (mount_of s inodes v.files))
+    → (size k : ℕ) → IsDoneAlone size k (Some (mount_from s inodes v.files)) Df (Ok (UsageAnswer max min used ino n)) (Some (mount_from s inodes v.files))
 usage_alone s v inodes kept max ino min used n max_is min_is used_is ino_is n_is size k =
-    let m : Mount = mount_of s inodes v.files in
+    let m : Mount = mount_from s inodes v.files in
     record {
       choice = fresh_choice false (Some m);
       fresh = is_fresh false (Some m);

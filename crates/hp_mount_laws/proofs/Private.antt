@@ -28,7 +28,7 @@ use Rattle.hp_model.specs.pool.Grant.{is_full, rise}
 use Rattle.hp_model.specs.pool.Pool.{granted_at, no_pages}
 use Rattle.hp_model.specs.threads.LocalRun.{Gives, ThroughDoor}
 use Rattle.hp_mount_laws.specs.Done.{Enters, MayEnter, Through, Tried}
-use Rattle.hp_mount_laws.specs.Reach.{IsTouched, NeedsCopy, has_reserve, shows_page, spot_at, with_place_at}
+use Rattle.hp_mount_laws.specs.Reach.{IsFileTouched, NeedsCopy, has_reserve, shows_page, spot_at, with_place_at}
 use Rattle.hp_mount_laws.proofs.Ways.{fresh_choice, is_fresh, page_asks, page_denied, page_full, page_granted, page_reserved, page_without_memory}
 
 -- a choice of this stamp
@@ -289,7 +289,7 @@ module _ {X : Type 0} (took : X → Section → PoolAnswer → X → Type 0) (fu
 
 -- ---- as many indices and maps as before
 
-pub place_touched : (m n : Mount) (k j i : ℕ) (p : Place Copy) → k < length m.files → n ≡ with_place_at m k j i p → IsTouched m n k
+pub place_touched : (m n : Mount) (k j i : ℕ) (p : Place Copy) → k < length m.files → n ≡ with_place_at m k j i p → IsFileTouched m n k
 place_touched m n k j i p l e =
     let g : File = with_map (file_in m k) j (with_place (map_in (file_in m k) j) i p) in
     let here : file_in n k ≡ g = ap (λ x. file_in x k) e ∙ get_or-set_same m.files k g (new_file None) l in
@@ -300,7 +300,7 @@ place_touched m n k j i p l e =
     }
 
 pub back_touched : (m n : Mount) (k j stamp : ℕ) (y : Map) → k < length m.files →
-    n ≡ with_file m k (with_map (record (file_in m k) { maps = map (robbed stamp) (file_in m k).maps }) j y) → IsTouched m n k
+    n ≡ with_file m k (with_map (record (file_in m k) { maps = map (robbed stamp) (file_in m k).maps }) j y) → IsFileTouched m n k
 back_touched m n k j stamp y l e =
     let g : File = with_map (record (file_in m k) { maps = map (robbed stamp) (file_in m k).maps }) j y in
     let here : file_in n k ≡ g = ap (λ x. file_in x k) e ∙ get_or-set_same m.files k g (new_file None) l in

@@ -17,7 +17,7 @@ use Rattle.hp_model.specs.threads.LocalRun.{Gives, ThroughDoor}
 use Rattle.hp_mount_door.specs.Limits.{IsLimitedAt, IsLimitedBy, minimum_section}
 use Rattle.hp_lookup.specs.Files.{Files}
 use Rattle.hp_mount_laws.specs.Done.{Enters, IsDone}
-use Rattle.hp_mount_laws.specs.Kept.{IsKept, mount_of}
+use Rattle.hp_mount_laws.specs.Kept.{IsKept, mount_from}
 use Rattle.hp_mount_laws.proofs.Ways.{fresh_choice, is_fresh}
 use Rattle.hp_subpool.specs.Subpool.{Subpool, with_limits}
 
@@ -31,9 +31,9 @@ module _ {X : Type 0} (took : X → Section → PoolAnswer → X → Type 0) (fu
 
   -- ---- the mount
 
-  module _ (v : Files) (inodes : Option ℕ) (kept : IsKept s v (mount_of s inodes v.files)) (k : ℕ) (apart : (k == 0) ≡ false) where
+  module _ (v : Files) (inodes : Option ℕ) (kept : IsKept s v (mount_from s inodes v.files)) (k : ℕ) (apart : (k == 0) ≡ false) where
     abbrev m : Mount
-    m = mount_of s inodes v.files
+    m = mount_from s inodes v.files
 
     abbrev asks : Plan
     asks = Ask (λ nr. remount_section m (means nr)) (λ a. remount_outcome m a (means a.nr))
@@ -62,34 +62,34 @@ module _ {X : Type 0} (took : X → Section → PoolAnswer → X → Type 0) (fu
     answer_is l a n granted same = subst (λ b. Gives (if b then Answered Done (Some (record m { limits = l })) else Refused r.NoPages) (Some m) (Ok Done) n) (sym granted) (refl, same)
 
     pub remount_refused : (e : Refusal) → IsLimitedAt took full size text s new door left (Err e)
-        → IsDone took full size k (Some m) door (Remount text) (Err e) (Some (mount_of new inodes v.files)) left
+        → IsDone took full size k (Some m) door (Remount text) (Err e) (Some (mount_from new inodes v.files)) left
     remount_refused r.TraceFull h = (
-      ap (λ x. Some (mount_of x inodes v.files)) h.0,
+      ap (λ x. Some (mount_from x inodes v.files)) h.0,
       (h.1, h.2),
       (fresh_choice false (Some m), is_fresh false (Some m), subst Enters (sym plan_is) tt),
     )
     remount_refused e h = (fresh_choice false (Some m), is_fresh false (Some m), by_limits (means h.0) refl h.3)
       where
         by_limits : (x : ResultOf Limits Refusal) → means h.0 ≡ x → IsLimitedBy x h.0 s new (Err e) h.1 h.2
-            → ThroughDoor took (remount size k m text) (Some m) door (Err e) (Some (mount_of new inodes v.files)) left
+            → ThroughDoor took (remount size k m text) (Some m) door (Err e) (Some (mount_from new inodes v.files)) left
         by_limits (Err x) wanted by =
             through h.0 h.1 h.2 (Err x) (Err e) _ wanted (ap (λ (a : PoolAnswer). a.nr) by.3) by.2 h.4
-            (as_reply e x by.0, ap (λ y. Some (mount_of y inodes v.files)) by.1)
+            (as_reply e x by.0, ap (λ y. Some (mount_from y inodes v.files)) by.1)
         by_limits (Ok l) wanted by =
             through h.0 h.1 h.2 (Ok l) (Err e) _ wanted (ap (λ (a : PoolAnswer). a.nr) by.3) (by.2 ∙ section_is l) h.4
-            (refusal_is l h.2 e _ (ap (λ (a : PoolAnswer). a.granted) by.3) by.0 (ap (λ y. Some (mount_of y inodes v.files)) by.1))
+            (refusal_is l h.2 e _ (ap (λ (a : PoolAnswer). a.granted) by.3) by.0 (ap (λ y. Some (mount_from y inodes v.files)) by.1))
 
     pub remount_set : (files : Option ℕ) → IsLimitedAt took full size text s new door left (Ok files)
-        → IsDone took full size k (Some m) door (Remount text) (Ok Done) (Some (mount_of new files v.files)) left
+        → IsDone took full size k (Some m) door (Remount text) (Ok Done) (Some (mount_from new files v.files)) left
     remount_set files h = (fresh_choice false (Some m), is_fresh false (Some m), by_limits (means h.0) refl h.3)
       where
         by_limits : (x : ResultOf Limits Refusal) → means h.0 ≡ x → IsLimitedBy x h.0 s new (Ok files) h.1 h.2
-            → ThroughDoor took (remount size k m text) (Some m) door (Ok Done) (Some (mount_of new files v.files)) left
+            → ThroughDoor took (remount size k m text) (Some m) door (Ok Done) (Some (mount_from new files v.files)) left
         by_limits (Err x) wanted by = (let never : Ok files ≡ Err x = by.0 in cc)
         by_limits (Ok l) wanted by =
             through h.0 h.1 h.2 (Ok l) (Ok Done) _ wanted (ap (λ (a : PoolAnswer). a.nr) by.3) (by.2 ∙ section_is l) h.4
             (answer_is l h.2 _ (ap (λ (a : PoolAnswer). a.granted) by.3)
-            (ap (λ y. Some (mount_of y files v.files)) by.1 ∙ ap (λ y. Some (mount_of (with_limits l.max l.min s) y v.files)) by.0))
+            (ap (λ y. Some (mount_from y files v.files)) by.1 ∙ ap (λ y. Some (mount_from (with_limits l.max l.min s) y v.files)) by.0))
 
   -- ---- what the share keeps
 
@@ -106,8 +106,8 @@ module _ {X : Type 0} (took : X → Section → PoolAnswer → X → Type 0) (fu
       by_limits (Err x) by = (let never : Ok files ≡ Err x = by.0 in cc)
       by_limits (Ok l) by = (ap (λ (x : Subpool). x.pages) by.1, ap (λ (x : Subpool). x.held) by.1)
 
-  pub relimited_kept : (v : Files) (inodes later : Option ℕ) (got : ResultOf (Option ℕ) Refusal) → IsKept s v (mount_of s inodes v.files)
-      → IsLimitedAt took full size text s new door left got → IsKept new v (mount_of new later v.files)
+  pub relimited_kept : (v : Files) (inodes later : Option ℕ) (got : ResultOf (Option ℕ) Refusal) → IsKept s v (mount_from s inodes v.files)
+      → IsLimitedAt took full size text s new door left got → IsKept new v (mount_from new later v.files)
   relimited_kept v inodes later got kept h =
       let pages = (counts got h).0 in
       let held = (counts got h).1 in

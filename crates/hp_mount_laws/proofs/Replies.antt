@@ -9,15 +9,15 @@ use Rattle.hp_model.specs.beside.Accesses.{bytes_reply, done_reply}
 use Rattle.hp_model.specs.machine.Plan.{Reply, Slot}
 use Rattle.hp_events.specs.declared.event.MountEvent.{MountEvent}
 use Rattle.hp_mount_laws.specs.Done.{IsDone}
-use Rattle.hp_events.specs.Event.{event_of}
+use Rattle.hp_events.specs.Event.{as_event}
 use denote.Ref.{Bor}
 
 -- an event with its reply, by other words for both
 pub told_as : {X : Type 0} (took : X → Section → PoolAnswer → X → Type 0) (full : X → Type 0) (size k home : ℕ) (old new : Slot) (door left : X) {e f : MountEvent} {a b : Reply} → e ≡ f → a ≡ b
-    → IsDone took full size k old door (event_of home f) b new left → IsDone took full size k old door (event_of home e) a new left
+    → IsDone took full size k old door (as_event home f) b new left → IsDone took full size k old door (as_event home e) a new left
 told_as took full size k home old new door left {e} {f} {a} {b} event reply h =
-    subst (λ (x : MountEvent). IsDone took full size k old door (event_of home x) a new left) (sym event)
-    (subst (λ (x : Reply). IsDone took full size k old door (event_of home f) x new left) (sym reply) h)
+    subst (λ (x : MountEvent). IsDone took full size k old door (as_event home x) a new left) (sym event)
+    (subst (λ (x : Reply). IsDone took full size k old door (as_event home f) x new left) (sym reply) h)
 
 refusal_is : {A B : Type 0} {e x : Refusal} → ◌≡◌ {A = Result A Refusal} (Err e) (Err x) → ◌≡◌ {A = Result B Refusal} (Err e) (Err x)
 refusal_is {B} {e} {x} h = ap Err err_is

@@ -20,7 +20,7 @@ use Rattle.hp_model.specs.pool.Pool.{granted_at, no_pages}
 use Rattle.hp_model.specs.machine.Promises.{file_in}
 use Rattle.hp_model.specs.files.Spot.{Spot, filled}
 use Rattle.hp_mount_laws.specs.Done.{Enters, Through, Tried}
-use Rattle.hp_mount_laws.specs.Reach.{IsTouched}
+use Rattle.hp_mount_laws.specs.Reach.{IsFileTouched}
 use Rattle.hp_mount_laws.proofs.Ways.{fresh_choice, is_fresh, page_full, page_without_memory, page_asks, page_denied, page_granted, page_reserved}
 
 module _ {X : Type 0} (took : X → Section → PoolAnswer → X → Type 0) (full : X → Type 0) (size : ℕ) (m : Mount) (home k i : ℕ) (s : Spot)
@@ -111,5 +111,5 @@ module _ {X : Type 0} (took : X → Section → PoolAnswer → X → Type 0) (fu
 
 -- ---- the file has as many indices, and the same maps
 
-pub same_touched : (m n : Mount) (k : ℕ) → n ≡ m → IsTouched m n k
+pub same_touched : (m n : Mount) (k : ℕ) → n ≡ m → IsFileTouched m n k
 same_touched m n k e = record { files = ap (λ x. length x.files) e; maps = ap (λ x. length (file_in x k).maps) e; cells = ap (λ x. length (file_in x k).cells) e }

@@ -48,6 +48,6 @@ anon_plan m range number home c =
     (Answered (MapNo number) (Some (with_new m (with_range range number (new_file None)))))
 
 -- the reply of a map that was made, by its number
-abbrev pub numbered : ℕ → Result (Unit {0}) Refusal → Reply
-numbered number (Ok done) = Ok (MapNo number)
-numbered number (Err r) = Err r
+abbrev pub made_reply : ℕ → Result (Unit {0}) Refusal → Reply
+made_reply number (Ok done) = Ok (MapNo number)
+made_reply number (Err r) = Err r

@@ -21,7 +21,7 @@ first_of [] = None
 first_of (t ∷ ts) = if t.0 then Some t.1 else first_of ts
 
 -- as many files, and the file at the place has as many indices and maps
-pub record IsTouched (m n : Mount) (file : ℕ) : Type 0 where
+pub record IsFileTouched (m n : Mount) (file : ℕ) : Type 0 where
   pub files : length n.files ≡ length m.files
   pub maps : length (file_in n file).maps ≡ length (file_in m file).maps
   pub cells : length (file_in n file).cells ≡ length (file_in m file).cells

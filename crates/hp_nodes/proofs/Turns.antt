@@ -11,7 +11,7 @@ use Rattle.std.proofs.Math.Seq.{set-append_seam, get_or-append_seam, drop-append
 use Rattle.hp_model.proofs.Counting.{count_cons}
 use Rattle.hp_model.specs.declared.node.Kind.{Kind}
 use Rattle.hp_model.specs.declared.node.NodeRow.{NodeRow}
-use Rattle.hp_model.specs.pool.NodeRows.{NodeRows, at_row, row_at, no_row, has, lowest, next_from, after, grown, shrunk, grow_row, shrink_row}
+use Rattle.hp_model.specs.pool.NodeRows.{NodeRows, at_row, row_at, no_row, has, lowest, next_from, next_node, grown, shrunk, grow_row, shrink_row}
 use Rattle.hp_model.specs.declared.node.Kind.TheVariants.{Free, Idle}
 use Rattle.hp_nodes.proofs.Finds.{amount_has}
 use Rattle.hp_nodes.proofs.Repeats.{times_add}
@@ -25,7 +25,7 @@ Turn = List NodeRow × ℕ
 
 -- one move by the cursor
 abbrev pub turn : Kind → (NodeRow → NodeRow) → Turn → Turn
-turn kind g s = (at_row g (next_from kind s.1 s.0) s.0, after (next_from kind s.1 s.0) s.0)
+turn kind g s = (at_row g (next_from kind s.1 s.0) s.0, next_node (next_from kind s.1 s.0) s.0)
 
 module _ (kind : Kind) (g : NodeRow → NodeRow) where
   abbrev turns : ℕ → List NodeRow → ℕ → Turn
@@ -36,7 +36,7 @@ module _ (kind : Kind) (g : NodeRow → NodeRow) where
 
   -- cursors from which the same node is found
   alike : (n : ℕ) (rows : List NodeRow) (a b : ℕ) → next_from kind a rows ≡ next_from kind b rows → turns (suc n) rows a ≡ turns (suc n) rows b
-  alike n rows a b e = ap (λ i. iterate (turn kind g) n (at_row g i rows, after i rows)) e
+  alike n rows a b e = ap (λ i. iterate (turn kind g) n (at_row g i rows, next_node i rows)) e
 
   -- a cursor past the last node is one at the first
   from_end : (rows : List NodeRow) → next_from kind (length rows) rows ≡ next_from kind 0 rows
@@ -44,13 +44,13 @@ module _ (kind : Kind) (g : NodeRow → NodeRow) where
       let past : nat_lt (length rows + lowest kind (drop (length rows) rows)) (length rows) ≡ false = le-ltb _ _ (omega arith) in
       cond-false _ _ _ past ∙ cond_both (nat_lt (0 + lowest kind rows) (length rows)) (0 + lowest kind rows) (lowest kind rows) (λ i. lowest kind rows ≡ i) (λ e. omega arith) (λ e. refl)
 
-  from_after : (n : ℕ) (rows : List NodeRow) (i : ℕ) → turns (suc n) rows (after i rows) ≡ turns (suc n) rows (i + 1)
+  from_after : (n : ℕ) (rows : List NodeRow) (i : ℕ) → turns (suc n) rows (next_node i rows) ≡ turns (suc n) rows (i + 1)
   from_after n rows i =
       cond_both (nat_eq (i + 1) (length rows)) 0 (i + 1) (λ a. turns (suc n) rows a ≡ turns (suc n) rows (i + 1))
       (λ e. (let last : i + 1 ≡ length rows = eqb-true _ _ e in alike n rows 0 (i + 1) (sym (from_end rows) ∙ ap (λ a. next_from kind a rows) (sym last))))
       (λ e. refl)
 
-  hit : (pre : List NodeRow) (x : NodeRow) (post : List NodeRow) → has kind x ≡ true → turn kind g (pre ++ x ∷ post, length pre) ≡ (pre ++ g x ∷ post, after (length pre) (pre ++ g x ∷ post))
+  hit : (pre : List NodeRow) (x : NodeRow) (post : List NodeRow) → has kind x ≡ true → turn kind g (pre ++ x ∷ post, length pre) ≡ (pre ++ g x ∷ post, next_node (length pre) (pre ++ g x ∷ post))
   hit pre x post e =
       let rows = pre ++ x ∷ post in
       let none : lowest kind (drop (length pre) rows) ≡ 0 = ap (lowest kind) (drop-append_seam pre (x ∷ post)) ∙ ap (λ t. cond (not t) (1 + lowest kind post) 0) e in
@@ -59,7 +59,7 @@ module _ (kind : Kind) (g : NodeRow → NodeRow) where
       let found : next_from kind (length pre) rows ≡ length pre = cond-true _ _ _ within ∙ omega (arith, none) in
       let moved : at_row g (length pre) rows ≡ pre ++ g x ∷ post = ap (λ y. slice_set rows (length pre) (g y)) (get_or-append_seam pre x post no_row) ∙ set-append_seam pre x post (g x) in
       let as_long : length rows ≡ length (pre ++ g x ∷ post) = omega (arith, size, length-append pre (g x ∷ post)) in
-      ap (λ i. (at_row g i rows, after i rows)) found ∙ ap (λ xs. (xs, after (length pre) rows)) moved
+      ap (λ i. (at_row g i rows, next_node i rows)) found ∙ ap (λ xs. (xs, next_node (length pre) rows)) moved
       ∙ ap (λ n. (pre ++ g x ∷ post, cond (nat_eq (length pre + 1) n) 0 (length pre + 1))) as_long
 
   miss : (pre : List NodeRow) (x : NodeRow) (post : List NodeRow) → has kind x ≡ false → next_from kind (length pre) (pre ++ x ∷ post) ≡ next_from kind (length pre + 1) (pre ++ x ∷ post)
@@ -97,8 +97,8 @@ module _ (kind : Kind) (g : NodeRow → NodeRow) where
 
   -- a round from behind a node that has one: one more at each that has, and the cursor is where it was
   pub round : (pre : List NodeRow) (x : NodeRow) (post : List NodeRow) → has kind x ≡ true
-      → turns (count_by (has kind) (pre ++ x ∷ post)) (pre ++ x ∷ post) (after (length pre) (pre ++ x ∷ post))
-      ≡ (map (where_has kind g) (pre ++ x ∷ post), after (length pre) (pre ++ x ∷ post))
+      → turns (count_by (has kind) (pre ++ x ∷ post)) (pre ++ x ∷ post) (next_node (length pre) (pre ++ x ∷ post))
+      ≡ (map (where_has kind g) (pre ++ x ∷ post), next_node (length pre) (pre ++ x ∷ post))
   round pre x post e =
       let f : NodeRow → NodeRow = where_has kind g in
       let rows = pre ++ x ∷ post in
@@ -113,7 +113,7 @@ module _ (kind : Kind) (g : NodeRow → NodeRow) where
       let at_end : length (pre ++ x ∷ []) + length post ≡ length half = omega (arith, longer, length-append pre (x ∷ map f post), length-map post f) in
       let done : map f pre ++ g x ∷ map f post ≡ map f rows = ap (λ y. map f pre ++ y ∷ map f post) (sym (cond-true (has kind x) (g x) x e)) ∙ sym (map-append f pre (x ∷ post)) in
       let as_long : length (map f pre ++ g x ∷ map f post) ≡ length rows = ap length done ∙ length-map rows f in
-      as_one _ _ _ _ (after (length pre) rows) (after (length pre) rows) count refl refl
+      as_one _ _ _ _ (next_node (length pre) rows) (next_node (length pre) rows) count refl refl
       ∙ from_after (a + b) rows (length pre)
       ∙ as_one (suc (a + b)) (b + suc a) _ _ _ _ (omega arith) (sym split) (sym longer)
       ∙ over_some post (pre ++ x ∷ []) [] a
@@ -123,8 +123,8 @@ module _ (kind : Kind) (g : NodeRow → NodeRow) where
       ∙ over_some pre [] (x ∷ map f post) 0
       ∙ as_one (suc 0) (suc 0) _ _ _ _ refl refl (omega (arith, length-map pre f))
       ∙ hit (map f pre) x (map f post) e
-      ∙ ap (λ rs. (rs, after (length (map f pre)) (map f pre ++ g x ∷ map f post))) done
-      ∙ ap (λ i. (map f rows, after i (map f pre ++ g x ∷ map f post))) (length-map pre f)
+      ∙ ap (λ rs. (rs, next_node (length (map f pre)) (map f pre ++ g x ∷ map f post))) done
+      ∙ ap (λ i. (map f rows, next_node i (map f pre ++ g x ∷ map f post))) (length-map pre f)
       ∙ ap (λ n. (map f rows, cond (nat_eq (length pre + 1) n) 0 (length pre + 1))) as_long
 
 -- ---- many rounds
@@ -169,12 +169,12 @@ module _ (kind : Kind) (g : NodeRow → NodeRow) (by : ℕ → NodeRow → NodeR
 
   -- so many rounds from behind a node that has one, with enough for them at each that has any
   pub rounds : (r : ℕ) (pre : List NodeRow) (x : NodeRow) (post : List NodeRow) → has kind x ≡ true → All (HasMany kind r) (pre ++ x ∷ post)
-      → iterate (turn kind g) (r * count_by (has kind) (pre ++ x ∷ post)) (pre ++ x ∷ post, after (length pre) (pre ++ x ∷ post))
-      ≡ (map (where_has kind (by r)) (pre ++ x ∷ post), after (length pre) (pre ++ x ∷ post))
+      → iterate (turn kind g) (r * count_by (has kind) (pre ++ x ∷ post)) (pre ++ x ∷ post, next_node (length pre) (pre ++ x ∷ post))
+      ≡ (map (where_has kind (by r)) (pre ++ x ∷ post), next_node (length pre) (pre ++ x ∷ post))
   rounds zero pre x post e enough =
       let rows = pre ++ x ∷ post in
-      ap (λ n. iterate (turn kind g) n (rows, after (length pre) rows)) {x = 0 * count_by (has kind) rows} {y = 0} (omega arith)
-      ∙ ap (λ l. (l, after (length pre) rows)) (sym (all_none rows))
+      ap (λ n. iterate (turn kind g) n (rows, next_node (length pre) rows)) {x = 0 * count_by (has kind) rows} {y = 0} (omega arith)
+      ∙ ap (λ l. (l, next_node (length pre) rows)) (sym (all_none rows))
   rounds (suc r) pre x post e enough =
       let rows = pre ++ x ∷ post in
       let n : ℕ = count_by (has kind) rows in
@@ -182,14 +182,14 @@ module _ (kind : Kind) (g : NodeRow → NodeRow) (by : ℕ → NodeRow → NodeR
       let fewer : All (HasMany kind r) rows = λ k d below some. (let h = enough k d below some in omega (arith, h)) in
       let more : All (HasMany kind (r + 1)) rows = λ k d below some. (let h = enough k d below some in omega (arith, h)) in
       let T : Turn → Turn = turn kind g in
-      let c : ℕ = after (length pre) rows in
+      let c : ℕ = next_node (length pre) rows in
       let here : HasMany kind (r + 1) x = subst (HasMany kind (r + 1)) (get_or-append_seam pre x post no_row) (more (length pre) no_row (omega (arith, length-append pre (x ∷ post)))) in
       let has_still : has kind (f x) ≡ true = still_has r x here ∙ e in
       let split : map f rows ≡ map f pre ++ f x ∷ map f post = map-append f pre (x ∷ post) in
       let now : List NodeRow = map f pre ++ f x ∷ map f post in
       let count : n ≡ count_by (has kind) now = sym (as_many r rows more) ∙ ap (count_by (has kind)) split in
       let as_long : length rows ≡ length now = sym (length-map rows f) ∙ ap length split in
-      let cursor : c ≡ after (length (map f pre)) now = ap (λ k. cond (nat_eq (length pre + 1) k) 0 (length pre + 1)) as_long ∙ ap (λ i. after i now) (sym (length-map pre f)) in
+      let cursor : c ≡ next_node (length (map f pre)) now = ap (λ k. cond (nat_eq (length pre + 1) k) 0 (length pre + 1)) as_long ∙ ap (λ i. next_node i now) (sym (length-map pre f)) in
       ap (λ k. iterate T k (rows, c)) {x = suc r * n} {y = r * n + n} (omega arith)
       ∙ times_add T (r * n) n (rows, c)
       ∙ ap (iterate T n) (rounds r pre x post e fewer)
@@ -232,19 +232,19 @@ is_shrink = record {
 -- so many rounds from behind a node, by an index
 rounds_at : (kind : Kind) (g : NodeRow → NodeRow) (by : ℕ → NodeRow → NodeRow) → IsMany kind g by → (r at : ℕ) (rows : List NodeRow) →
     at < length rows → 0 < amount kind (row_at rows at) → All (HasMany kind r) rows
-    → iterate (turn kind g) (r * count_by (has kind) rows) (rows, after at rows) ≡ (map (where_has kind (by r)) rows, after at rows)
+    → iterate (turn kind g) (r * count_by (has kind) rows) (rows, next_node at rows) ≡ (map (where_has kind (by r)) rows, next_node at rows)
 rounds_at kind g by m r at rows below some enough =
     let pre = take at rows in
     let x = row_at rows at in
     let post = drop (at + 1) rows in
     let split : pre ++ x ∷ post ≡ rows = ap (λ l. pre ++ l) (sym (drop_more rows at no_row below)) ∙ take-append-drop at rows in
     let size : length pre ≡ at = length-take-le at rows (omega arith) in
-    let P : List NodeRow → ℕ → Type 0 = λ l i. All (HasMany kind r) l → iterate (turn kind g) (r * count_by (has kind) l) (l, after i l) ≡ (map (where_has kind (by r)) l, after i l) in
+    let P : List NodeRow → ℕ → Type 0 = λ l i. All (HasMany kind r) l → iterate (turn kind g) (r * count_by (has kind) l) (l, next_node i l) ≡ (map (where_has kind (by r)) l, next_node i l) in
     let whole : P (pre ++ x ∷ post) (length pre) = rounds kind g by m r pre x post (amount_has kind x some) in
     subst (P rows) size (subst (λ l. P l (length pre)) split whole) enough
 
 -- so many more at each node that has any, behind whom the cursor stands
-pub rounds_grown : (s : NodeRows) (r at : ℕ) → s.growth ≡ after at s.rows → at < length s.rows → 0 < amount Idle (row_at s.rows at) → All (HasMany Idle r) s.rows
+pub rounds_grown : (s : NodeRows) (r at : ℕ) → s.growth ≡ next_node at s.rows → at < length s.rows → 0 < amount Idle (row_at s.rows at) → All (HasMany Idle r) s.rows
     → iterate grown (r * count_by (has Idle) s.rows) s ≡ record s { rows = map (where_has Idle (grow_by r)) s.rows }
 rounds_grown s r at behind below some enough =
     let n = r * count_by (has Idle) s.rows in
@@ -253,7 +253,7 @@ rounds_grown s r at behind below some enough =
     ∙ ap (λ c. (map (where_has Idle (grow_by r)) s.rows, c)) (sym behind) in
     grown_are n s ∙ ap (λ t. record s { rows = t.0; growth = t.1 }) all
 
-pub rounds_shrunk : (s : NodeRows) (r at : ℕ) → s.release ≡ after at s.rows → at < length s.rows → 0 < amount Free (row_at s.rows at) → All (HasMany Free r) s.rows
+pub rounds_shrunk : (s : NodeRows) (r at : ℕ) → s.release ≡ next_node at s.rows → at < length s.rows → 0 < amount Free (row_at s.rows at) → All (HasMany Free r) s.rows
     → iterate shrunk (r * count_by (has Free) s.rows) s ≡ record s { rows = map (where_has Free (shrink_by r)) s.rows }
 rounds_shrunk s r at behind below some enough =
     let n = r * count_by (has Free) s.rows in

@@ -27,8 +27,8 @@ pub record IsNode (node count page_bytes : ℕ) (b : NodeBlanks) : Type 0 where
 abbrev pub node_at : Blanks → ℕ → NodeBlanks
 node_at b k = if k == 0 then b.zero else if k == 1 then b.one else if k == 2 then b.two else b.three
 
-abbrev pub counts_of : Blanks → ℕ → ℕ
-counts_of b k = (node_at b k).count
+abbrev pub blanks_of : Blanks → ℕ → ℕ
+blanks_of b k = (node_at b k).count
 
 -- all frames of each node, of so many bytes
 abbrev pub AreFull : ℕ → Blanks → Type 0
@@ -51,7 +51,7 @@ names_of b page_bytes = record {
   permits = 0;
   pages = λ k. (node_at b k).pages.name;
   claims = λ k. (node_at b k).claims.name;
-  frames = counts_of b;
+  frames = blanks_of b;
   page_bytes = page_bytes;
   memory = λ k. (node_at b k).stock.memory;
 }

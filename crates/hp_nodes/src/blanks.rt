@@ -1,7 +1,7 @@
 //! What the pages of a machine are made of and count in.
 ghost use Rattle.std.specs.Prelude.{◌≡◌, ◌≤◌, length, slice_index, All, IfOk};
 ghost use Rattle.hp_model.specs.Profile.{most_frames};
-ghost use Rattle.hp_nodes.specs.Ledgers.{AreFrames, AreFull, IsNode, counts_of};
+ghost use Rattle.hp_nodes.specs.Ledgers.{AreFrames, AreFull, IsNode, blanks_of};
 
 use hp_frames::Stock;
 use std::alloc::{AllocError, Global};
@@ -57,7 +57,7 @@ impl Blanks {
     pub fn new(alloc: Global, frames: &[u64], page_bytes: usize) -> Result<Self, AllocError>
         requires few { length frames.now ≤ 4 }
         requires small { All (λ f. f ≤ most_frames) frames.now }
-        ensures frames { IfOk result (λ b. AreFrames (counts_of b) frames.now) }
+        ensures frames { IfOk result (λ b. AreFrames (blanks_of b) frames.now) }
         ensures full { IfOk result (λ b. AreFull page_bytes b) }
     {
         Ok(Blanks {

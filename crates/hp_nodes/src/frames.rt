@@ -1,7 +1,7 @@
 //! The frames of a node that nobody holds.
 ghost use Rattle.std.specs.Prelude.{◌≡◌, ◌+◌, ◌<◌, ◌≤◌, ◌^◌};
 ghost use Rattle.hp_permit.specs.Quad.{at, plus};
-ghost use Rattle.hp_nodes.specs.Kept.{IsHome};
+ghost use Rattle.hp_nodes.specs.Kept.{IsStock};
 ghost use Rattle.hp_nodes.specs.Ledgers.{AreAll, AreLedgers};
 
 use crate::blanks::{Blanks, NodeBlanks};
@@ -21,14 +21,14 @@ pub struct NodeFrames<N: Naming, const K: usize> {
 
 impl<N: Naming, const K: usize> Model for NodeFrames<N, K> {
     ghost use Rattle.std.specs.Prelude.{ℕ, ◌≡◌, ◌<◌};
-    ghost use Rattle.hp_nodes.specs.Kept.{IsHome};
+    ghost use Rattle.hp_nodes.specs.Kept.{IsStock};
 
     ghost Value = { ℕ };
 
     ghost view = { λ f. f.stock.here };
 
     ghost invariant = { λ f. (f.stock.node ≡ K) × (K < 4)
-        × IsHome N.frames N.memory N.page_bytes f.stock f.marks f.kept };
+        × IsStock N.frames N.memory N.page_bytes f.stock f.marks f.kept };
 }
 
 // Adds marks. There are no more of a node than it has frames.
@@ -45,7 +45,7 @@ impl<N: Naming, const K: usize> NodeFrames<N, K> {
     fn new(stock: Stock, marks: Marks<N>, kept: Redeemed<N>) -> Self
         requires node { stock.node ≡ K }
         requires below { K < 4 }
-        requires home { IsHome N.frames N.memory N.page_bytes stock marks kept }
+        requires home { IsStock N.frames N.memory N.page_bytes stock marks kept }
     {
         NodeFrames { stock, marks, kept }
     }

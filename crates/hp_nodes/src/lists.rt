@@ -6,7 +6,7 @@ ghost use Rattle.hp_nodes.specs.Kept.{idle_nodes};
 ghost use Rattle.hp_nodes.specs.Ledgers.{AreAll, AreFrames};
 ghost use Rattle.hp_nodes.specs.Moves.{take_by, put_by, puts_at, grow_by, shrink_by};
 ghost use Rattle.std.specs.Fn.{iterate};
-ghost use Rattle.hp_model.specs.pool.NodeRows.{IsRow, used, after, near, some_has, row_at, taken, taken_times, grown, shrunk, sum_row, free_of, total_of, take_row};
+ghost use Rattle.hp_model.specs.pool.NodeRows.{IsRow, used, next_node, near, some_has, row_at, taken, taken_times, grown, shrunk, sum_row, free_of, total_of, take_row};
 
 mod surplus;
 
@@ -207,7 +207,7 @@ impl<N: Naming> NodeLists<N> {
         requires { IsTrue (some_has Kind.Idle self.old.rows) }
         ensures moved { self.new ≡ grown self.old }
         ensures sums { sum_row self.new.rows ≡ grow_by 1 (sum_row self.old.rows) }
-        ensures behind { self.new.growth ≡ after result self.new.rows }
+        ensures behind { self.new.growth ≡ next_node result self.new.rows }
         ensures within { result < length self.new.rows }
     {
         let at = next_from(&self.nodes, Kind::Idle, self.growth);
@@ -220,7 +220,7 @@ impl<N: Naming> NodeLists<N> {
     // Up to so many, in whole rounds: none where the node before the cursor has no more, and else as
     // many as each node can go along with. The cursor ends where it was.
     fn grow_rounds(&mut self, at: usize, most: u64) -> u64
-        requires behind { self.old.growth ≡ after at self.old.rows }
+        requires behind { self.old.growth ≡ next_node at self.old.rows }
         requires within { at < length self.old.rows }
         ensures moved { self.new ≡ iterate grown result self.old }
         ensures sums { sum_row self.new.rows ≡ grow_by result (sum_row self.old.rows) }
@@ -259,7 +259,7 @@ impl<N: Naming> NodeLists<N> {
         requires no_surplus { All (λ r. r.surp ≡ 0) self.old.rows }
         ensures moved { self.new ≡ shrunk self.old }
         ensures sums { sum_row self.new.rows ≡ shrink_by 1 (sum_row self.old.rows) }
-        ensures behind { self.new.release ≡ after result self.new.rows }
+        ensures behind { self.new.release ≡ next_node result self.new.rows }
         ensures within { result < length self.new.rows }
     {
         let at = next_from(&self.nodes, Kind::Free, self.release);
@@ -272,7 +272,7 @@ impl<N: Naming> NodeLists<N> {
     // Up to so many, in whole rounds: none where the node before the cursor has no more, and else as
     // many as each node can go along with. The cursor ends where it was.
     fn shrink_rounds(&mut self, at: usize, most: u64) -> u64
-        requires behind { self.old.release ≡ after at self.old.rows }
+        requires behind { self.old.release ≡ next_node at self.old.rows }
         requires within { at < length self.old.rows }
         requires no_surplus { All (λ r. r.surp ≡ 0) self.old.rows }
         ensures moved { self.new ≡ iterate shrunk result self.old }

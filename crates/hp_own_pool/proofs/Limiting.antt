@@ -10,7 +10,7 @@ use Rattle.hp_model.specs.declared.section.Section.{Section}
 use Rattle.hp_model.specs.files.Options.{Wanted, checked, is_below_min, limits, limits_of, wanted_of}
 use Rattle.hp_model.specs.pool.Grant.{granted}
 use Rattle.hp_model.specs.pool.NodeRows.{surp_of, total_of}
-use Rattle.hp_model.specs.pool.Pool.{released, section, settled}
+use Rattle.hp_model.specs.pool.Pool.{released, section, trimmed}
 use Rattle.hp_model.specs.pool.PoolCounts.{IsSettled, Pool}
 use Rattle.hp_subpool.specs.Subpool.{Subpool, gain, is_loss, loss, with_minimum}
 use Rattle.hp_mount_door.specs.Door.{IsReady}
@@ -54,7 +54,7 @@ refused_stays (Ok l) nr old new (Err e) s a h = h.1
 pub limited_ready : (s : Subpool) (min : ℕ) (p q : Pool) → q ≡ with_minimum s min p → IsSettled q → IsReady p → IsReady q
 limited_ready s min p q is stays ready =
     let nodes = ready.nodes in
-    let rows : length (with_minimum s min p).nodes.rows ≡ length p.nodes.rows = cond_both (is_loss s min) (settled (released (loss s min) p)) (granted 0 (gain s min) p)
+    let rows : length (with_minimum s min p).nodes.rows ≡ length p.nodes.rows = cond_both (is_loss s min) (trimmed (released (loss s min) p)) (granted 0 (gain s min) p)
     (λ (x : Pool). length x.nodes.rows ≡ length p.nodes.rows) (λ t. given_len (surp_of p.nodes.rows - (p.committed - loss s min - p.nr)) p.nodes)
     (λ t. surplus_len 0 (p.committed + gain s min - total_of p.nodes.rows) p.nodes) in
     let same = ap (λ (x : Pool). length x.nodes.rows) is ∙ rows in

@@ -12,7 +12,7 @@ use Rattle.hp_model.specs.pool.NodeRows.{NodeRows, at_row, give_back_row, given_
 use Rattle.hp_model.specs.declared.node.Kind.TheVariants.{Free, FreeSurplus, Surplus}
 use Rattle.hp_model.specs.declared.refusal.Refusal.{Refusal}
 use Rattle.hp_model.specs.files.Page.{Page}
-use Rattle.hp_model.specs.pool.Pool.{give_back_times, kept_times, page_kept, page_taken, granted_at, puts_from, released, section, settled}
+use Rattle.hp_model.specs.pool.Pool.{give_back_times, kept_times, page_kept, page_taken, granted_at, puts_from, released, section, trimmed}
 use Rattle.hp_model.specs.pool.PoolCounts.{IsSettled, Pool}
 use Rattle.hp_model.proofs.RowMoves.{put_rows, puts_are}
 use Rattle.hp_subpool.specs.Subpool.{Subpool, committed_of, fall, used}
@@ -195,7 +195,7 @@ falls_whole pages held min c =
     falls_all x y z c l h = omega (arith, l, h)
 
 -- a pool that was ready is ready when it is settled again
-pub settled_ready : (pages : List Page) (k : ℕ) (p q : Pool) → IsReady p → IsSettled q → q ≡ settled (released k (puts_from 0 (by_node pages) p)) → IsReady q
+pub settled_ready : (pages : List Page) (k : ℕ) (p q : Pool) → IsReady p → IsSettled q → q ≡ trimmed (released k (puts_from 0 (by_node pages) p)) → IsReady q
 settled_ready pages k p q ready is q_is =
     let nodes = ready.nodes in
     let put : Pool = released k (puts_from 0 (by_node pages) p) in
@@ -214,16 +214,16 @@ no_nodes f (suc k) a e =
     ap (λ x. x ∷ map f (range_with_len (a + 1) k)) here ∙ ap (λ xs. 0 ∷ xs) (no_nodes f k (a + 1) (omega (arith, parts, e)))
 
 -- nothing goes back
-nothing_given : (pages : List Page) (k : ℕ) (p : Pool) → IsSettled p → by_node pages ≡ by_node [] → k ≡ 0 → settled (released k (puts_from 0 (by_node pages) p)) ≡ p
+nothing_given : (pages : List Page) (k : ℕ) (p : Pool) → IsSettled p → by_node pages ≡ by_node [] → k ≡ 0 → trimmed (released k (puts_from 0 (by_node pages) p)) ≡ p
 nothing_given pages k p was none nothing =
     let spare : surp_of p.nodes.rows - (p.committed - p.nr) ≡ 0 = omega (arith, was) in
     let empty : List ℕ = by_node [] in
-    ap (λ xs. settled (released k (puts_from 0 xs p))) none ∙ ap (λ n. settled (released n (puts_from 0 empty p))) nothing
-    ∙ ap (λ q. settled (released 0 q)) (puts_are empty p ∙ ap (λ rs. record p { nodes = record p.nodes { rows = rs } }) (put_nothing empty p.nodes.rows refl))
-    ∙ ap (λ c. settled (record p { committed = c })) (let same : p.committed - 0 ≡ p.committed = omega arith in same)
+    ap (λ xs. trimmed (released k (puts_from 0 xs p))) none ∙ ap (λ n. trimmed (released n (puts_from 0 empty p))) nothing
+    ∙ ap (λ q. trimmed (released 0 q)) (puts_are empty p ∙ ap (λ rs. record p { nodes = record p.nodes { rows = rs } }) (put_nothing empty p.nodes.rows refl))
+    ∙ ap (λ c. trimmed (record p { committed = c })) (let same : p.committed - 0 ≡ p.committed = omega arith in same)
     ∙ ap (λ n. record p { nodes = give_back_times n p.nodes }) spare
 
-pub all_given : (pages : List Page) (k : ℕ) (p q : Pool) → IsReady p → q ≡ settled (released k (puts_from 0 (by_node pages) p)) → GivesBack (λ p s a q. section p s ≡ (a, q)) pages k p q
+pub all_given : (pages : List Page) (k : ℕ) (p q : Pool) → IsReady p → q ≡ trimmed (released k (puts_from 0 (by_node pages) p)) → GivesBack (λ p s a q. section p s ≡ (a, q)) pages k p q
 all_given pages k p q ready is = record {
   some = λ l. ap (λ x. (granted_at 0, x)) (sym is);
   none = λ e. is ∙ nothing_given pages k p ready.settled (no_nodes (λ n. count_by (is_at n) pages) 4 0 (omega (arith, e))) (omega (arith, e));
@@ -232,24 +232,24 @@ all_given pages k p q ready is = record {
 -- pages and reservations
 module _ (s next : Subpool) (pages : List Page) (base p left q : Pool) (next_is : next ≡ record s { pages = s.pages - length pages })
     (p_is : p ≡ released (fall s (length pages)) (puts_from 0 (by_node pages) base)) where
-  pub both_given : (k : ℕ) → length pages ≤ s.pages → left ≡ released (fall next k) p → q ≡ settled left → q ≡ settled (released (fall s (length pages + k)) (puts_from 0 (by_node pages) base))
+  pub both_given : (k : ℕ) → length pages ≤ s.pages → left ≡ released (fall next k) p → q ≡ trimmed left → q ≡ trimmed (released (fall s (length pages + k)) (puts_from 0 (by_node pages) base))
   both_given k within left_is is =
       let puts : Pool = puts_from 0 (by_node pages) base in
-      is ∙ ap settled left_is ∙ ap (λ x. settled (released (fall x k) p)) next_is ∙ ap (λ x. settled (released (fall (record s { pages = s.pages - length pages }) k) x)) p_is
-      ∙ ap (λ c. settled (record puts { committed = c })) (falls_are s (length pages) k puts.committed within)
+      is ∙ ap trimmed left_is ∙ ap (λ x. trimmed (released (fall x k) p)) next_is ∙ ap (λ x. trimmed (released (fall (record s { pages = s.pages - length pages }) k) x)) p_is
+      ∙ ap (λ c. trimmed (record puts { committed = c })) (falls_are s (length pages) k puts.committed within)
 
   -- and the minimum with them
   pub share_given : (held : ℕ) (last : Subpool) (closed : Pool) → length pages ≡ s.pages → held ≡ used next →
-      last ≡ record next { held = next.held - held } → left ≡ released (fall next held) p → closed ≡ released last.min left → q ≡ settled closed
-      → q ≡ settled (released (committed_of s) (puts_from 0 (by_node pages) base))
+      last ≡ record next { held = next.held - held } → left ≡ released (fall next held) p → closed ≡ released last.min left → q ≡ trimmed closed
+      → q ≡ trimmed (released (committed_of s) (puts_from 0 (by_node pages) base))
   share_given held last closed all held_is last_is left_is closed_is is =
       let puts : Pool = puts_from 0 (by_node pages) base in
       let ended : Subpool = record s { pages = s.pages - length pages } in
       let none : s.pages - s.pages + s.held ≡ s.held = omega arith in
-      is ∙ ap settled closed_is ∙ ap (λ x. settled (released x.min left)) last_is ∙ ap (λ x. settled (released x.min left)) next_is
-      ∙ ap (λ x. settled (released s.min x)) left_is ∙ ap (λ n. settled (released s.min (released (fall next n) p))) held_is
-      ∙ ap (λ x. settled (released s.min (released (fall x (used x)) p))) next_is
-      ∙ ap (λ x. settled (released s.min (released (fall ended (used ended)) x))) p_is
-      ∙ ap (λ n. settled (released s.min (released (fall (record s { pages = s.pages - n }) (used (record s { pages = s.pages - n }))) (released (fall s n) puts)))) all
-      ∙ ap (λ v. settled (record puts { committed = puts.committed - fall s s.pages - (max v s.min - max (v - v) s.min) - s.min })) none
-      ∙ ap (λ c. settled (record puts { committed = c })) (falls_whole s.pages s.held s.min puts.committed)
+      is ∙ ap trimmed closed_is ∙ ap (λ x. trimmed (released x.min left)) last_is ∙ ap (λ x. trimmed (released x.min left)) next_is
+      ∙ ap (λ x. trimmed (released s.min x)) left_is ∙ ap (λ n. trimmed (released s.min (released (fall next n) p))) held_is
+      ∙ ap (λ x. trimmed (released s.min (released (fall x (used x)) p))) next_is
+      ∙ ap (λ x. trimmed (released s.min (released (fall ended (used ended)) x))) p_is
+      ∙ ap (λ n. trimmed (released s.min (released (fall (record s { pages = s.pages - n }) (used (record s { pages = s.pages - n }))) (released (fall s n) puts)))) all
+      ∙ ap (λ v. trimmed (record puts { committed = puts.committed - fall s s.pages - (max v s.min - max (v - v) s.min) - s.min })) none
+      ∙ ap (λ c. trimmed (record puts { committed = c })) (falls_whole s.pages s.held s.min puts.committed)

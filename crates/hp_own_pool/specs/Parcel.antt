@@ -2,9 +2,9 @@
 use Rattle.std.specs.Prelude.{◌≡◌, ◌<◌, ℕ, Option, None, Some}
 use Rattle.hp_permit.specs.Claim.{Claim}
 
-abbrev pub amount_of : Option Claim → ℕ
-amount_of None = 0
-amount_of (Some c) = c.amount
+abbrev pub claimed : Option Claim → ℕ
+claimed None = 0
+claimed (Some c) = c.amount
 
 -- a claim on some pages of the node, or none
 abbrev pub IsPart : ℕ → Option Claim → Type 0

@@ -14,7 +14,7 @@ ghost use Rattle.hp_store.specs.Store.{page_at};
 ghost use Rattle.hp_subpool.specs.Subpool.{fall, opened};
 ghost use Rattle.hp_mount_door.specs.Door.{by_node, IsReady};
 ghost use Rattle.hp_mount_door.specs.Filling.{AreRising, nodes_in};
-ghost use Rattle.hp_own_pool.specs.Parcel.{IsPart, amount_of};
+ghost use Rattle.hp_own_pool.specs.Parcel.{IsPart, claimed};
 
 use crate::filling::{add_claim, take_pages};
 use crate::limits::set_limits;
@@ -205,10 +205,10 @@ fn add_part<N: Naming, const K: usize>(
     batch: &mut PageBatch<N>,
 )
     requires part { IsPart K part }
-    requires room { amount_of part ≤ batch.old.room }
+    requires room { claimed part ≤ batch.old.room }
     ensures pages { nodes_in batch.new.pages
-        ≡ replicate (amount_of part) K ++ nodes_in batch.old.pages }
-    ensures room { batch.new.room + amount_of part ≡ batch.old.room }
+        ≡ replicate (claimed part) K ++ nodes_in batch.old.pages }
+    ensures room { batch.new.room + claimed part ≡ batch.old.room }
 {
     if let Some(claim) = part {
         add_claim(frames, claim, batch);

@@ -4,7 +4,7 @@ ghost use Rattle.std.specs.List.{sum};
 ghost use Rattle.hp_model.specs.pool.Pool.{kept_times, puts_from, released};
 ghost use Rattle.hp_model.specs.pool.PoolCounts.{used as in_use};
 ghost use Rattle.hp_subpool.specs.Subpool.{fall};
-ghost use Rattle.hp_own_pool.specs.Parcel.{IsPart, amount_of};
+ghost use Rattle.hp_own_pool.specs.Parcel.{IsPart, claimed};
 
 use hp_model::naming::Naming;
 use hp_permit::Claim;
@@ -25,11 +25,11 @@ pub struct Parcel<N: Naming> {
 
 impl<N: Naming> Model for Parcel<N> {
     ghost use Rattle.std.specs.Prelude.{ℕ, List, [], ◌∷◌};
-    ghost use Rattle.hp_own_pool.specs.Parcel.{IsPart, amount_of};
+    ghost use Rattle.hp_own_pool.specs.Parcel.{IsPart, claimed};
 
     ghost Value = { List ℕ };
 
-    ghost view = { λ p. amount_of p.zero ∷ amount_of p.one ∷ amount_of p.two ∷ amount_of p.three
+    ghost view = { λ p. claimed p.zero ∷ claimed p.one ∷ claimed p.two ∷ claimed p.three
         ∷ [] };
 
     ghost invariant = { λ p. IsPart 0 p.zero × IsPart 1 p.one × IsPart 2 p.two × IsPart 3 p.three };
@@ -41,7 +41,7 @@ fn add_to<N: Naming>(part: &mut Option<Claim<N>>, claim: Claim<N>)
     requires some { 0 < claim.amount }
     requires few { N.frames claim.node < 2 ^ 64 }
     ensures part { IsPart claim.node part.new }
-    ensures sum { amount_of part.new ≡ amount_of part.old + claim.amount }
+    ensures sum { claimed part.new ≡ claimed part.old + claim.amount }
 {
     if let Some(all) = part {
         all.join(claim);
@@ -54,7 +54,7 @@ fn add_to<N: Naming>(part: &mut Option<Claim<N>>, claim: Claim<N>)
 }
 
 fn amount<N: Naming>(part: &Option<Claim<N>>) -> u64
-    ensures { result ≡ amount_of part.now }
+    ensures { result ≡ claimed part.now }
 {
     match part {
         Some(claim) => claim.amount(),
@@ -69,11 +69,11 @@ fn put_part<N: Naming, const K: usize>(
     part: Option<Claim<N>>,
 )
     requires part { IsPart K part }
-    requires within { amount_of part ≤ share.old.pages }
-    ensures share { share.new ≡ record share.old { pages = share.old.pages - amount_of part } }
+    requires within { claimed part ≤ share.old.pages }
+    ensures share { share.new ≡ record share.old { pages = share.old.pages - claimed part } }
     ensures pool { pool.new
-        ≡ released (fall share.old (amount_of part)) (kept_times K (amount_of part) pool.old) }
-    ensures used { in_use pool.new + amount_of part ≡ in_use pool.old }
+        ≡ released (fall share.old (claimed part)) (kept_times K (claimed part) pool.old) }
+    ensures used { in_use pool.new + claimed part ≡ in_use pool.old }
 {
     if let Some(claim) = part {
         share.put_pages(pool, claim);
@@ -131,8 +131,8 @@ impl<N: Naming> Parcel<N> {
         Option<Claim<N>>,
         Option<Claim<N>>,
     )
-        ensures counts { self ≡ amount_of result.0 ∷ amount_of result.1 ∷ amount_of result.2
-            ∷ amount_of result.3 ∷ [] }
+        ensures counts { self ≡ claimed result.0 ∷ claimed result.1 ∷ claimed result.2
+            ∷ claimed result.3 ∷ [] }
         ensures parts { IsPart 0 result.0 × IsPart 1 result.1 × IsPart 2 result.2
             × IsPart 3 result.3 }
     {

@@ -1,7 +1,7 @@
 //! What a machine is made of, before any type stands for it.
 ghost use Rattle.std.specs.Prelude.{◌≡◌, ◌≤◌, length, All, IfOk};
 ghost use Rattle.hp_model.specs.Profile.{most_frames};
-ghost use Rattle.hp_nodes.specs.Ledgers.{AreFrames, AreFull, counts_of};
+ghost use Rattle.hp_nodes.specs.Ledgers.{AreFrames, AreFull, blanks_of};
 ghost use Rattle.hp_pool.specs.Ledgers.{IsWhole};
 
 use std::alloc::{AllocError, Global};
@@ -25,7 +25,7 @@ impl Blanks {
         requires few { length frames.now ≤ 4 }
         requires small { All (λ f. f ≤ most_frames) frames.now }
         ensures whole { IfOk result (λ b. IsWhole b.permits) }
-        ensures frames { IfOk result (λ b. AreFrames (counts_of b.nodes) frames.now) }
+        ensures frames { IfOk result (λ b. AreFrames (blanks_of b.nodes) frames.now) }
         ensures full { IfOk result (λ b. AreFull page_bytes b.nodes) }
     {
         Ok(Blanks {

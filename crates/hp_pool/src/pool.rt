@@ -3,7 +3,7 @@ ghost use Rattle.std.specs.Prelude.{◌≡◌, ◌+◌, ◌-◌, ◌<◌, ◌≤
 ghost use Rattle.hp_model.specs.machine.Settled.{IsSettledPool};
 ghost use Rattle.hp_model.specs.pool.NodeRows.{IsRow, row_at, used as used_at, frames_of, total_of, free_of, surp_of};
 ghost use Rattle.hp_model.specs.pool.Grant.{can_grant, granted};
-ghost use Rattle.hp_model.specs.pool.Pool.{take_node, page_taken, pages_taken, kept_times, released, settled};
+ghost use Rattle.hp_model.specs.pool.Pool.{take_node, page_taken, pages_taken, kept_times, released, trimmed};
 ghost use Rattle.hp_model.specs.pool.PoolCounts.{IsSettled, counts_of, rsvd, used};
 ghost use Rattle.hp_model.specs.pool.Resize.{set_nr, node_count};
 ghost use Rattle.hp_model.specs.Profile.{most_frames, most_overcommit};
@@ -188,7 +188,7 @@ impl<N: Naming> Pool<N> {
     /// (`admin-guide/mm/hugetlbpage.rst`).
     #[tactic(auto, using(crate::proofs::Runs::given_back_are))]
     pub fn settle(&mut self)
-        ensures moved { self.new ≡ settled self.old }
+        ensures moved { self.new ≡ trimmed self.old }
         ensures used { used self.new ≡ used self.old }
         ensures settled { IsSettled self.new }
     {

@@ -19,11 +19,11 @@ use Rattle.hp_laws.proofs.steps.Outcomes.{reply_of}
 use Rattle.hp_laws.proofs.promises.SmallReplies.{Small, slot_small, tells_all}
 use Rattle.hp_history.specs.declared.held.Held.{Held}
 use Rattle.hp_history.specs.Sections.{IsEntered}
-use Rattle.hp_locked.specs.Views.{Asks}
+use Rattle.hp_locked.specs.Views.{HasAsked}
 use Rattle.hp_events.specs.declared.event.MountEvent.{MountEvent}
 use Rattle.hp_events.specs.declared.event.MountEvent.TheVariants as m
 use Rattle.hp_mount_laws.specs.Done.{IsDone, Through}
-use Rattle.hp_events.specs.Event.{event_of, is_usage}
+use Rattle.hp_events.specs.Event.{as_event, is_usage}
 use Rattle.hp_mount_laws.proofs.Ways.{fresh_choice, is_fresh}
 use Rattle.hp_events.specs.Answered.{Went}
 use Rattle.hp_events.proofs.Came.{always_came}
@@ -38,14 +38,14 @@ stayed keeps asked mine d e none is = subst (λ x. IsEntered keeps (mine d) (ask
 
 -- a door that was not used tells what it was asked
 goes_on : {X : Type 0} (asked : X → Option Asked) (p : Plan) (old : Slot) (d : X) (reply : Reply) (new : Slot) (e : X) → asked d ≡ None →
-    ThroughDoor (λ d s a e. Asks (asked e) s a) p old d reply new e → Goes p (asked e) old reply new
+    ThroughDoor (λ d s a e. HasAsked (asked e) s a) p old d reply new e → Goes p (asked e) old reply new
 goes_on asked (Finish o) old d reply new e none t = subst (λ (x : Option Asked). Goes (Finish o) x old reply new) (sym (ap asked t.1 ∙ none)) t.0
 goes_on asked (Ask sec f) old d reply new e none (a, took, gives) =
     subst (λ (x : Option Asked). Goes (Ask sec f) x old reply new) (sym took.1) (refl, gives)
 
 -- through any door that tells what it was asked, and how its seat went
 module _ {X : Type 0} (keeps : Bool) (asked : X → Option Asked) (mine : X → List Held) (took : X → Section → PoolAnswer → X → Type 0) (full : X → Type 0)
-    (tells : (d : X) (s : Section) (a : PoolAnswer) (e : X) → took d s a e → Asks (asked e) s a × IsEntered keeps (mine d) (asked e) (mine e)) where
+    (tells : (d : X) (s : Section) (a : PoolAnswer) (e : X) → took d s a e → HasAsked (asked e) s a × IsEntered keeps (mine d) (asked e) (mine e)) where
   pub plan_entered : (p : Plan) (old : Slot) (d : X) (reply : Reply) (new : Slot) (e : X) → asked d ≡ None → ThroughDoor took p old d reply new e → IsEntered keeps (mine d) (asked e) (mine e)
   plan_entered (Finish o) old d reply new e none t = stayed keeps asked mine d e none t.1
   plan_entered (Ask sec f) old d reply new e none (a, t, gives) = (tells d (sec a.nr) a e t).1
@@ -56,7 +56,7 @@ module _ {X : Type 0} (keeps : Bool) (asked : X → Option Asked) (mine : X → 
   event_entered size k old d ev (Err r.TraceFull) new e none t = stayed keeps asked mine d e none t.1.0
   event_entered size k old d ev (Err other) new e none t = plan_entered (slot_event size k t.0 old ev) old d (Err other) new e none t.2
 
-  tells_plan : (p : Plan) (old : Slot) (d : X) (reply : Reply) (new : Slot) (e : X) → ThroughDoor took p old d reply new e → ThroughDoor (λ d s a e. Asks (asked e) s a) p old d reply new e
+  tells_plan : (p : Plan) (old : Slot) (d : X) (reply : Reply) (new : Slot) (e : X) → ThroughDoor took p old d reply new e → ThroughDoor (λ d s a e. HasAsked (asked e) s a) p old d reply new e
   tells_plan (Finish o) old d reply new e t = t
   tells_plan (Ask sec f) old d reply new e (a, t, gives) = (a, (tells d (sec a.nr) a e t).0, gives)
 
@@ -161,7 +161,7 @@ module _ (full : Type 0) (size k : ℕ) (old : Slot) (e : SlotEvent) (asked : Op
 
 -- ---- a slot without a mount
 
-none_event : (size k : ℕ) (c : Choice) (home : ℕ) (e : MountEvent) → slot_event size k c None (event_of home e) ≡ refuse r.NoSuchSlot
+none_event : (size k : ℕ) (c : Choice) (home : ℕ) (e : MountEvent) → slot_event size k c None (as_event home e) ≡ refuse r.NoSuchSlot
 none_event size k c home (m.Create name) = refl
 none_event size k c home (m.Unlink name) = refl
 none_event size k c home (m.Truncate name pages) = refl
@@ -178,11 +178,11 @@ none_event size k c home (m.Store task map index offset bytes) = refl
 none_event size k c home m.Ls = refl
 none_event size k c home m.Usage = refl
 
-pub none_acted : (full : Type 0) (size k home : ℕ) (e : MountEvent) (asked : Option Asked) → asked ≡ None → IsActedOr full size k None (event_of home e) (Err r.NoSuchSlot) asked None
+pub none_acted : (full : Type 0) (size k home : ℕ) (e : MountEvent) (asked : Option Asked) → asked ≡ None → IsActedOr full size k None (as_event home e) (Err r.NoSuchSlot) asked None
 none_acted full size k home e asked none =
     let c : Choice = fresh_choice false None in (
       c,
       is_fresh false None,
-      subst (λ (x : Option Asked). Goes (slot_event size k c None (event_of home e)) x None (Err r.NoSuchSlot) None) (sym none)
+      subst (λ (x : Option Asked). Goes (slot_event size k c None (as_event home e)) x None (Err r.NoSuchSlot) None) (sym none)
           (subst (λ p. Goes p None None (Err r.NoSuchSlot) None) (sym (none_event size k c home e)) (refl, refl)),
     )

@@ -6,7 +6,7 @@ use Rattle.std.specs.Global.{Vec}
 use Rattle.std.specs.Prelude.{IfSome, is_some}
 use Rattle.hp_history.specs.declared.held.Held.{Held}
 use Rattle.hp_history.specs.declared.held.Held.TheVariants.{Tasks, Pool as PoolPart, Opener, Slot as SlotPart}
-use Rattle.hp_history.specs.History.{slots_from}
+use Rattle.hp_history.specs.History.{held_from}
 use Rattle.hp_locked.specs.Views.{IsTrailOf}
 use Rattle.hp_model.specs.declared.entry.PoolEntry.{PoolEntry}
 use Rattle.hp_model.specs.declared.entry.SlotEntry.{SlotEntry}
@@ -29,10 +29,10 @@ use Rattle.hp_model.specs.threads.TableRun.{IsTableRun}
 use Rattle.hp_pool.specs.Sums.{idle_pool}
 use Rattle.hp_shared.proofs.Gathered.{ends_runs, none_gathered, one_gathered}
 
-slots_append : (k : ℕ) (ts : List (List SlotEntry)) (t : List SlotEntry) → slots_from k (ts ++ t ∷ []) ≡ slots_from k ts ++ SlotPart (k + length ts) t ∷ []
+slots_append : (k : ℕ) (ts : List (List SlotEntry)) (t : List SlotEntry) → held_from k (ts ++ t ∷ []) ≡ held_from k ts ++ SlotPart (k + length ts) t ∷ []
 slots_append k [] t = ap (λ n. SlotPart n t ∷ []) (omega arith)
 slots_append k (x ∷ ts) t =
-    ap (λ hs. SlotPart k x ∷ hs) (slots_append (k + 1) ts t ∙ ap (λ n. slots_from (k + 1) ts ++ SlotPart n t ∷ []) (omega arith))
+    ap (λ hs. SlotPart k x ∷ hs) (slots_append (k + 1) ts t ∙ ap (λ n. held_from (k + 1) ts ++ SlotPart n t ∷ []) (omega arith))
 
 -- what is kept of a trail is that trail
 pub trail_kept : {E : Type 0} (keeps : Bool) (run : List E) (k : Keeping E) → keeps ≡ true → IsTrailOf run (kept_if keeps k) → k.entries ≡ run
@@ -52,12 +52,12 @@ slot_joined keeps size number run entries mount m k v vs all ms every was acc no
     let many = h.runs.count in
     let local : IsLocalRun size (length ms) (slot_start (length ms)) run m =
     subst (λ n. IsLocalRun size n (slot_start n) run m) here (subst (λ x. IsLocalRun size number (slot_start number) run x) (sym mounted) ran) in
-    let last : slots_from 0 (ts ++ run ∷ []) ≡ slots_from 0 ts ++ SlotPart number run ∷ [] =
-    slots_append 0 ts run ∙ ap (λ n. slots_from 0 ts ++ SlotPart n run ∷ []) (omega (arith, here, many)) in
+    let last : held_from 0 (ts ++ run ∷ []) ≡ held_from 0 ts ++ SlotPart number run ∷ [] =
+    slots_append 0 ts run ∙ ap (λ n. held_from 0 ts ++ SlotPart n run ∷ []) (omega (arith, here, many)) in
     record {
       trails = ts ++ run ∷ [];
       runs = subst (λ y. AreGathered size (ts ++ run ∷ []) y) (sym every_is) (one_gathered size ts ms run m h.runs local);
-      parts = now_is ∙ (ap (λ hs. hs ++ SlotPart number run ∷ []) h.parts ∙ (append_assoc was (slots_from 0 ts) (SlotPart number run ∷ []) ∙ ap (λ hs. was ++ hs) (sym last)));
+      parts = now_is ∙ (ap (λ hs. hs ++ SlotPart number run ∷ []) h.parts ∙ (append_assoc was (held_from 0 ts) (SlotPart number run ∷ []) ∙ ap (λ hs. was ++ hs) (sym last)));
       same = λ is.
           let one : v.items ≡ run = got ∙ trail_kept keeps run k is (subst (λ o. IsTrailOf run o) (sym noted) kept) in
           ap lists all_is ∙ (map-append (λ (x : Vec SlotEntry). x.items) vs (v ∷ []) ∙ (ap (λ xs. xs ++ v.items ∷ []) (h.same is) ∙ ap (λ x. ts ++ x ∷ []) one));
@@ -81,7 +81,7 @@ has_ended keeps in_order frames size n es ps table mounts p tasks pool slots ope
     record {
       trails = record { tasks = es; slots = h.trails; pool = ps };
       opened = opened;
-      parts = h.parts ∙ ap (λ hs. hs ++ slots_from 0 h.trails) was;
+      parts = h.parts ∙ ap (λ hs. hs ++ held_from 0 h.trails) was;
       ends = ends_runs frames size n es h.trails ps table mounts p some long tabled h.runs pooled;
       long = sym (h.runs.count ∙ long);
       kept = λ is.

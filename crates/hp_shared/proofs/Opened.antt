@@ -5,7 +5,7 @@ use Rattle.std.proofs.Common.{cond}
 use Rattle.std.specs.List.{All, filter, sum}
 use Rattle.std.proofs.lemmas.List.Elements.{All-head, All-tail}
 use Rattle.std.proofs.lemmas.List.Sums.{sum_by-cons}
-use Rattle.hp_locked.specs.Views.{IsFresh, frames_list}
+use Rattle.hp_locked.specs.Views.{IsNewTrail, frames_list}
 use Rattle.hp_model.specs.declared.node.NodeRow.{NodeRow}
 use Rattle.hp_model.specs.pool.NodeRows.{frames_of, idle_row, surp_of}
 use Rattle.hp_mount_door.specs.Door.{IsReady}
@@ -15,11 +15,11 @@ use Rattle.hp_nodes.specs.Ledgers.{AreFrames}
 use Rattle.hp_trail.specs.Keeping.{Keeping, extra_if, kept_if, left_if, opened_if, most_extra}
 
 -- an opened trail has nothing in it, and its closing places
-pub is_fresh : (X : Type 0) (keeps : Bool) (places extra : ℕ) → IsFresh (kept_if keeps (opened_if {X = X} keeps places extra))
+pub is_fresh : (X : Type 0) (keeps : Bool) (places extra : ℕ) → IsNewTrail (kept_if keeps (opened_if {X = X} keeps places extra))
 is_fresh X true places extra = refl
 is_fresh X false places extra = tt
 
-pub fresh_if : (X : Type 0) (keeps : Bool) (k : Keeping X) → k.entries ≡ [] → IsFresh (kept_if keeps k)
+pub fresh_if : (X : Type 0) (keeps : Bool) (k : Keeping X) → k.entries ≡ [] → IsNewTrail (kept_if keeps k)
 fresh_if X true k none = none
 fresh_if X false k none = tt
 
@@ -37,8 +37,8 @@ has_extra X false places extra few = few
 
 -- the same of what was opened, if it was
 pub is_fresh_ok : (X : Type 0) {E : Type 0} (keeps : Bool) (places extra : ℕ) (r : Result (Keeping X) E) → IfOk r (λ t. t ≡ opened_if keeps places extra)
-    → IfOk r (λ t. IsFresh (kept_if keeps t))
-is_fresh_ok X keeps places extra (Ok t) is = subst (λ x. IsFresh (kept_if keeps x)) (sym is) (is_fresh X keeps places extra)
+    → IfOk r (λ t. IsNewTrail (kept_if keeps t))
+is_fresh_ok X keeps places extra (Ok t) is = subst (λ x. IsNewTrail (kept_if keeps x)) (sym is) (is_fresh X keeps places extra)
 is_fresh_ok X keeps places extra (Err e) is = tt
 
 pub is_empty_ok : (X : Type 0) {E : Type 0} (keeps : Bool) (places extra : ℕ) (r : Result (Keeping X) E) → IfOk r (λ t. t ≡ opened_if keeps places extra)

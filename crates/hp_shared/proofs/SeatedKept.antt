@@ -5,7 +5,7 @@ use Rattle.atomic_table.specs.Seated.{TableId}
 use Rattle.hp_history.specs.declared.held.Held.{Held}
 use Rattle.hp_history.specs.declared.held.Held.TheVariants.{Slot as SlotPart, Busy}
 use Rattle.hp_history.specs.History.{number_in, receipts_in}
-use Rattle.hp_history.specs.Sections.{IsEntered, IsFree, IsHeld, asked_in, free_slot, placed, receipts_next, session_view, slot_entry, told_more, trail_next}
+use Rattle.hp_history.specs.Sections.{IsEntered, IsFree, IsHeld, asked_in, free_slot, section_at, receipts_next, session_view, entry_with, told_more, trail_next}
 use Rattle.hp_model.specs.declared.entry.Asked.{Asked}
 use Rattle.hp_model.specs.declared.entry.Part.TheVariants.{Slot as AtSlot}
 use Rattle.hp_model.specs.declared.entry.Receipt.{Receipt}
@@ -39,18 +39,18 @@ held k es v (Some a) = Busy k es (number_in v) (receipts_in v) a ∷ []
 -- the section that a door tells, and as the history has it
 abbrev pub IsSame : (keeps : Bool) → Option Asked → Option Asked → Type 0
 IsSame keeps None o = o ≡ None
-IsSame keeps (Some a) o = (place : ℕ) × (keeps ≡ true → a.place ≡ place) × (o ≡ Some (placed place a))
+IsSame keeps (Some a) o = (place : ℕ) × (keeps ≡ true → a.place ≡ place) × (o ≡ Some (section_at place a))
 
 pub seen : (keeps : Bool) (k : ℕ) (es : List SlotEntry) (v w : List Held) (asked : Option Asked) → IsEntered keeps (held k es v None) asked w
     → (o : Option Asked) × IsSame keeps asked o × (w ≡ held k es v o)
 seen keeps k es v w None is = (None, refl, is)
-seen keeps k es v w (Some a) is = (Some (placed is.0 a), (is.0, is.1, refl), is.2)
+seen keeps k es v w (Some a) is = (Some (section_at is.0 a), (is.0, is.1, refl), is.2)
 
 held_either : (k : ℕ) (es : List SlotEntry) (v : List Held) (o : Option Asked) → IsHeld (held k es v o)
 held_either k es v None = inl refl
 held_either k es v (Some a) = inr (a, refl)
 
-goes_placed : (p : Plan) (place : ℕ) (a : Asked) (old : Slot) (reply : Reply) (new : Slot) → Goes p (Some a) old reply new → Goes p (Some (placed place a)) old reply new
+goes_placed : (p : Plan) (place : ℕ) (a : Asked) (old : Slot) (reply : Reply) (new : Slot) → Goes p (Some a) old reply new → Goes p (Some (section_at place a)) old reply new
 goes_placed (Finish o) place a old reply new g = g
 goes_placed (Ask sec f) place a old reply new g = g
 
@@ -63,21 +63,21 @@ went_same keeps size k old e reply (Some a) o new same w =
 
 same_kept : (keeps : Bool) (asked o : Option Asked) → keeps ≡ true → IsSame keeps asked o → o ≡ asked
 same_kept keeps None o is same = same
-same_kept keeps (Some a) o is same = same.2 ∙ ap (λ n. Some (placed n a)) (sym (same.1 is))
+same_kept keeps (Some a) o is same = same.2 ∙ ap (λ n. Some (section_at n a)) (sym (same.1 is))
 
 -- ---- what is left of it
 
 module _ (k : ℕ) (es : List SlotEntry) (v : List Held) (e : SlotEvent) (r : Reply) where
-  slot_done : (o : Option Asked) → is_trace_full r ≡ false → slot_left e r (held k es v o) ≡ SlotPart k (es ++ slot_entry e r o ∷ [])
-  slot_done None is = ap (λ b. if b then SlotPart k es else SlotPart k (es ++ slot_entry e r None ∷ [])) is
-  slot_done (Some a) is = ap (λ b. if b then SlotPart k es else SlotPart k (es ++ slot_entry e r (Some a) ∷ [])) is
+  slot_done : (o : Option Asked) → is_trace_full r ≡ false → slot_left e r (held k es v o) ≡ SlotPart k (es ++ entry_with e r o ∷ [])
+  slot_done None is = ap (λ b. if b then SlotPart k es else SlotPart k (es ++ entry_with e r None ∷ [])) is
+  slot_done (Some a) is = ap (λ b. if b then SlotPart k es else SlotPart k (es ++ entry_with e r (Some a) ∷ [])) is
 
   session_done : (o : Option Asked) → is_trace_full r ≡ false → session_left e r (held k es v o) ≡ told_more v (slot_receipt k e r (length es))
   session_done None is = ap (λ b. if b then session_view v else told_more v (slot_receipt k e r (length es))) is
   session_done (Some a) is = ap (λ b. if b then session_view v else told_more v (slot_receipt k e r (length es))) is
 
   slot_full : is_trace_full r ≡ true → slot_left e r (held k es v None) ≡ SlotPart k es
-  slot_full is = ap (λ b. if b then SlotPart k es else SlotPart k (es ++ slot_entry e r None ∷ [])) is
+  slot_full is = ap (λ b. if b then SlotPart k es else SlotPart k (es ++ entry_with e r None ∷ [])) is
 
   session_full : is_trace_full r ≡ true → session_left e r (held k es v None) ≡ session_view v
   session_full is = ap (λ b. if b then session_view v else told_more v (slot_receipt k e r (length es))) is
@@ -114,13 +114,13 @@ seat_is history size id views k es s named number is ends kept =
 
 -- what is kept of the trail, with the event
 kept_next : (keeps : Bool) (k : ℕ) (es : List SlotEntry) (entries next : Option (List SlotEntry)) (e : SlotEvent) (r : Reply) (asked o : Option Asked) (receipt : Option Receipt) →
-    IsTrailOf es entries → IsReceipt entries (AtSlot k) (OnSlot k e) r receipt → is_some receipt ≡ keeps → IsSame keeps asked o → next ≡ with_entry entries (slot_entry e r asked)
-    → IsTrailOf (es ++ slot_entry e r o ∷ []) next
-kept_next keeps k es None next e r asked o receipt kept told given same noted = subst (IsTrailOf (es ++ slot_entry e r o ∷ [])) (sym noted) tt
+    IsTrailOf es entries → IsReceipt entries (AtSlot k) (OnSlot k e) r receipt → is_some receipt ≡ keeps → IsSame keeps asked o → next ≡ with_entry entries (entry_with e r asked)
+    → IsTrailOf (es ++ entry_with e r o ∷ []) next
+kept_next keeps k es None next e r asked o receipt kept told given same noted = subst (IsTrailOf (es ++ entry_with e r o ∷ [])) (sym noted) tt
 kept_next keeps k es (Some xs) next e r asked o receipt kept told given same noted =
     let at : o ≡ asked = same_kept keeps asked o (sym given ∙ is_kept (Some xs) k e r receipt told refl) same in
-    subst (IsTrailOf (es ++ slot_entry e r o ∷ [])) (sym noted)
-    (subst (λ (a : Option Asked). IsTrailOf (es ++ slot_entry e r o ∷ []) (with_entry (Some xs) (slot_entry e r a))) at (kept_more (Some xs) es (slot_entry e r o) kept))
+    subst (IsTrailOf (es ++ entry_with e r o ∷ [])) (sym noted)
+    (subst (λ (a : Option Asked). IsTrailOf (es ++ entry_with e r o ∷ []) (with_entry (Some xs) (entry_with e r a))) at (kept_more (Some xs) es (entry_with e r o) kept))
 
 -- what an event of the slot does, whose session has its seat in w once it is over
 module _ (keeps : Bool) (full : Type 0) (size : ℕ) (s t : SlotView) (es : List SlotEntry) (e : SlotEvent) (r : Reply) (asked : Option Asked)
@@ -160,7 +160,7 @@ module _ (keeps : Bool) (full : Type 0) (size : ℕ) (s t : SlotView) (es : List
     views_full : is_trace_full r ≡ true → views ≡ (SlotPart s.number es ∷ []) ∷ []
     views_full b = is ∙ ap (λ h. (h ∷ []) ∷ []) (ap (slot_left e r) (stays b) ∙ slot_full s.number es v e r b)
 
-    views_done : is_trace_full r ≡ false → views ≡ (SlotPart s.number (es ++ slot_entry e r o ∷ []) ∷ []) ∷ []
+    views_done : is_trace_full r ≡ false → views ≡ (SlotPart s.number (es ++ entry_with e r o ∷ []) ∷ []) ∷ []
     views_done b = is ∙ ap (λ h. (h ∷ []) ∷ []) (ap (slot_left e r) is_w ∙ slot_done s.number es v e r o b)
 
     -- the slot's seat goes on
@@ -176,8 +176,8 @@ module _ (keeps : Bool) (full : Type 0) (size : ℕ) (s t : SlotView) (es : List
         by false b =
             let done = was_done b in
             let goes = went b in
-            seat_is history size id views s.number (es ++ slot_entry e r o ∷ []) t named number (views_done b)
-            (slot_push size s.number (slot_start s.number) es s.mount (slot_entry e r o) t.mount runs (is_event, goes.0, goes.1, goes.2))
+            seat_is history size id views s.number (es ++ entry_with e r o ∷ []) t named number (views_done b)
+            (slot_push size s.number (slot_start s.number) es s.mount (entry_with e r o) t.mount runs (is_event, goes.0, goes.1, goes.2))
             (kept_next keeps s.number es s.entries t.entries e r asked o receipt kept done.told (given b) same done.entries)
 
     -- and the session was told of it

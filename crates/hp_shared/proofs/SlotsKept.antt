@@ -13,7 +13,7 @@ use Rattle.hp_model.specs.threads.Closing.{KeepsPlaces, removes_maps, to_exit}
 use Rattle.hp_model.specs.threads.LocalRun.{IsLocalRun, IsLocalStep}
 use Rattle.hp_model.specs.threads.Telling.{has_place}
 use Rattle.hp_laws.proofs.settled.Closing.{slot_places}
-use Rattle.hp_locked.specs.Views.{HasPlaces, IsFresh as IsFreshTrail}
+use Rattle.hp_locked.specs.Views.{HasPlaces, IsNewTrail as IsFreshTrail}
 use Rattle.hp_trail.specs.Keeping.{has_room, one_less, with_entry}
 use Rattle.hp_events.specs.Answered.{Went}
 use Rattle.hp_events.specs.Replies.{is_trace_full}
@@ -27,7 +27,7 @@ use Rattle.hp_events.specs.declared.event.MountEvent.{MountEvent}
 use Rattle.hp_events.specs.declared.event.MountEvent.TheVariants as m
 use Rattle.hp_model.specs.declared.refusal.Refusal.TheVariants as r
 use Rattle.hp_mount_laws.specs.Done.{MayEnter}
-use Rattle.hp_events.specs.Event.{event_of}
+use Rattle.hp_events.specs.Event.{as_event}
 use Rattle.hp_shared.proofs.Acting.{always_goes}
 use Rattle.hp_events.specs.declared.slot_work.SlotWork.{SlotWork}
 use Rattle.hp_events.specs.declared.slot_work.SlotWork.TheVariants as w
@@ -126,7 +126,7 @@ done_put true A B e t = cc
 done_put false A B e t = t
 
 -- an event of a mount has no place of its own in a trail
-pub mount_has_place : (k home : ℕ) (e : MountEvent) → has_place (OnSlot k (event_of home e)) ≡ false
+pub mount_has_place : (k home : ℕ) (e : MountEvent) → has_place (OnSlot k (as_event home e)) ≡ false
 mount_has_place k home (m.Create name) = refl
 mount_has_place k home (m.Unlink name) = refl
 mount_has_place k home (m.Truncate name pages) = refl
@@ -151,8 +151,8 @@ removes_none : (s : Slot) (e : SlotEvent) → has_place (OnSlot 0 e) ≡ false �
 removes_none s (ExitMaps task) other = cc
 removes_none s e other = refl
 
-pub mount_event : (s : Slot) (home : ℕ) (e : MountEvent) → IsTrue (is_slot_event s (event_of home e))
-mount_event s home e = may_happen s (event_of home e) (mount_has_place 0 home e)
+pub mount_event : (s : Slot) (home : ℕ) (e : MountEvent) → IsTrue (is_slot_event s (as_event home e))
+mount_event s home e = may_happen s (as_event home e) (mount_has_place 0 home e)
 
 -- an entry, where entries are kept, by the section that is told there
 pub entry_asked : (k : Bool) (entries : Option (List SlotEntry)) (e : SlotEvent) (reply : Reply) (a b : Option Asked) → is_some entries ≡ k → (k ≡ true → a ≡ b)
@@ -176,7 +176,7 @@ work_removes s (w.Remount options) has = refl
 work_removes s w.Umount has = refl
 work_removes s (w.Fork parent child) has = refl
 work_removes s (w.Exit task) has = has
-work_removes s (w.OfMount home e) has = removes_none s (event_of home e) (mount_has_place 0 home e)
+work_removes s (w.OfMount home e) has = removes_none s (as_event home e) (mount_has_place 0 home e)
 
 module _ (full : Type 0) (size k : ℕ) (entries : Option (List SlotEntry)) (left : Option ℕ) (extra : ℕ) (old : Slot) (e : SlotEvent) (reply : Reply)
     (asked : Option Asked) (new : Slot) (acted : IsActedOr full size k old e reply asked new) where

@@ -14,15 +14,15 @@ use Rattle.hp_history.specs.declared.held.Held.{Held}
 use Rattle.hp_history.specs.declared.held.Held.TheVariants.{Tasks}
 use Rattle.hp_history.specs.declared.law.Change.{Change}
 use Rattle.hp_history.specs.declared.law.Shape.{Shape}
-use Rattle.hp_history.specs.History.{IsChange, IsStep, Turns, Whole, number_in, receipts_in}
+use Rattle.hp_history.specs.History.{IsChange, IsSeatStep, Turns, Whole, number_in, receipts_in}
 use Rattle.hp_history.specs.Sections.{session_view}
-use Rattle.hp_locked.specs.Views.{HasPlaces, IsFresh, IsTrailOf}
+use Rattle.hp_locked.specs.Views.{HasPlaces, IsNewTrail, IsTrailOf}
 use Rattle.hp_trail.specs.Keeping.{has_room, one_less, with_entry}
 use Rattle.hp_shared.specs.Tables.{IsLockedTable, IsNext, table_entry, table_item, table_over}
 use Rattle.hp_shared.proofs.Kept.{kept_more}
 use Rattle.hp_shared.proofs.Places.{has_closing, places_after, room_closing}
 
-pub fresh_table : (nodes : ℕ) (o : Option (List TableEntry)) (left : Option ℕ) (extra : ℕ) (t : Table) → t ≡ [] → IsFresh o → most_tasks ≤ extra → IsLockedTable nodes [] o left extra t
+pub fresh_table : (nodes : ℕ) (o : Option (List TableEntry)) (left : Option ℕ) (extra : ℕ) (t : Table) → t ≡ [] → IsNewTrail o → most_tasks ≤ extra → IsLockedTable nodes [] o left extra t
 fresh_table nodes o left extra t is fresh enough = record {
   ends = sym is;
   kept = nothing o fresh;
@@ -31,7 +31,7 @@ fresh_table nodes o left extra t is fresh enough = record {
   places = room left (ap length is);
 }
   where
-    nothing : (o : Option (List TableEntry)) → IsFresh o → IsTrailOf [] o
+    nothing : (o : Option (List TableEntry)) → IsNewTrail o → IsTrailOf [] o
     nothing None fresh = tt
     nothing (Some es) fresh = fresh
 
@@ -46,9 +46,9 @@ table_push nodes t (x ∷ es) m e q run step = (run.0, run.1, table_push nodes r
 
 -- the step of the order by which an event of the table is told
 pub told_step : (sh : Shape) (es : List TableEntry) (e : TableEvent) (r : Reply) (change : Change) (w v : List Held) → v ≡ Tasks es ∷ session_view w ∷ []
-    → IsNext sh.nodes es e r change → (f : Whole → Whole) × IsStep sh f v (table_over e r v) × ((t : Table) × (u : Table) × IsChange t u change × Turns sh f v t u)
+    → IsNext sh.nodes es e r change → (f : Whole → Whole) × IsSeatStep sh f v (table_over e r v) × ((t : Table) × (u : Table) × IsChange t u change × Turns sh f v t u)
 told_step sh es e r change w v is (t, u, run, does, changes) =
-    subst (λ x. (f : Whole → Whole) × IsStep sh f x (table_over e r x) × ((t : Table) × (u : Table) × IsChange t u change × Turns sh f x t u)) (sym is) (
+    subst (λ x. (f : Whole → Whole) × IsSeatStep sh f x (table_over e r x) × ((t : Table) × (u : Table) × IsChange t u change × Turns sh f x t u)) (sym is) (
       _,
       table_step sh (number_in w) es (receipts_in w) (table_entry e r) (table_item e r (length es) (number_in w)) refl,
       (

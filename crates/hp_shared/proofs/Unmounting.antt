@@ -17,9 +17,9 @@ use Rattle.hp_model.specs.machine.SlotEvent.{has_maps, mount_outcome, mount_page
 use Rattle.hp_model.specs.threads.LocalRun.{Gives, Goes, ThroughDoor}
 use Rattle.hp_history.specs.declared.held.Held.{Held}
 use Rattle.hp_history.specs.Sections.{IsEntered}
-use Rattle.hp_locked.specs.Opened.{IsOpenedAt, IsShareOf, shown}
-use Rattle.hp_locked.specs.Views.{Asks}
-use Rattle.hp_mount_laws.specs.Kept.{mount_of}
+use Rattle.hp_locked.specs.Opened.{IsOpenedAt, IsShareOf, as_share}
+use Rattle.hp_locked.specs.Views.{HasAsked}
+use Rattle.hp_mount_laws.specs.Kept.{mount_from}
 use Rattle.hp_mount_laws.proofs.Ways.{fresh_choice, is_fresh}
 use Rattle.hp_subpool.specs.Subpool.{Subpool, opened}
 use Rattle.hp_events.specs.Answered.{Went}
@@ -52,7 +52,7 @@ free k m e f =
     sym (ap (λ x. cond x (refuse r.Busy) (cond (has_maps m) (refuse r.Busy) (gives Done (Some m) None))) e ∙ ap (λ x. cond x (refuse r.Busy) (gives Done (Some m) None)) f)
 
 module _ {X : Type 0} (keeps : Bool) (asked : X → Option Asked) (mine : X → List Held) (took : X → Section → PoolAnswer → X → Type 0) (full : X → Type 0)
-    (tells : (d : X) (s : Section) (a : PoolAnswer) (e : X) → took d s a e → Asks (asked e) s a × IsEntered keeps (mine d) (asked e) (mine e)) (d e : X) (none : asked d ≡ None) where
+    (tells : (d : X) (s : Section) (a : PoolAnswer) (e : X) → took d s a e → HasAsked (asked e) s a × IsEntered keeps (mine d) (asked e) (mine e)) (d e : X) (none : asked d ≡ None) where
   pub unmounted : (size k : ℕ) (m : Mount) → (k == 0) ≡ false → has_maps m ≡ false →
       ThroughDoor took (gives Done (Some m) None) (Some m) d (Ok Done) None e → Went size k (Some m) Umount (Ok Done) (asked e) None
   unmounted size k m other no_maps t =
@@ -69,7 +69,7 @@ module _ {X : Type 0} (keeps : Bool) (asked : X → Option Asked) (mine : X → 
   told (Err x) = Err x
 
   abbrev left_of : Result (Subpool × Limits) Refusal → Slot
-  left_of (Ok got) = Some (mount_of got.0 got.1.inodes [])
+  left_of (Ok got) = Some (mount_from got.0 got.1.inodes [])
   left_of (Err x) = None
 
   opens : (l : Result Limits Refusal) (nr : ℕ) (got : Result (Subpool × Limits) Refusal) (s : Section) (a : PoolAnswer) → IsShareOf l nr got s a →
@@ -77,8 +77,8 @@ module _ {X : Type 0} (keeps : Bool) (asked : X → Option Asked) (mine : X → 
   opens (Err x) nr got s a h = (sym h.1, subst (λ g. Gives (mount_outcome choice a (Err x)) None (told g) (left_of g)) (sym h.0) (refl, refl))
   opens (Ok l) nr (Ok got) s a h = (
     sym h.1,
-    subst (λ y. Gives (mount_outcome choice y (Ok l)) None (Ok Done) (Some (mount_of got.0 got.1.inodes []))) (sym h.2)
-        (refl, ap (λ (x : Subpool × Limits). Some (mount_of x.0 x.1.inodes [])) h.0),
+    subst (λ y. Gives (mount_outcome choice y (Ok l)) None (Ok Done) (Some (mount_from got.0 got.1.inodes []))) (sym h.2)
+        (refl, ap (λ (x : Subpool × Limits). Some (mount_from x.0 x.1.inodes [])) h.0),
   )
   opens (Ok l) nr (Err x) s a h = (
     sym h.1,
@@ -144,22 +144,23 @@ limits_first full size k text m asked first none =
 
 module _ {X : Type 0} (took : X → Section → PoolAnswer → X → Type 0) (full : X → Type 0) (share_of : Subpool → Subpool) (size : ℕ) (text : List ℕ)
     (d e : X) (got : Result (Subpool × Limits) Refusal) where
-  pub shown_err : (x : Refusal) → got ≡ Err x → IsOpenedAt took full size text d e (shown share_of got) → IsOpenedAt took full size text d e (Err x)
-  shown_err x is o = subst (λ (y : Result (Subpool × Limits) Refusal). IsOpenedAt took full size text d e (shown share_of y)) is o
+  pub shown_err : (x : Refusal) → got ≡ Err x → IsOpenedAt took full size text d e (as_share share_of got) → IsOpenedAt took full size text d e (Err x)
+  shown_err x is o = subst (λ (y : Result (Subpool × Limits) Refusal). IsOpenedAt took full size text d e (as_share share_of y)) is o
 
   pub shown_ok : (s : Subpool) (l : Limits) → got ≡ Ok (s, l) → ((s : Subpool) → share_of s ≡ s) →
-      IsOpenedAt took full size text d e (shown share_of got) → IsOpenedAt took full size text d e (Ok (s, l))
+      IsOpenedAt took full size text d e (as_share share_of got) → IsOpenedAt took full size text d e (Ok (s, l))
   shown_ok s l is means o =
-      subst (λ (y : Subpool). IsOpenedAt took full size text d e (Ok (y, l))) (means s) (subst (λ (y : Result (Subpool × Limits) Refusal). IsOpenedAt took full size text d e (shown share_of y)) is o)
+      subst (λ (y : Subpool). IsOpenedAt took full size text d e (Ok (y, l))) (means s)
+      (subst (λ (y : Result (Subpool × Limits) Refusal). IsOpenedAt took full size text d e (as_share share_of y)) is o)
 
   is_opened : (m : Result Limits Refusal) (nr : ℕ) (s : Subpool) (l : Limits) (sec : Section) (a : PoolAnswer) → IsShareOf m nr (Ok (s, l)) sec a → (n : Limits) × (s ≡ opened n.max n.min)
   is_opened (Err x) nr s l sec a h = (let same = h.0 in cc)
   is_opened (Ok n) nr s l sec a h = (n, ap (λ (y : Subpool × Limits). y.0) h.0)
 
-  pub opened_pages : (s : Subpool) (l : Limits) → got ≡ Ok (s, l) → ((s : Subpool) → share_of s ≡ s) → IsOpenedAt took full size text d e (shown share_of got) → s.pages ≡ 0
+  pub opened_pages : (s : Subpool) (l : Limits) → got ≡ Ok (s, l) → ((s : Subpool) → share_of s ≡ s) → IsOpenedAt took full size text d e (as_share share_of got) → s.pages ≡ 0
   opened_pages s l is means o = (let t = shown_ok s l is means o in ap (λ (y : Subpool). y.pages) (is_opened (limits t.0 size (wanted_of text)) t.0 s l t.1 t.2 t.3).1)
 
-  pub opened_held : (s : Subpool) (l : Limits) → got ≡ Ok (s, l) → ((s : Subpool) → share_of s ≡ s) → IsOpenedAt took full size text d e (shown share_of got) → s.held ≡ 0
+  pub opened_held : (s : Subpool) (l : Limits) → got ≡ Ok (s, l) → ((s : Subpool) → share_of s ≡ s) → IsOpenedAt took full size text d e (as_share share_of got) → s.held ≡ 0
   opened_held s l is means o = (let t = shown_ok s l is means o in ap (λ (y : Subpool). y.held) (is_opened (limits t.0 size (wanted_of text)) t.0 s l t.1 t.2 t.3).1)
 
 pub none_mount : (x : Slot) → is_some x ≡ false → x ≡ None

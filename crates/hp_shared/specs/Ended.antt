@@ -9,7 +9,7 @@ use Rattle.hp_model.specs.machine.State.{State}
 use Rattle.hp_model.specs.threads.JointRun.{Trails as Run}
 use Rattle.hp_history.specs.declared.held.Held.{Held}
 use Rattle.hp_history.specs.declared.held.Held.TheVariants.{Tasks, Pool, Opener}
-use Rattle.hp_history.specs.History.{receipts_in, slots_from}
+use Rattle.hp_history.specs.History.{receipts_in, held_from}
 use Rattle.hp_history.specs.Sections.{session_view}
 use Rattle.hp_history.specs.History.{number_in}
 use Rattle.hp_shared.specs.Seated.{first_of}
@@ -44,7 +44,7 @@ pub record IsFinished (kept : Bool) (history : TableId) (number : ℕ) (receipts
 pub record AreSlotsJoined (keeps : Bool) (size : ℕ) (kept : List (List SlotEntry)) (mounts : List Slot) (was now : List Held) : Type 0 where
   pub trails : List (List SlotEntry)
   pub runs : AreGathered size trails mounts
-  pub parts : now ≡ was ++ slots_from 0 trails
+  pub parts : now ≡ was ++ held_from 0 trails
   pub same : keeps ≡ true → kept ≡ trails
 
 -- the seat has the trails of all parts, which are runs of these from this state to this machine, and it has opened so many sessions;
@@ -52,7 +52,7 @@ pub record AreSlotsJoined (keeps : Bool) (size : ℕ) (kept : List (List SlotEnt
 pub record HasEnded (keeps : Bool) (s : State) (slots : ℕ) (m : Machine) (given : Option Trails) (sessions : ℕ) (seat : List Held) : Type 0 where
   pub trails : Run
   pub opened : ℕ
-  pub parts : seat ≡ Tasks trails.tasks ∷ Pool trails.pool ∷ Opener opened ∷ slots_from 0 trails.slots
+  pub parts : seat ≡ Tasks trails.tasks ∷ Pool trails.pool ∷ Opener opened ∷ held_from 0 trails.slots
   pub ends : EndsRuns s trails m
   pub long : slots ≡ length trails.slots
   pub kept : keeps ≡ true → (t : Trails) × (given ≡ Some t) × (entries_of t ≡ trails)

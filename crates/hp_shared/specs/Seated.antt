@@ -4,7 +4,7 @@ use Rattle.std.specs.Bool.{MatchBool}
 use Rattle.atomic_table.specs.Seated.{TableId}
 use Rattle.hp_history.specs.declared.held.Held.{Held}
 use Rattle.hp_history.specs.declared.held.Held.TheVariants.{Slot as SlotPart}
-use Rattle.hp_history.specs.Sections.{asked_in, free_slot, receipts_next, session_view, slot_entry, told_more, trail_in, trail_next}
+use Rattle.hp_history.specs.Sections.{asked_in, free_slot, receipts_next, session_view, entry_with, told_more, trail_in, trail_next}
 use Rattle.hp_model.specs.declared.entry.Asked.{Asked}
 use Rattle.hp_model.specs.declared.entry.Receipt.{Receipt}
 use Rattle.hp_model.specs.declared.entry.SlotEntry.{SlotEntry}
@@ -45,7 +45,7 @@ pub record IsSeatedSlot (history : TableId) (size : ℕ) (id : TableId) (views :
 
 -- what a session is told of an event of the slot
 abbrev pub slot_receipt : (number : ℕ) → SlotEvent → Reply → (place : ℕ) → Receipt
-slot_receipt number e r place = receipt_of (record { entry = InSlot number (slot_entry e r None); place = place; by = 0 })
+slot_receipt number e r place = receipt_of (record { entry = InSlot number (entry_with e r None); place = place; by = 0 })
 
 -- what the slot's seat has then; where there was no room, nothing happened
 abbrev pub slot_left : SlotEvent → Reply → List Held → Held
@@ -60,7 +60,7 @@ session_left e r v = if is_trace_full r then session_view v else receipts_next e
 pub record IsSeatedDone (keeps : Bool) (size : ℕ) (old new : SeatedView) (e : SlotEvent) (reply : Reply) (was now : List Held) (receipt : Option Receipt) : Type 0 where
   pub asked : Option Asked
   pub changes : Went size old.slot.number old.slot.mount e reply asked new.slot.mount
-  pub run : new.run ≡ old.run ++ slot_entry e reply asked ∷ []
+  pub run : new.run ≡ old.run ++ entry_with e reply asked ∷ []
   pub told : now ≡ told_more was (slot_receipt old.slot.number e reply (length old.run)) ∷ []
   pub given : receipt ≡ (if keeps then Some (slot_receipt old.slot.number e reply (length old.run)) else None)
 

@@ -12,8 +12,8 @@ ghost use Rattle.hp_model.specs.Profile.{most_tasks, most_bytes};
 ghost use Rattle.hp_model.specs.text.Writing.{IsWithinLimits};
 ghost use Rattle.hp_laws.specs.Answers.{lists_names};
 ghost use Rattle.hp_locked.specs.Told.{IsReceipt};
-ghost use Rattle.hp_locked.specs.Views.{IsFresh};
-ghost use Rattle.hp_events.specs.Event.{event_of, shows_bytes};
+ghost use Rattle.hp_locked.specs.Views.{IsNewTrail};
+ghost use Rattle.hp_events.specs.Event.{as_event, shows_bytes};
 ghost use Rattle.hp_store.specs.Batch.{Batch as BatchValue};
 ghost use Rattle.hp_store.specs.Store.{Store as StoreValue, page_at};
 ghost use Rattle.hp_subpool.specs.Subpool.{Subpool as ShareValue};
@@ -75,7 +75,7 @@ impl<N: Naming, T: Trail<SlotEntry>> Slot<N, T> {
     #[tactic(auto, using(crate::proofs::SlotsKept::fresh_slot))]
     pub fn new(number: u64, mount: Option<Mount<N>>, trail: T) -> Self
         requires start { mount ≡ slot_start number }
-        requires fresh { IsFresh (T.entries trail) }
+        requires fresh { IsNewTrail (T.entries trail) }
         requires counted { T.entries trail ≡ None → T.left trail ≡ None }
         requires enough { most_tasks ≤ T.extra trail }
         ensures { result ≡ record {
@@ -235,10 +235,10 @@ impl<N: Naming, T: Trail<SlotEntry>> Slot<N, T> {
         requires ready { D.is_ready door.old }
         requires page_bytes { page_bytes ≡ N.page_bytes }
         requires room { shows_bytes event ≡ true → most_bytes ≤ length room.old }
-        requires apart { lists_names (event_of home event) ≡ false }
+        requires apart { lists_names (as_event home event) ≡ false }
         requires unkept { T.keeps ≡ false }
         ensures done { IsSlotEvent (D.is_full door.new) N.page_bytes self.old self.new
-            (event_of home event.entry)
+            (as_event home event.entry)
             (told_reply result) (D.asked door.new) None }
         ensures entered { IsEntered D.keeps (D.mine door.old) (D.asked door.new) (D.mine door.new) }
         ensures number { self.new.number ≡ self.old.number }

@@ -5,8 +5,8 @@ ghost use Rattle.hp_model.specs.machine.Machine.{open_mount};
 ghost use Rattle.hp_model.specs.pool.PoolCounts.{IsSettled};
 ghost use Rattle.hp_model.specs.Profile.{most_tasks, most_frames, most_frames_in_all, most_places};
 ghost use Rattle.hp_history.specs.declared.held.Held.TheVariants.{Pool as PoolPart, Tasks as TasksPart};
-ghost use Rattle.hp_history.specs.History.{slots_from};
-ghost use Rattle.hp_locked.specs.Views.{IsFresh};
+ghost use Rattle.hp_history.specs.History.{held_from};
+ghost use Rattle.hp_locked.specs.Views.{IsNewTrail};
 ghost use Rattle.hp_trail.specs.Keeping.{extra_if, kept_if, left_if, most_extra};
 
 use crate::opener::Opener;
@@ -45,7 +45,7 @@ pub(crate) fn open_trail<E: Drop, const K: usize>(
     requires places { places ≤ most_places }
     requires extra { extra ≤ most_extra }
     ensures none { IfOk result (λ t. t.entries ≡ []) }
-    ensures fresh { IfOk result (λ t. IsFresh (kept_if (K == 1) t)) }
+    ensures fresh { IfOk result (λ t. IsNewTrail (kept_if (K == 1) t)) }
     ensures enough { IfOk result (λ t. extra ≤ extra_if (K == 1) t) }
 {
     Trace::open(alloc, places, extra)
@@ -61,7 +61,7 @@ pub(crate) struct FreshTrail<const K: usize> {
 
 impl<const K: usize> FreshTrail<K> {
     fn into_trail(self) -> Trace<SlotEntry, K>
-        ensures fresh { IsFresh (kept_if (K == 1) result) }
+        ensures fresh { IsNewTrail (kept_if (K == 1) result) }
         ensures counted { kept_if (K == 1) result ≡ None → left_if (K == 1) result ≡ None }
         ensures enough { most_tasks ≤ extra_if (K == 1) result }
     {
@@ -111,7 +111,7 @@ pub(crate) fn open_history<N: Naming + Places>(
     ensures core { result.2.table_id ≡ N.history }
     ensures pool { result.2.me ≡ (PoolPart [] ∷ [], []) }
     ensures rest { result.4.table_id ≡ N.history }
-    ensures slots { result.4.me ≡ (slots_from 0 (replicate N.shape.slots []), []) }
+    ensures slots { result.4.me ≡ (held_from 0 (replicate N.shape.slots []), []) }
 {
     let (history, seat) = opened.named::<N>();
     let mut seat = seat;
@@ -131,7 +131,7 @@ pub(crate) fn lock_slots<N: Naming + Places, const K: usize>(
     locks: &mut Vec<CachePadded<Mutex<SeatedSlot<N, Trace<SlotEntry, K>>>>>,
 )
     requires named { slots.table_id ≡ N.history }
-    requires slots { slots.me ≡ (slots_from 0 (replicate (vec_len trails) []), []) }
+    requires slots { slots.me ≡ (held_from 0 (replicate (vec_len trails) []), []) }
     requires first { first ≡ open_mount }
     requires some { 0 < vec_len trails }
     requires none { vec_len locks.old ≡ 0 }

@@ -8,11 +8,11 @@ ghost use Rattle.hp_model.specs.Profile.{most_bytes, most_tasks};
 ghost use Rattle.hp_model.specs.text.Writing.{IsWithinLimits};
 ghost use Rattle.hp_model.specs.threads.LocalRun.{IsLocalRun};
 ghost use Rattle.hp_laws.specs.Answers.{lists_names};
-ghost use Rattle.hp_events.specs.Event.{event_of, shows_bytes};
+ghost use Rattle.hp_events.specs.Event.{as_event, shows_bytes};
 ghost use Rattle.hp_history.specs.declared.held.Held.TheVariants.{Slot as SlotPart};
 ghost use Rattle.hp_history.specs.History.{IsSession};
 ghost use Rattle.hp_history.specs.Sections.{IsFree, IsHeld, free_slot, session_view};
-ghost use Rattle.hp_locked.specs.Views.{IsFresh, IsTrailOf};
+ghost use Rattle.hp_locked.specs.Views.{IsNewTrail, IsTrailOf};
 ghost use Rattle.hp_events.specs.Replies.{is_trace_full, names_reply};
 ghost use Rattle.hp_events.specs.SlotWork.{AreCopiesFor, IsAnother, asked_event, is_exit, needs_room};
 ghost use Rattle.hp_shared.specs.Seated.{IsSeatedDone, IsSeatedEvent, first_of, run_in, session_left, slot_left, slot_view};
@@ -63,7 +63,7 @@ impl<N: Naming + Places, T: Trail<SlotEntry>> SeatedSlot<N, T> {
     /// A slot as it starts, with a trail that has nothing in it yet, and the seat that has it.
     pub fn new(number: u64, mount: Option<Mount<N>>, trail: T, seat: Token) -> Self
         requires start { mount ≡ slot_start number }
-        requires fresh { IsFresh (T.entries trail) }
+        requires fresh { IsNewTrail (T.entries trail) }
         requires counted { T.entries trail ≡ None → T.left trail ≡ None }
         requires enough { most_tasks ≤ T.extra trail }
         requires named { seat.table_id ≡ N.history }
@@ -188,11 +188,11 @@ impl<N: Naming + Places, T: Trail<SlotEntry>> SeatedSlot<N, T> {
         requires unkept { T.keeps ≡ false }
         requires page_bytes { page_bytes ≡ N.page_bytes }
         requires room { shows_bytes event ≡ true → most_bytes ≤ length room.old }
-        requires apart { lists_names (event_of home event) ≡ false }
+        requires apart { lists_names (as_event home event) ≡ false }
         ensures named { result.0.table_id ≡ N.history }
         ensures alone { result.0.me.1 ≡ [] }
         ensures done { IsSeatedDone T.keeps N.page_bytes self.old self.new
-            (event_of home event.entry) (told_reply result.1) mine.me.0 result.0.me.0 None }
+            (as_event home event.entry) (told_reply result.1) mine.me.0 result.0.me.0 None }
         ensures number { self.new.slot.number ≡ self.old.slot.number }
         ensures keeps { is_trace_full (told_reply result.1) ≡ false }
         ensures limits { IsWithinLimits (told_reply result.1) }

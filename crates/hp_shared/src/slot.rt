@@ -7,7 +7,7 @@ ghost use Rattle.hp_model.specs.beside.Copying.{has_names, reply_has_names};
 ghost use Rattle.hp_model.specs.beside.Told.{told_answer, told_reply};
 ghost use Rattle.hp_model.specs.text.Writing.{HasSmallAnswer, IsWithinLimits};
 ghost use Rattle.hp_laws.specs.Answers.{lists_names};
-ghost use Rattle.hp_events.specs.Event.{event_of, shows_bytes};
+ghost use Rattle.hp_events.specs.Event.{as_event, shows_bytes};
 ghost use Rattle.hp_store.specs.Batch.{Batch as BatchValue};
 ghost use Rattle.hp_store.specs.Store.{Store as StoreValue, page_at};
 ghost use Rattle.hp_subpool.specs.Subpool.{Subpool as ShareValue};
@@ -105,11 +105,11 @@ pub(crate) fn act<
     requires page_bytes { page_bytes ≡ N.page_bytes }
     requires room { shows_bytes event ≡ true → most_bytes ≤ length room.old }
     ensures done { (k : ℕ) → IsActedOr (D.is_full door.new) N.page_bytes k mount.old
-        (event_of home event.entry)
+        (as_event home event.entry)
         (told_reply result) (D.asked door.new) mount.new }
     ensures entered { IsEntered D.keeps (D.mine door.old) (D.asked door.new) (D.mine door.new) }
     ensures limits { IsWithinLimits (told_reply result) }
-    ensures plain { lists_names (event_of home event.entry) ≡ false →
+    ensures plain { lists_names (as_event home event.entry) ≡ false →
         reply_has_names (told_reply result) ≡ false }
 {
     match mount {

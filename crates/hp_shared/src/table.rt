@@ -9,7 +9,7 @@ ghost use Rattle.hp_model.specs.threads.TableRun.{IsTableRun};
 ghost use Rattle.hp_history.specs.declared.held.Held.TheVariants.{Tasks};
 ghost use Rattle.hp_history.specs.History.{IsChange, IsSession};
 ghost use Rattle.hp_history.specs.Sections.{told_more};
-ghost use Rattle.hp_locked.specs.Views.{IsFresh, IsTrailOf, frames_list};
+ghost use Rattle.hp_locked.specs.Views.{IsNewTrail, IsTrailOf, frames_list};
 ghost use Rattle.hp_events.specs.Replies.{table_reply};
 ghost use Rattle.hp_shared.specs.Tables.{IsNext, IsTableEventDone, table_in, table_receipt, table_view, table_with};
 ghost use Rattle.hp_trail.specs.Keeping.{has_room, one_less, with_entry};
@@ -69,7 +69,7 @@ impl<N: Naming + Places, T: Trail<TableEntry>> Table<N, T> {
         requires nodes { nodes ≡ length (frames_list N.frames) }
         requires shape { nodes ≡ N.shape.nodes }
         requires none { tasks ≡ [] }
-        requires fresh { IsFresh (T.entries trail) }
+        requires fresh { IsNewTrail (T.entries trail) }
         requires enough { most_tasks ≤ T.extra trail }
         requires named { seat.table_id ≡ N.history }
         requires first { seat.me ≡ (Tasks [] ∷ [], []) }

@@ -7,7 +7,7 @@ use Rattle.std.proofs.Math.Seq.{map-set_same}
 use Rattle.std.proofs.lemmas.List.{get_or_read, length-map, map-append, map-set, set-get_or}
 use Rattle.std.proofs.lemmas.Bool.Decides.{nat_tests}
 use Rattle.hp_model.specs.files.Page.{Page}
-use Rattle.hp_store.specs.Store.{Holding, at_slot, holders_of, page_of}
+use Rattle.hp_store.specs.Store.{Holding, at_slot, holders_of, held_page}
 use Rattle.hp_store.specs.Kept.{held_by, holdings}
 use Rattle.hp_store.proofs.Empty.{some_within}
 
@@ -53,7 +53,7 @@ changed : (o : Option Page) (f : Holding → Holding) (g h : ℕ) → ((p : Page
 changed None f g h each = refl
 changed (Some p) f g h each = ap Some (each p)
 
-page_in : (o : Option Page) (h : ℕ) → option_map page_of (option_map (held_by h) o) ≡ o
+page_in : (o : Option Page) (h : ℕ) → option_map held_page (option_map (held_by h) o) ≡ o
 page_in None h = refl
 page_in (Some p) h = refl
 
@@ -83,7 +83,7 @@ module _ (ps : List (Option Page)) (hs : List ℕ) (counted : map is_some ps ≡
   holders_is n = sym (ap holders_of (get_held n) ∙ holders_in (slice_index_or ps n None) (slice_index hs n) (counted_at n))
 
   pub none_page : (n : ℕ) → slice_index_or (holdings ps hs) n None ≡ None → slice_index_or ps n None ≡ None
-  none_page n e = sym (page_in (slice_index_or ps n None) (slice_index hs n)) ∙ ap (option_map page_of) (sym (get_held n) ∙ e)
+  none_page n e = sym (page_in (slice_index_or ps n None) (slice_index hs n)) ∙ ap (option_map held_page) (sym (get_held n) ∙ e)
 
   -- a page and its holders are replaced
   pub counted_set : (n : ℕ) (p : Option Page) (h : ℕ) → is_some p ≡ nat_lt 0 h → map is_some (slice_set ps n p) ≡ map (nat_lt 0) (slice_set hs n h)

@@ -39,11 +39,11 @@ held_once_more h = record h { holders = h.holders + 1 }
 abbrev pub held_once_less : Holding → Holding
 held_once_less h = record h { holders = h.holders - 1 }
 
-abbrev pub page_of : Holding → Page
-page_of h = record { node = h.node; bytes = h.bytes }
+abbrev pub held_page : Holding → Page
+held_page h = record { node = h.node; bytes = h.bytes }
 
-abbrev pub written : ℕ → List ℕ → Holding → Holding
-written offset bytes h = record h { bytes = take offset h.bytes ++ bytes ++ drop (offset + length bytes) h.bytes }
+abbrev pub written_in : ℕ → List ℕ → Holding → Holding
+written_in offset bytes h = record h { bytes = take offset h.bytes ++ bytes ++ drop (offset + length bytes) h.bytes }
 
 abbrev pub with_page : ℕ → Option Holding → Store → Store
 with_page at page s = record s { pages = slice_set s.pages at page }
@@ -59,14 +59,14 @@ abbrev pub dropped_by : ℕ → Option Holding → Store → Store
 dropped_by at None s = s
 dropped_by at (Some h) s =
     if h.holders == 1
-    then record (with_page at None s) { going = s.going ++ page_of h ∷ [] }
+    then record (with_page at None s) { going = s.going ++ held_page h ∷ [] }
     else with_page at (Some (held_once_less h)) s
 
 abbrev pub dropped : ℕ → Store → Store
 dropped at s = dropped_by at (page_at s at) s
 
 abbrev pub overwritten : ℕ → ℕ → List ℕ → Store → Store
-overwritten at offset bytes s = with_page at (option_map (written offset bytes) (page_at s at)) s
+overwritten at offset bytes s = with_page at (option_map (written_in offset bytes) (page_at s at)) s
 
 abbrev pub one_if_held : Option Holding → ℕ
 one_if_held None = 0

@@ -1,7 +1,7 @@
 //! Pages with their holders, by number.
 ghost use Rattle.std.specs.Prelude.{◌≡◌, ℕ, ◌+◌, ◌<◌, ◌≤◌, ◌^◌, ◌==◌, not, false, IsTrue, IsSome, [], ◌∷◌, ◌++◌, length, slice_index_or, slice_set, None, Some, OnOk, OnErr};
 ghost use Rattle.std.specs.Option.{option_map};
-ghost use Rattle.hp_store.specs.Store.{holders_of, first_held, held_once_more, held_once_less, page_of, written, at_slot};
+ghost use Rattle.hp_store.specs.Store.{holders_of, first_held, held_once_more, held_once_less, held_page, written_in, at_slot};
 ghost use Rattle.hp_store.specs.Kept.{Used};
 
 use hp_model::naming::Naming;
@@ -112,7 +112,7 @@ impl<N: Naming> Holdings<N> {
     /// Takes a page out.
     pub(crate) fn take(&mut self, at: usize) -> Page<N>
         requires { IsSome (slice_index_or self.old.slots at None) }
-        ensures page { option_map page_of (slice_index_or self.old.slots at None) ≡ Some result }
+        ensures page { option_map held_page (slice_index_or self.old.slots at None) ≡ Some result }
         ensures taken { self.new ≡ record self.old { slots = slice_set self.old.slots at None } }
     {
         self.holders[at] = 0;
@@ -151,7 +151,7 @@ impl<N: Naming> Holdings<N> {
         requires held { IsSome (slice_index_or self.old.slots at None) }
         requires fits { offset + length bytes.now ≤ N.page_bytes }
         ensures { self.new ≡ record self.old {
-          slots = at_slot (written offset bytes.now) at self.old.slots;
+          slots = at_slot (written_in offset bytes.now) at self.old.slots;
         } }
     {
         match &mut self.pages[at] {
@@ -172,7 +172,7 @@ impl<N: Naming> Holdings<N> {
 
     pub(crate) fn page(&self, at: usize) -> &Page<N>
         requires { IsSome (slice_index_or self.now.slots at None) }
-        ensures { option_map page_of (slice_index_or self.now.slots at None) ≡ Some result.now }
+        ensures { option_map held_page (slice_index_or self.now.slots at None) ≡ Some result.now }
     {
         match &self.pages[at] {
             Some(page) => page,

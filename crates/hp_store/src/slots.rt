@@ -1,7 +1,7 @@
 //! Slots for pages, and the numbers of those that are free.
 ghost use Rattle.std.specs.Prelude.{◌≡◌, ℕ, ◌+◌, ◌-◌, ◌<◌, ◌≤◌, ◌^◌, ◌==◌, not, false, IsTrue, [], length, slice_index_or, slice_set, None, Some, IsSome, OnOk, OnErr};
 ghost use Rattle.std.specs.Option.{option_map};
-ghost use Rattle.hp_store.specs.Store.{holders_of, first_held, held_once_more, held_once_less, page_of, written, held_count, at_slot, Lengthens};
+ghost use Rattle.hp_store.specs.Store.{holders_of, first_held, held_once_more, held_once_less, held_page, written_in, held_count, at_slot, Lengthens};
 
 use crate::holdings::Holdings;
 use hp_model::naming::Naming;
@@ -113,7 +113,7 @@ impl<N: Naming> Slots<N> {
     #[inline(never)]
     pub(crate) fn remove(&mut self, at: PageNo) -> Page<N>
         requires { holders_of (slice_index_or self.old at None) ≡ 1 }
-        ensures page { option_map page_of (slice_index_or self.old at None) ≡ Some result }
+        ensures page { option_map held_page (slice_index_or self.old at None) ≡ Some result }
         ensures removed { self.new ≡ slice_set self.old at None }
         ensures held { held_count self.new + 1 ≡ held_count self.old }
     {
@@ -147,7 +147,7 @@ impl<N: Naming> Slots<N> {
     pub(crate) fn write(&mut self, at: PageNo, offset: usize, bytes: &[u8])
         requires held { IsSome (slice_index_or self.old at None) }
         requires fits { offset + length bytes.now ≤ N.page_bytes }
-        ensures written { self.new ≡ at_slot (written offset bytes.now) at self.old }
+        ensures written { self.new ≡ at_slot (written_in offset bytes.now) at self.old }
         ensures held { held_count self.new ≡ held_count self.old }
     {
         self.used.write(at.number() as usize, offset, bytes);
@@ -162,7 +162,7 @@ impl<N: Naming> Slots<N> {
 
     pub(crate) fn page(&self, at: PageNo) -> &Page<N>
         requires { IsSome (slice_index_or self.now at None) }
-        ensures { option_map page_of (slice_index_or self.now at None) ≡ Some result.now }
+        ensures { option_map held_page (slice_index_or self.now at None) ≡ Some result.now }
     {
         self.used.page(at.number() as usize)
     }

@@ -1,7 +1,7 @@
 //! The store.
 ghost use Rattle.std.specs.Prelude.{◌≡◌, ℕ, ◌+◌, ◌-◌, ◌<◌, ◌≤◌, ◌^◌, ◌↔◌, ◌==◌, [], ◌∷◌, ◌++◌, length, max, min, None, Some, IsSome, OnOk, OnErr, option_to_list};
 ghost use Rattle.std.specs.Option.{option_map};
-ghost use Rattle.hp_store.specs.Store.{Store, page_at, page_of, holders_of, bytes_of, held_count, inserted, shared, dropped, overwritten, Lengthens};
+ghost use Rattle.hp_store.specs.Store.{Store, page_at, held_page, holders_of, bytes_of, held_count, inserted, shared, dropped, overwritten, Lengthens};
 
 use crate::slots::Slots;
 use hp_model::naming::Naming;
@@ -138,7 +138,7 @@ impl<N: Naming> PageStore<N> {
     /// The page under a number.
     pub fn page(&self, number: PageNo) -> &Page<N>
         requires { IsSome (page_at self.now number) }
-        ensures { option_map page_of (page_at self.now number) ≡ Some result.now }
+        ensures { option_map held_page (page_at self.now number) ≡ Some result.now }
     {
         self.slots.page(number)
     }

@@ -1,7 +1,7 @@
 -- What a mount may use of the pool, and what it has of it.
 use Rattle.std.specs.Prelude.{ℕ, ◌+◌, ◌-◌, ◌&&◌, not, Bool, Option, max, nat_lt, if◌then◌else◌}
 use Rattle.hp_model.specs.pool.Grant.{can_grant, granted, is_over}
-use Rattle.hp_model.specs.pool.Pool.{released, settled}
+use Rattle.hp_model.specs.pool.Pool.{released, trimmed}
 use Rattle.hp_model.specs.pool.PoolCounts.{Pool}
 
 -- the most pages (None is no limit), the pages that stay committed at least, the pages in use, and the reservations that files and maps hold
@@ -78,4 +78,4 @@ is_loss s min = nat_lt (committed_with s min) (committed_of s)
 
 -- the pool once it committed what the minimum adds, at home node 0, or took back what it leaves
 abbrev pub with_minimum : Subpool → (min : ℕ) → Pool → Pool
-with_minimum s min pool = if is_loss s min then settled (released (loss s min) pool) else granted 0 (gain s min) pool
+with_minimum s min pool = if is_loss s min then trimmed (released (loss s min) pool) else granted 0 (gain s min) pool

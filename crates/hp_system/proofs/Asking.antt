@@ -1,12 +1,12 @@
 -- What may be refused memory does not depend on a task's home.
 use Rattle.std.proofs.Common.{◌≡◌, ℕ, refl}
-use Rattle.hp_events.specs.Event.{event_of}
+use Rattle.hp_events.specs.Event.{as_event}
 use Rattle.hp_events.specs.Memory.{asks_memory}
 use Rattle.hp_events.specs.declared.event.MountEvent.{MountEvent}
 use Rattle.hp_events.specs.declared.event.MountEvent.TheVariants.{Create, Unlink, Truncate, Punch, Preallocate, Stat, Read, Map, Anon, Unmap, Fault, Load, Store, Ls, Usage}
 use Rattle.hp_model.specs.machine.Plan.{Slot}
 
-pub of_any_home : (slot : Slot) (one other : ℕ) (e : MountEvent) → asks_memory slot (event_of one e) ≡ asks_memory slot (event_of other e)
+pub of_any_home : (slot : Slot) (one other : ℕ) (e : MountEvent) → asks_memory slot (as_event one e) ≡ asks_memory slot (as_event other e)
 of_any_home slot one other (Create name) = refl
 of_any_home slot one other (Unlink name) = refl
 of_any_home slot one other (Truncate name pages) = refl

@@ -7,7 +7,7 @@ use Rattle.hp_model.specs.declared.event.Event.TheVariants.{Slot as OnSlot, Pool
 use Rattle.hp_model.specs.declared.event.PoolEvent.{PoolEvent}
 use Rattle.hp_model.specs.declared.event.SlotEvent.{SlotEvent}
 use Rattle.hp_model.specs.declared.refusal.Refusal.TheVariants as refusal
-use Rattle.hp_model.specs.machine.Event.{CanHappen, IsEvent, IsFresh, after, asked_pool, is_slot_event, planned, settled}
+use Rattle.hp_model.specs.machine.Event.{CanHappen, IsEvent, IsFresh, after, asked_pool, is_slot_event, planned, with_outcome}
 use Rattle.hp_model.specs.threads.LocalRun.{Gives, ThroughDoor}
 use Rattle.hp_model.specs.machine.Machine.{node_of, pool_of, with_pool}
 use Rattle.hp_model.specs.machine.Plan.{Reply, Slot, Outcome, Refused, Answered, Plan, Finish, Ask, Choice}
@@ -24,7 +24,7 @@ use Rattle.hp_laws.proofs.steps.Tells.{Tells, slot_event_tells}
 use Rattle.hp_events.specs.declared.event.MountEvent.{MountEvent}
 use Rattle.hp_events.specs.declared.event.MountEvent.TheVariants as event
 use Rattle.hp_mount_laws.specs.Done.{Tried}
-use Rattle.hp_events.specs.Event.{event_of}
+use Rattle.hp_events.specs.Event.{as_event}
 use Rattle.hp_mount_door.specs.Door.{IsReady as IsReadyPool}
 use Rattle.hp_system.specs.Event.{IsCarried, took}
 use Rattle.hp_model.specs.machine.Ready.{machine_of, state_of, IsReadyMachine, Machine}
@@ -66,7 +66,7 @@ module _ (size : ℕ) (t : Table) (xs : List Slot) (k : ℕ) (p : Pool) (tied : 
   abbrev left : Pool → State
   left q = state_of size t (slice_set xs k new) q
 
-  outcome_is : (o : Outcome) (reply : Reply) (q : Pool) → Gives o old reply new → settled (state_of size t xs q) k o ≡ (reply, left q)
+  outcome_is : (o : Outcome) (reply : Reply) (q : Pool) → Gives o old reply new → with_outcome (state_of size t xs q) k o ≡ (reply, left q)
   outcome_is (Refused r) reply q h =
       ap (λ ys. (Err r, state_of size t ys q)) (sym (set-get_or xs k None)) ∙ ap (λ y. (Err r, state_of size t (slice_set xs k y) q)) (here ∙ sym h.1)
       ∙ ap (λ x. (x, left q)) (sym h.0)
@@ -145,7 +145,7 @@ module _ (size bytes : ℕ) (t : Table) where
 -- ---- what a step asks of a mount
 
 -- it is an event of any slot
-pub happens : (home : ℕ) (e : MountEvent) (slot : Slot) → IsTrue (is_slot_event slot (event_of home e))
+pub happens : (home : ℕ) (e : MountEvent) (slot : Slot) → IsTrue (is_slot_event slot (as_event home e))
 happens home (event.Create name) slot = refl
 happens home (event.Unlink name) slot = refl
 happens home (event.Truncate name pages) slot = refl
@@ -163,7 +163,7 @@ happens home event.Ls slot = refl
 happens home event.Usage slot = refl
 
 -- a slot that is not mounted answers that it is not there
-pub unmounted : (size k home : ℕ) (e : MountEvent) (p : Pool) → IsCarried size k p None (event_of home e) (Err refusal.NoSuchSlot) None p
+pub unmounted : (size k home : ℕ) (e : MountEvent) (p : Pool) → IsCarried size k p None (as_event home e) (Err refusal.NoSuchSlot) None p
 unmounted size k home (event.Create name) p = (calm, refl, ((refl, refl), refl))
 unmounted size k home (event.Unlink name) p = (calm, refl, ((refl, refl), refl))
 unmounted size k home (event.Truncate name pages) p = (calm, refl, ((refl, refl), refl))

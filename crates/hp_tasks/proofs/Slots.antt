@@ -12,7 +12,7 @@ use Rattle.std.proofs.lemmas.List.Quantifiers.{position-Some}
 use Rattle.hp_laws.proofs.lists.AtMostOne.{bit}
 use Rattle.hp_model.proofs.Counting.{count_cons}
 use Rattle.hp_model.specs.machine.Table.{Table, home_of, removed}
-use Rattle.hp_tasks.specs.Table.{AreListed, Slot, has_task, slot_at, tasks_in}
+use Rattle.hp_tasks.specs.Table.{AreListed, TaskRow, has_task, task_row_at, tasks_in}
 
 -- ---- a task that is not there
 
@@ -25,7 +25,7 @@ none_of_count task (e ∷ tasks) none =
     ap (λ b. option_map (λ (x : ℕ × ℕ). x.1) (cond b (Some e) (find (λ (x : ℕ × ℕ). x.0 == task) tasks))) other ∙ none_of_count task tasks (omega (arith, all, none))
 
 -- no slot has it
-none_from : (slots : List Slot) (task at : ℕ) → position_from (has_task task) at slots ≡ None → home_of (tasks_in slots) task ≡ None
+none_from : (slots : List TaskRow) (task at : ℕ) → position_from (has_task task) at slots ≡ None → home_of (tasks_in slots) task ≡ None
 none_from [] task at none = refl
 none_from (None ∷ slots) task at none = none_from slots task (at + 1) none
 none_from (Some e ∷ slots) task at none =
@@ -38,21 +38,21 @@ none_from (Some e ∷ slots) task at none =
     some_none : (n : ℕ) → Some n ≡ None → ⊥
     some_none n e = cc
 
-pub none_at : (slots : List Slot) (task : ℕ) → position (has_task task) slots ≡ None → home_of (tasks_in slots) task ≡ None
+pub none_at : (slots : List TaskRow) (task : ℕ) → position (has_task task) slots ≡ None → home_of (tasks_in slots) task ≡ None
 none_at slots task none = none_from slots task 0 (sym (position_from-zero (has_task task) slots) ∙ none)
 
 -- ---- a task that is there, once
 
-abbrev slot_bit : (ℕ × ℕ → Bool) → Slot → ℕ
+abbrev slot_bit : (ℕ × ℕ → Bool) → TaskRow → ℕ
 slot_bit p None = 0
 slot_bit p (Some e) = bit (p e)
 
-abbrev entry_or : ℕ × ℕ → Slot → ℕ × ℕ
+abbrev entry_or : ℕ × ℕ → TaskRow → ℕ × ℕ
 entry_or x None = x
 entry_or x (Some y) = y
 
 -- the task of a slot is counted
-pub counted_at : (p : ℕ × ℕ → Bool) (slots : List Slot) (at : ℕ) (e : ℕ × ℕ) → slot_at slots at ≡ Some e
+pub counted_at : (p : ℕ × ℕ → Bool) (slots : List TaskRow) (at : ℕ) (e : ℕ × ℕ) → task_row_at slots at ≡ Some e
     → count_by p (tasks_in slots) ≡ count_by p (tasks_in (set slots at None)) + bit (p e)
 counted_at p [] at e here = cc
 counted_at p (None ∷ slots) zero e here = cc
@@ -70,7 +70,7 @@ module _ (task : ℕ) where
   one_of : (e : ℕ × ℕ) → e.0 ≡ task → bit (mine e) ≡ 1
   one_of e is = ap bit (eq-eqb e.0 task is)
 
-  pub home_there : (slots : List Slot) (at : ℕ) (e : ℕ × ℕ) → count_by mine (tasks_in slots) ≤ 1 → slot_at slots at ≡ Some e → e.0 ≡ task
+  pub home_there : (slots : List TaskRow) (at : ℕ) (e : ℕ × ℕ) → count_by mine (tasks_in slots) ≤ 1 → task_row_at slots at ≡ Some e → e.0 ≡ task
       → home_of (tasks_in slots) task ≡ Some e.1
   home_there [] at e few here is = cc
   home_there (None ∷ slots) zero e few here is = cc
@@ -93,7 +93,7 @@ module _ (task : ℕ) where
       let other = false_from_ne_true (mine x) (λ t. (let two = ap bit t in absurd (omega (arith, all, two, none)))) in
       ap (λ b. cond (not b) (x ∷ filter (λ e. not (mine e)) tasks) (filter (λ e. not (mine e)) tasks)) other ∙ ap (λ xs. x ∷ xs) (none_removed tasks (omega (arith, all, none)))
 
-  pub taken_out : (slots : List Slot) (at : ℕ) (e : ℕ × ℕ) → count_by mine (tasks_in slots) ≤ 1 → slot_at slots at ≡ Some e → e.0 ≡ task
+  pub taken_out : (slots : List TaskRow) (at : ℕ) (e : ℕ × ℕ) → count_by mine (tasks_in slots) ≤ 1 → task_row_at slots at ≡ Some e → e.0 ≡ task
       → tasks_in (set slots at None) ≡ removed (tasks_in slots) task
   taken_out [] at e few here is = cc
   taken_out (None ∷ slots) zero e few here is = cc
@@ -115,47 +115,47 @@ module _ (task : ℕ) where
 
 -- ---- gaps that are closed
 
-pub closed : (slots : List Slot) → tasks_in (filter is_some slots) ≡ tasks_in slots
+pub closed : (slots : List TaskRow) → tasks_in (filter is_some slots) ≡ tasks_in slots
 closed [] = refl
 closed (None ∷ slots) = closed slots
 closed (Some e ∷ slots) = ap (λ xs. e ∷ xs) (closed slots)
 
-pub closed_length : (slots : List Slot) → length (filter is_some slots) ≡ length (tasks_in slots)
+pub closed_length : (slots : List TaskRow) → length (filter is_some slots) ≡ length (tasks_in slots)
 closed_length [] = refl
 closed_length (None ∷ slots) = closed_length slots
 closed_length (Some e ∷ slots) = ap suc (closed_length slots)
 
 -- ---- what is found
 
-pub found_some : (slots : List Slot) (task : ℕ) (at : Option ℕ) → at ≡ position (has_task task) slots → IfSome at (λ k. has_task task (slot_at slots k) ≡ true)
+pub found_some : (slots : List TaskRow) (task : ℕ) (at : Option ℕ) → at ≡ position (has_task task) slots → IfSome at (λ k. has_task task (task_row_at slots k) ≡ true)
 found_some slots task None is = tt
 found_some slots task (Some at) is = (position-Some (has_task task) slots at None (sym is)).1
 
 -- what stands in a slot that has the task
-pub task_of : (slots : List Slot) (task at : ℕ) (e : ℕ × ℕ) → has_task task (slot_at slots at) ≡ true → slot_at slots at ≡ Some e → e.0 ≡ task
+pub task_of : (slots : List TaskRow) (task at : ℕ) (e : ℕ × ℕ) → has_task task (task_row_at slots at) ≡ true → task_row_at slots at ≡ Some e → e.0 ≡ task
 task_of slots task at e has here = eqb-true e.0 task (sym (ap (has_task task) here) ∙ has)
 
-entry_in : (slot : Slot) (task : ℕ) → has_task task slot ≡ true → (e : ℕ × ℕ) × (slot ≡ Some e) × (e.0 ≡ task)
+entry_in : (slot : TaskRow) (task : ℕ) → has_task task slot ≡ true → (e : ℕ × ℕ) × (slot ≡ Some e) × (e.0 ≡ task)
 entry_in None task has = absurd (false≢true has)
 entry_in (Some e) task has = (e, refl, eqb-true e.0 task has)
 
-pub entry_at : (slots : List Slot) (task at : ℕ) → has_task task (slot_at slots at) ≡ true → (e : ℕ × ℕ) × (slot_at slots at ≡ Some e) × (e.0 ≡ task)
-entry_at slots task at has = entry_in (slot_at slots at) task has
+pub entry_at : (slots : List TaskRow) (task at : ℕ) → has_task task (task_row_at slots at) ≡ true → (e : ℕ × ℕ) × (task_row_at slots at ≡ Some e) × (e.0 ≡ task)
+entry_at slots task at has = entry_in (task_row_at slots at) task has
 
 -- ---- a task more, and one less
 
-pub one_fewer : (slots : List Slot) (at : ℕ) (e : ℕ × ℕ) → slot_at slots at ≡ Some e → length (tasks_in slots) ≡ suc (length (tasks_in (set slots at None)))
+pub one_fewer : (slots : List TaskRow) (at : ℕ) (e : ℕ × ℕ) → task_row_at slots at ≡ Some e → length (tasks_in slots) ≡ suc (length (tasks_in (set slots at None)))
 one_fewer [] at e here = cc
 one_fewer (None ∷ slots) zero e here = cc
 one_fewer (None ∷ slots) (suc at) e here = one_fewer slots at e here
 one_fewer (Some x ∷ slots) zero e here = refl
 one_fewer (Some x ∷ slots) (suc at) e here = ap suc (one_fewer slots at e here)
 
-module _ (slots : List Slot) (order : List ℕ) (listed : AreListed slots order) where
+module _ (slots : List TaskRow) (order : List ℕ) (listed : AreListed slots order) where
   pub none_listed : (task : ℕ) → count_by (λ t. t == task) order ≡ 0 → home_of (tasks_in slots) task ≡ None
   none_listed task none = none_of_count task (tasks_in slots) (omega (arith, listed task, none))
 
-  module _ (at : ℕ) (e : ℕ × ℕ) (here : slot_at slots at ≡ Some e) where
+  module _ (at : ℕ) (e : ℕ × ℕ) (here : task_row_at slots at ≡ Some e) where
     pub one_listed : 1 ≤ count_by (λ t. t == e.0) order
     one_listed =
         let one = ap bit (eq-eqb e.0 e.0 refl) in
@@ -167,7 +167,7 @@ module _ (slots : List Slot) (order : List ℕ) (listed : AreListed slots order)
         omega (arith, listed task, counted_at (λ (x : ℕ × ℕ). x.0 == task) slots at e here, count_cons p e.0 left, sum_by-IsPermutation (λ (t : ℕ). cond (t == task) 1 0) order (e.0 ∷ left) same)
 
   -- one task more, behind the others
-  pub listed_more : (new : List Slot) (task home : ℕ) (more : List ℕ) → tasks_in new ≡ tasks_in slots ++ (task, home) ∷ [] → IsPermutation (task ∷ order) more
+  pub listed_more : (new : List TaskRow) (task home : ℕ) (more : List ℕ) → tasks_in new ≡ tasks_in slots ++ (task, home) ∷ [] → IsPermutation (task ∷ order) more
       → AreListed new more
   listed_more new task home more is same t =
       let all = ap (count_by (λ (x : ℕ × ℕ). x.0 == t)) is ∙ sum_by-append (λ (x : ℕ × ℕ). cond (x.0 == t) 1 0) (tasks_in slots) ((task, home) ∷ []) in

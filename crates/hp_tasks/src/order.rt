@@ -20,14 +20,14 @@ pub(crate) struct Order {
 
 impl Model for Order {
     ghost use Rattle.std.specs.Prelude.{List, ℕ, vec_len, vec_capacity};
-    ghost use Rattle.hp_tasks.specs.Table.{IsOrder};
+    ghost use Rattle.hp_tasks.specs.Table.{IsOrdered};
 
     ghost Value = { List ℕ };
 
     ghost view = { λ o. o.tasks.items };
 
     ghost invariant = { λ o.
-        IsOrder o.tasks.items (vec_len o.stands) (vec_capacity o.tasks) (vec_capacity o.stands) };
+        IsOrdered o.tasks.items (vec_len o.stands) (vec_capacity o.tasks) (vec_capacity o.stands) };
 }
 
 // Where a number is.

@@ -49,7 +49,7 @@ ghost use Rattle.hp_model.specs.declared.refusal.Refusal.TheVariants as Refusal;
 ghost use Rattle.hp_model.specs.beside.Accesses.{done_reply};
 ghost use Rattle.hp_model.specs.Profile.{most_tasks};
 ghost use Rattle.hp_model.specs.machine.Table.{home_of, added, removed, is_known, is_crowded, table_event};
-ghost use Rattle.hp_tasks.specs.Table.{AreListed, has_task, slot_at, tasks_in, rests};
+ghost use Rattle.hp_tasks.specs.Table.{AreListed, has_task, task_row_at, tasks_in, rests};
 
 // Which number stands for a task's.
 fn rest_of(task: u64) -> usize
@@ -59,7 +59,7 @@ fn rest_of(task: u64) -> usize
 }
 
 fn stands_at(slots: &[Slot], task: u64, at: usize) -> bool
-    ensures stands { result ≡ has_task task (slot_at slots.now at) }
+    ensures stands { result ≡ has_task task (task_row_at slots.now at) }
     ensures within { IsTrue result → at < length slots.now }
 {
     match slots.get(at) {
@@ -81,7 +81,7 @@ fn place_among_all(slots: &[Slot], task: u64) -> Option<usize>
 // Where a task stands. What was noted is right, so that all slots are never gone over.
 fn place_in(slots: &[Slot], places: &[u16; RESTS], order: &Order, task: u64) -> Option<usize>
     requires { AreListed slots.now order.now }
-    ensures some { IfSome result (λ at. has_task task (slot_at slots.now at) ≡ true) }
+    ensures some { IfSome result (λ at. has_task task (task_row_at slots.now at) ≡ true) }
     ensures below { IfSome result (λ at. at < length slots.now) }
     ensures none { result ≡ None → home_of (tasks_in slots.now) task ≡ None }
 {

@@ -52,7 +52,7 @@ fn is_flagged<R: Abort>(rt: &R, map: &Mapping, flags: [bool; 4]) {
         [
             map.is_owner(),
             map.is_shared(),
-            map.is_unmapped(),
+            map.is_marked(),
             map.is_mapped()
         ],
         flags

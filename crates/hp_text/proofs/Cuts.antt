@@ -5,7 +5,7 @@ use Rattle.std.proofs.lemmas.Bool.Decides.{nat_tests}
 use Rattle.std.proofs.lemmas.List.Splits.{slice_split_first, slice_split_none}
 use Rattle.std.proofs.lemmas.List.Sums.{fails_before_first, passes_at_first, split_at_first}
 use Rattle.std.specs.List.{position, position_or_len}
-use Rattle.hp_text.specs.Pieces.{pieces}
+use Rattle.hp_text.specs.Pieces.{pieces_by}
 
 abbrev separates : ℕ → ℕ → Bool
 separates separator b = b == separator
@@ -37,13 +37,13 @@ pub cut : (separator : ℕ) (text : List ℕ) (at : ℕ) → position (separates
 cut separator text at e = cut_go separator text at (nat_lt (position_or_len (separates separator) text) (length text)) refl e
 
 uncut_go : (separator : ℕ) (text : List ℕ) (test : Bool) → nat_lt (position_or_len (separates separator) text) (length text) ≡ test
-    → cond test (Some (position_or_len (separates separator) text)) None ≡ None → pieces separator text ≡ text ∷ []
+    → cond test (Some (position_or_len (separates separator) text)) None ≡ None → pieces_by separator text ≡ text ∷ []
 uncut_go separator text true within e = cc
 uncut_go separator text false past e =
     let none : length text ≤ position_or_len (separates separator) text = grind (arith, nat_tests) in
     slice_split_none (separates separator) text (λ k d h. fails_before_first (separates separator) text k d (omega arith))
 
-pub uncut : (separator : ℕ) (text : List ℕ) → position (separates separator) text ≡ None → pieces separator text ≡ text ∷ []
+pub uncut : (separator : ℕ) (text : List ℕ) → position (separates separator) text ≡ None → pieces_by separator text ≡ text ∷ []
 uncut separator text e = uncut_go separator text (nat_lt (position_or_len (separates separator) text) (length text)) refl e
 
 -- a slice from a place on, as code cuts it

@@ -3,13 +3,13 @@ use Rattle.std.specs.Prelude.{ℕ, List, [], ◌∷◌, ◌==◌, Option, Some, 
 use Rattle.std.specs.List.{slice_split}
 use denote.Ref.{Bor}
 
-abbrev pub pieces : ℕ → List ℕ → List (List ℕ)
-pieces separator text = slice_split (λ b. b == separator) text
+abbrev pub pieces_by : ℕ → List ℕ → List (List ℕ)
+pieces_by separator text = slice_split (λ b. b == separator) text
 
 -- the pieces of what stands after a separator, where there is one
 abbrev pub pieces_after : ℕ → Option (Bor (List ℕ)) → List (List ℕ)
 pieces_after separator None = []
-pieces_after separator (Some rest) = pieces separator rest.now
+pieces_after separator (Some rest) = pieces_by separator rest.now
 
 -- the separator and what stands after it, where there is one
 abbrev pub from_separator : ℕ → Option (Bor (List ℕ)) → List ℕ

@@ -15,7 +15,7 @@ use Rattle.hp_model.specs.declared.entry.TableEntry.{TableEntry}
 use Rattle.hp_model.specs.declared.event.PoolEvent.{PoolEvent}
 use Rattle.hp_model.specs.declared.section.PoolAnswer.{PoolAnswer}
 use Rattle.hp_model.specs.declared.section.Section.{Section}
-use Rattle.hp_model.specs.threads.Differ.{Asks, Has, HasCircle, InPoolAt, IsBefore, entry_at, of_pool}
+use Rattle.hp_model.specs.threads.Differ.{Asks, HasReceipt, HasCircle, InPoolAt, IsBefore, entry_at, of_pool}
 use Rattle.hp_model.specs.threads.JointRun.{Trails, slot_trail, Entry, InTasks, InSlot, InPool}
 use Rattle.hp_model.specs.machine.Plan.{Reply}
 use Rattle.hp_trail.specs.Walk.{Cursors, cursor, cursor_at, session}
@@ -36,18 +36,18 @@ module _ (t : Trails) (receipts : List (List Receipt)) (c : Cursors) where
 
   -- what the tellers say of trails and receipts, and what holds of the walk where it can't go on
   pub record IsStuck : Type 0 where
-    pub right : (s j : ℕ) (r : Receipt) → Has receipts s j r → entry_at t r.part r.place ≢ None
+    pub right : (s j : ℕ) (r : Receipt) → HasReceipt receipts s j r → entry_at t r.part r.place ≢ None
     -- each event that is left is told by a receipt that is left
     pub told : (part : Part) (place : ℕ) → entry_at t part place ≢ None → cursor c part ≤ place
-        → (s : ℕ) × (j : ℕ) × (r : Receipt) × (cursor_at c.sessions s ≤ j) × Has receipts s j r × (r.part ≡ part) × (r.place ≡ place)
+        → (s : ℕ) × (j : ℕ) × (r : Receipt) × (cursor_at c.sessions s ≤ j) × HasReceipt receipts s j r × (r.part ≡ part) × (r.place ≡ place)
     -- and the other way round
-    pub left : (s j : ℕ) (r : Receipt) → cursor_at c.sessions s ≤ j → Has receipts s j r → cursor c r.part ≤ r.place
-    pub once : (s i j : ℕ) (r q : Receipt) → Has receipts s i r → Has receipts s j q → r.part ≡ q.part → r.place ≡ q.place → i ≡ j
+    pub left : (s j : ℕ) (r : Receipt) → cursor_at c.sessions s ≤ j → HasReceipt receipts s j r → cursor c r.part ≤ r.place
+    pub once : (s i j : ℕ) (r q : Receipt) → HasReceipt receipts s i r → HasReceipt receipts s j q → r.part ≡ q.part → r.place ≡ q.place → i ≡ j
     -- a section that is left is of an event that is left
     pub claimed : (section : Section) (answer : PoolAnswer) → slice_get t.pool c.pool ≡ Some (OfSlot section answer)
         → (k : ℕ) × (i : ℕ) × (asked : Asked) × Asks t k i asked × (asked.place ≡ c.pool) × (cursor_at c.slots k ≤ i)
     -- a session's next receipt, where its entry comes next in its trail, is of a slot's event whose section does not come next
-    pub blocked : (s : ℕ) (r : Receipt) → Has receipts s (cursor_at c.sessions s) r → r.place ≡ cursor c r.part
+    pub blocked : (s : ℕ) (r : Receipt) → HasReceipt receipts s (cursor_at c.sessions s) r → r.place ≡ cursor c r.part
         → (k : ℕ) × (asked : Asked) × (r.part ≡ AtSlot k) × Asks t k r.place asked × (c.pool < asked.place) × (slice_get t.pool asked.place ≢ None)
 
   module _ (h : IsStuck) where
@@ -124,7 +124,7 @@ module _ (t : Trails) (receipts : List (List Receipt)) (c : Cursors) where
         let x = h.told b j some (omega (arith, is)) in
         by_index x.0 x.1 x.2 x.4 x.5 x.6 (either (cursor_at c.sessions x.0) x.1 x.3)
       where
-        by_index : (s i : ℕ) (r : Receipt) → Has receipts s i r → r.part ≡ b → r.place ≡ j → (cursor_at c.sessions s < i) ⊎ (cursor_at c.sessions s ≡ i) → Earlier b j
+        by_index : (s i : ℕ) (r : Receipt) → HasReceipt receipts s i r → r.part ≡ b → r.place ≡ j → (cursor_at c.sessions s < i) ⊎ (cursor_at c.sessions s ≡ i) → Earlier b j
         by_index s i r has part place (inl l) =
             let first = there_below (session receipts s) (cursor_at c.sessions s) i r l has in (
               first.0.part,
@@ -135,7 +135,7 @@ module _ (t : Trails) (receipts : List (List Receipt)) (c : Cursors) where
               inr (inr (s, cursor_at c.sessions s, i, first.0, r, first.1, has, l, refl, refl, part, place)),
             )
         by_index s i r has part place (inr e) =
-            let next : Has receipts s (cursor_at c.sessions s) r = subst (λ (n : ℕ). Has receipts s n r) (sym e) has in
+            let next : HasReceipt receipts s (cursor_at c.sessions s) r = subst (λ (n : ℕ). HasReceipt receipts s n r) (sym e) has in
             let k = h.blocked s r next (place ∙ sym is ∙ ap (cursor c) (sym part)) in
             let here = waits k.0 r.place k.1 k.3 k.4 k.5 in
             subst (λ (p : Part). Earlier p j) (sym k.2 ∙ part) (subst (λ (n : ℕ). Earlier (AtSlot k.0) n) place here)

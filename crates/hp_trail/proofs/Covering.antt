@@ -7,7 +7,7 @@ use Rattle.std.proofs.lemmas.List.Elements.{Contains-push_cases}
 use Rattle.hp_model.specs.declared.entry.Part.{Part}
 use Rattle.hp_model.specs.declared.entry.Part.TheVariants.{Tasks, Slot as AtSlot, Pool as AtPool}
 use Rattle.hp_model.specs.declared.entry.Receipt.{Receipt}
-use Rattle.hp_model.specs.threads.Differ.{Has, entry_at}
+use Rattle.hp_model.specs.threads.Differ.{HasReceipt, entry_at}
 use Rattle.hp_model.specs.threads.JointRun.{Trails, slot_trail, Entry, InTasks, InSlot, InPool, Item, part_of, receipt_of, slot_entry, task_entry, placed}
 use Rattle.hp_trail.specs.Tellers.{AreTold, TellerRows, teller}
 use Rattle.hp_trail.specs.Walk.{AreCovered, Cursors, GoesNumbered, GoesOn, IsBlocked, Passes, Took, Waits, cursor, cursor_at, receipts_left, session}
@@ -70,13 +70,13 @@ module _ (t : Trails) (receipts : List (List Receipt)) (c d : Cursors) where
     still : (u : ℕ) → u < length receipts → cursor_at d.sessions u ≡ cursor_at c.sessions u → Waits t receipts c u → Contains work u ⊎ Waits t receipts d u
     still u l same waits = by_next (slice_get (session receipts u) (cursor_at c.sessions u)) refl
       where
-        waits_by : (r : Receipt) → Has receipts u (cursor_at c.sessions u) r → IsBlocked t d r → Waits t receipts d u
+        waits_by : (r : Receipt) → HasReceipt receipts u (cursor_at c.sessions u) r → IsBlocked t d r → Waits t receipts d u
         waits_by r has blocked q has' =
-            let there : Has receipts u (cursor_at c.sessions u) q = subst (λ (n : ℕ). Has receipts u n q) same has' in
+            let there : HasReceipt receipts u (cursor_at c.sessions u) q = subst (λ (n : ℕ). HasReceipt receipts u n q) same has' in
             subst (λ (x : Receipt). IsBlocked t d x) (some_is r q (sym has ∙ there)) blocked
 
         by_next : (o : Option Receipt) → slice_get (session receipts u) (cursor_at c.sessions u) ≡ o → Contains work u ⊎ Waits t receipts d u
-        by_next None none = inr (λ r has. (let there : Has receipts u (cursor_at c.sessions u) r = subst (λ (n : ℕ). Has receipts u n r) same has in cc))
+        by_next None none = inr (λ r has. (let there : HasReceipt receipts u (cursor_at c.sessions u) r = subst (λ (n : ℕ). HasReceipt receipts u n r) same has in cc))
         by_next (Some r) has =
             elim (waits r has) [
               | inl ne ↦

@@ -9,7 +9,7 @@ use Rattle.hp_model.specs.declared.entry.Part.TheVariants.{Tasks, Slot as AtSlot
 use Rattle.hp_model.specs.declared.entry.PoolEntry.{PoolEntry}
 use Rattle.hp_model.specs.declared.entry.PoolEntry.TheVariants.{OfSlot, OfPool}
 use Rattle.hp_model.specs.declared.entry.Receipt.{Receipt}
-use Rattle.hp_model.specs.threads.Differ.{Asks, Differ, Has, HasCircle, InPoolAt, IsBefore, LostSection, SharedSection, ToldTwice, Untold, WrongReceipt, WrongSection, entry_at, of_pool}
+use Rattle.hp_model.specs.threads.Differ.{Asks, Differ, HasReceipt, HasCircle, InPoolAt, IsBefore, LostSection, SharedSection, ToldTwice, Untold, WrongReceipt, WrongSection, entry_at, of_pool}
 use Rattle.hp_model.specs.threads.JointRun.{Trails, slot_trail, Entry, InTasks, InSlot, InPool, Item, Joins, IsThere, keep, numbered, option_cons}
 use Rattle.hp_model.specs.threads.JointRun.{event_of, part_of, placed, pool_entry, pool_part, receipt_of, section_entry, slot_entry, slot_part, task_part, told}
 use Rattle.hp_trail.proofs.Indexing.{get_there, row_there, some_is}
@@ -171,7 +171,7 @@ module _ (t : Trails) (receipts : List (List Receipt)) (items : List Item) (j : 
           (i.0, record { item = i.1; at = i.2; part' = is.0 ∙ h.0; place' = is.1 ∙ omega arith })
 
   -- a receipt is that of one of them
-  of_receipt : (s i : ℕ) (r : Receipt) → Has receipts s i r → (n : ℕ) × (x : Is n r.part r.place) × (x.item.by ≡ s)
+  of_receipt : (s i : ℕ) (r : Receipt) → HasReceipt receipts s i r → (n : ℕ) × (x : Is n r.part r.place) × (x.item.by ≡ s)
   of_receipt s i r has =
       let within = row_there receipts s i (get_there (slice_index_or receipts s []) i r has) in
       let x = kept_from (told s) items r i (ap (λ xs. slice_get xs i) (j.told.each s within) ∙ has) in
@@ -344,7 +344,7 @@ module _ (t : Trails) (receipts : List (List Receipt)) (items : List Item) (j : 
       h.untold i.by m.0 (receipt_of i) (ap (λ xs. slice_get xs m.0) (sym (j.told.each i.by by)) ∙ m.1) (x.1.part', x.1.place')
 
   -- two receipts of one session that tell of one place are one
-  one_receipt : (s p q : ℕ) (r u : Receipt) → Has receipts s p r → Has receipts s q u → r.part ≡ u.part → r.place ≡ u.place → p < q → ⊥
+  one_receipt : (s p q : ℕ) (r u : Receipt) → HasReceipt receipts s p r → HasReceipt receipts s q u → r.part ≡ u.part → r.place ≡ u.place → p < q → ⊥
   one_receipt s p q r u has has' part place l =
       let within = row_there receipts s p (get_there (slice_index_or receipts s []) p r has) in
       let pair = from_pair (told s) items p q r u (ap (λ xs. slice_get xs p) (j.told.each s within) ∙ has) (ap (λ xs. slice_get xs q) (j.told.each s within) ∙ has') l in
@@ -365,7 +365,7 @@ module _ (t : Trails) (receipts : List (List Receipt)) (items : List Item) (j : 
       let same = unique x.0 y.0 h.receipt.part h.receipt.place x.1 moved in
       let one : x.1.item ≡ y.1.item = some_is x.1.item y.1.item (sym x.1.at ∙ ap (slice_get items) same ∙ y.1.at) in
       let session : h.session ≡ h.session' = sym x.2 ∙ ap (λ (z : Item). z.by) one ∙ y.2 in
-      let there : Has receipts h.session h.i' h.receipt' = subst (λ (n : ℕ). Has receipts n h.i' h.receipt') (sym session) h.has' in
+      let there : HasReceipt receipts h.session h.i' h.receipt' = subst (λ (n : ℕ). HasReceipt receipts n h.i' h.receipt') (sym session) h.has' in
       h.apart (
         session,
         two_indices h.i h.i' (λ l. one_receipt h.session h.i h.i' h.receipt h.receipt' h.has there h.part h.place l)

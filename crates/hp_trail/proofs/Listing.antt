@@ -14,7 +14,7 @@ use Rattle.hp_model.specs.declared.entry.SlotEntry.{SlotEntry}
 use Rattle.hp_model.specs.declared.entry.TableEntry.{TableEntry}
 use Rattle.hp_model.specs.declared.section.PoolAnswer.{PoolAnswer}
 use Rattle.hp_model.specs.declared.section.Section.{Section}
-use Rattle.hp_model.specs.threads.Differ.{Asks, Differ, Has, entry_at, of_pool}
+use Rattle.hp_model.specs.threads.Differ.{Asks, Differ, HasReceipt, entry_at, of_pool}
 use Rattle.hp_model.specs.threads.JointRun.{Trails, slot_trail, Entry, InTasks, InSlot, InPool}
 use Rattle.hp_trail.specs.Tellers.{Added, AreListed, AreTold, Fit, Gap, IsNotFree, IsPast, IsRefused, NoGap, Source, Stands, TellerRows, TellsEntry, asked_section, blank, no_tellers, row, teller}
 use Rattle.hp_trail.proofs.Indexing.{get_there, row_there, some_is, there_get, zeros_at}
@@ -80,7 +80,7 @@ module _ (t : Trails) where
     past_grows s j u i (inl l) = inl l
     past_grows s j u i (inr x) = (let l = x.1 in inr (x.0, omega (arith, l)))
 
-    module _ (s j : ℕ) (r : Receipt) (w w' : TellerRows) (has : Has receipts s j r) (l : AreListed t receipts s j w) (a : Added t r s w w') where
+    module _ (s j : ℕ) (r : Receipt) (w w' : TellerRows) (has : HasReceipt receipts s j r) (l : AreListed t receipts s j w) (a : Added t r s w w') where
       -- a place that was noted stays so
       kept : (part : Part) (place n : ℕ) → teller w part place ≡ n + 1 → teller w' part place ≡ n + 1
       kept part place n is =
@@ -93,9 +93,9 @@ module _ (t : Trails) where
                 ]
           ]
 
-      new_is : (u i : ℕ) (q : Receipt) → u ≡ s → i ≡ j → Has receipts u i q → q ≡ r
+      new_is : (u i : ℕ) (q : Receipt) → u ≡ s → i ≡ j → HasReceipt receipts u i q → q ≡ r
       new_is u i q x y h =
-          let moved : Has receipts s j q = subst (λ (n : ℕ). Has receipts s n q) y (subst (λ (n : ℕ). Has receipts n i q) x h) in
+          let moved : HasReceipt receipts s j q = subst (λ (n : ℕ). HasReceipt receipts s n q) y (subst (λ (n : ℕ). HasReceipt receipts n i q) x h) in
           some_is q r (sym moved ∙ has)
 
       source_grows : (part : Part) (place : ℕ) → teller w' part place ≡ teller w part place → Source t receipts s j w part place → Source t receipts s (j + 1) w' part place
@@ -127,14 +127,14 @@ module _ (t : Trails) where
                 ]
           ]
 
-      right : (u i : ℕ) (q : Receipt) → IsPast s (j + 1) u i → Has receipts u i q → (e : Entry) × TellsEntry t q e
+      right : (u i : ℕ) (q : Receipt) → IsPast s (j + 1) u i → HasReceipt receipts u i q → (e : Entry) × TellsEntry t q e
       right u i q past h =
           elim (past_more s j u i past) [
             | inl old ↦ l.right u i q old h
             | inr new ↦ subst (λ (x : Receipt). (e : Entry) × TellsEntry t x e) (sym (new_is u i q new.0 new.1 h)) (a.entry, a.tells)
           ]
 
-      noted : (u i : ℕ) (q : Receipt) → IsPast s (j + 1) u i → Has receipts u i q → teller w' q.part q.place ≡ u + 1
+      noted : (u i : ℕ) (q : Receipt) → IsPast s (j + 1) u i → HasReceipt receipts u i q → teller w' q.part q.place ≡ u + 1
       noted u i q past h =
           elim (past_more s j u i past) [
             | inl old ↦ kept q.part q.place u (l.noted u i q old h)
@@ -149,7 +149,7 @@ module _ (t : Trails) where
           let asks' : Asks t k r.place x = subst (λ (y : Receipt). Asks t k y.place x) same asks in
           a.section x (asked_from r.part r.place k a.entry x part' a.tells.there asks')
 
-      section : (u i : ℕ) (q : Receipt) (k : ℕ) (x : Asked) → IsPast s (j + 1) u i → Has receipts u i q → q.part ≡ AtSlot k → Asks t k q.place x
+      section : (u i : ℕ) (q : Receipt) (k : ℕ) (x : Asked) → IsPast s (j + 1) u i → HasReceipt receipts u i q → q.part ≡ AtSlot k → Asks t k q.place x
           → Stands t.pool x × (teller w' AtPool x.place ≡ u + 1)
       section u i q k x past h part asks =
           elim (past_more s j u i past) [
@@ -158,12 +158,12 @@ module _ (t : Trails) where
           ]
 
       -- the receipt's place was told of by none before
-      first : (u i : ℕ) (q p : Receipt) → IsPast s j u i → Has receipts u i q → p ≡ r → q.part ≡ p.part → q.place ≡ p.place → ⊥
+      first : (u i : ℕ) (q p : Receipt) → IsPast s j u i → HasReceipt receipts u i q → p ≡ r → q.part ≡ p.part → q.place ≡ p.place → ⊥
       first u i q p old h same part place =
           nonzero u (
           sym (l.noted u i q old h) ∙ teller_at w q.part r.part q.place r.place (part ∙ ap (λ (x : Receipt). x.part) same) (place ∙ ap (λ (x : Receipt). x.place) same) ∙ a.free)
 
-      once : (u i v h : ℕ) (q p : Receipt) → IsPast s (j + 1) u i → IsPast s (j + 1) v h → Has receipts u i q → Has receipts v h p → q.part ≡ p.part → q.place ≡ p.place
+      once : (u i v h : ℕ) (q p : Receipt) → IsPast s (j + 1) u i → IsPast s (j + 1) v h → HasReceipt receipts u i q → HasReceipt receipts v h p → q.part ≡ p.part → q.place ≡ p.place
           → (u ≡ v) × (i ≡ h)
       once u i v h q p past past' at at' part place =
           elim (past_more s j u i past) [
@@ -179,14 +179,14 @@ module _ (t : Trails) where
                 ]
           ]
 
-      first_section : (u i : ℕ) (q p : Receipt) (k m : ℕ) (x y : Asked) → IsPast s j u i → Has receipts u i q → p ≡ r → q.part ≡ AtSlot k → p.part ≡ AtSlot m → Asks t k q.place x
+      first_section : (u i : ℕ) (q p : Receipt) (k m : ℕ) (x y : Asked) → IsPast s j u i → HasReceipt receipts u i q → p ≡ r → q.part ≡ AtSlot k → p.part ≡ AtSlot m → Asks t k q.place x
           → Asks t m p.place y → x.place ≡ y.place → ⊥
       first_section u i q p k m x y old h same part part' asks asks' place =
           let one = l.section u i q k x old h part asks in
           let two = own_section p m y same part' asks' in
           nonzero u (sym one.1 ∙ ap (teller w AtPool) place ∙ two.1)
 
-      apart : (u i v h : ℕ) (q p : Receipt) (k m : ℕ) (x y : Asked) → IsPast s (j + 1) u i → IsPast s (j + 1) v h → Has receipts u i q → Has receipts v h p → q.part ≡ AtSlot k
+      apart : (u i v h : ℕ) (q p : Receipt) (k m : ℕ) (x y : Asked) → IsPast s (j + 1) u i → IsPast s (j + 1) v h → HasReceipt receipts u i q → HasReceipt receipts v h p → q.part ≡ AtSlot k
           → p.part ≡ AtSlot m → Asks t k q.place x → Asks t m p.place y → x.place ≡ y.place → (u ≡ v) × (i ≡ h)
       apart u i v h q p k m x y past past' at at' part part' asks asks' place =
           elim (past_more s j u i past) [
@@ -208,7 +208,7 @@ module _ (t : Trails) where
     -- ---- a session more, and the start
 
     -- what holds of receipts that are past by one count holds by another
-    moved : (s j u j' : ℕ) (w : TellerRows) → ((v i : ℕ) (q : Receipt) → Has receipts v i q → IsPast u j' v i → IsPast s j v i) → ((v i : ℕ) → IsPast s j v i → IsPast u j' v i)
+    moved : (s j u j' : ℕ) (w : TellerRows) → ((v i : ℕ) (q : Receipt) → HasReceipt receipts v i q → IsPast u j' v i → IsPast s j v i) → ((v i : ℕ) → IsPast s j v i → IsPast u j' v i)
         → AreListed t receipts s j w → AreListed t receipts u j' w
     moved s j u j' w back on l = record {
       right = λ v i q past h. l.right v i q (back v i q h past) h;
@@ -224,7 +224,7 @@ module _ (t : Trails) where
     pub next_session : (s : ℕ) (w : TellerRows) → AreListed t receipts s (length (slice_index_or receipts s [])) w → AreListed t receipts (s + 1) 0 w
     next_session s w l = moved s (length (slice_index_or receipts s [])) (s + 1) 0 w back on l
       where
-        back : (v i : ℕ) (q : Receipt) → Has receipts v i q → IsPast (s + 1) 0 v i → IsPast s (length (slice_index_or receipts s [])) v i
+        back : (v i : ℕ) (q : Receipt) → HasReceipt receipts v i q → IsPast (s + 1) 0 v i → IsPast s (length (slice_index_or receipts s [])) v i
         back v i q h (inl less) =
             elim (split v s less) [
               | inl l ↦ inl l
@@ -262,7 +262,7 @@ module _ (t : Trails) where
 
     -- ---- a receipt that can't be added
 
-    pub refused_differ : (s j : ℕ) (r : Receipt) (w : TellerRows) → Has receipts s j r → AreListed t receipts s j w → IsRefused t r w → Differ t receipts
+    pub refused_differ : (s j : ℕ) (r : Receipt) (w : TellerRows) → HasReceipt receipts s j r → AreListed t receipts s j w → IsRefused t r w → Differ t receipts
     refused_differ s j r w has l (inl wrong) = inr (inr (inr (inl record { session = s; i = j; receipt = r; has = has; other = wrong })))
     refused_differ s j r w has l (inr (inl taken)) =
         let x = l.source r.part r.place taken.2 in
@@ -325,7 +325,7 @@ module _ (t : Trails) where
     -- ---- all receipts
 
     module _ (w : TellerRows) (fit : Fit t w) (l : AreListed t receipts (length receipts) 0 w) where
-      past : (s i : ℕ) (r : Receipt) → Has receipts s i r → IsPast (length receipts) 0 s i
+      past : (s i : ℕ) (r : Receipt) → HasReceipt receipts s i r → IsPast (length receipts) 0 s i
       past s i r has = inl (row_there receipts s i (get_there (slice_index_or receipts s []) i r has))
 
       -- an event's place has its row
@@ -346,7 +346,7 @@ module _ (t : Trails) where
           by_entry None e = absurd (some (ap (option_and_then of_pool) e))
           by_entry (Some x) e = (let h = get_there t.pool place x e in let long = fit.pool in omega (arith, h, long))
 
-      told : NoGap w → (part : Part) (place : ℕ) → entry_at t part place ≢ None → (s : ℕ) × (j : ℕ) × (r : Receipt) × Has receipts s j r × (r.part ≡ part) × (r.place ≡ place)
+      told : NoGap w → (part : Part) (place : ℕ) → entry_at t part place ≢ None → (s : ℕ) × (j : ℕ) × (r : Receipt) × HasReceipt receipts s j r × (r.part ≡ part) × (r.place ≡ place)
       told full part place some =
           let x = l.source part place (full part place (row_has part place some)) in
           elim x.is [

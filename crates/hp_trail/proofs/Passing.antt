@@ -13,7 +13,7 @@ use Rattle.hp_model.specs.declared.entry.TableEntry.{TableEntry}
 use Rattle.hp_model.specs.declared.event.PoolEvent.{PoolEvent}
 use Rattle.hp_model.specs.declared.section.PoolAnswer.{PoolAnswer}
 use Rattle.hp_model.specs.declared.section.Section.{Section}
-use Rattle.hp_model.specs.threads.Differ.{Has}
+use Rattle.hp_model.specs.threads.Differ.{HasReceipt}
 use Rattle.hp_model.specs.machine.Plan.{Reply}
 use Rattle.hp_model.specs.threads.JointRun.{Trails, slot_trail, Entry, InTasks, InSlot, InPool, Item, option_cons, keep, numbered, placed}
 use Rattle.hp_model.specs.threads.JointRun.{task_entry, slot_entry, section_entry, pool_entry, task_part, slot_part, pool_part, told, part_of, receipt_of, IsThere}
@@ -139,7 +139,7 @@ module _ (t : Trails) (receipts : List (List Receipt)) (c : Cursors) (items : Li
           let r = numbered_is 0 c.pool t.pool m.0 (i.place, OfPool e a) (ap (λ xs. slice_get xs m.0) (sym w.pool) ∙ m.1) in omega (arith, r.0, r.1)
 
   -- a receipt that was passed tells of a place that was passed
-  pub passed_place : (s j : ℕ) (r : Receipt) → s < length receipts → j < cursor_at c.sessions s → Has receipts s j r → r.place < cursor c r.part
+  pub passed_place : (s j : ℕ) (r : Receipt) → s < length receipts → j < cursor_at c.sessions s → HasReceipt receipts s j r → r.place < cursor c r.part
   passed_place s j r l before has =
       let taken = take_at (cursor_at c.sessions s) (session receipts s) j r before has in
       let i = kept_from (told s) items r j (ap (λ xs. slice_get xs j) (w.told s l) ∙ taken) in
@@ -148,7 +148,7 @@ module _ (t : Trails) (receipts : List (List Receipt)) (c : Cursors) (items : Li
 
   -- an item is told by a receipt that was passed
   told_by : (i : Item) (n : ℕ) → slice_get items n ≡ Some i
-      → (s : ℕ) × (j : ℕ) × (s < length receipts) × (j < cursor_at c.sessions s) × Has receipts s j (receipt_of i)
+      → (s : ℕ) × (j : ℕ) × (s < length receipts) × (j < cursor_at c.sessions s) × HasReceipt receipts s j (receipt_of i)
   told_by i n has =
       let l : i.by < length receipts = all_at (λ (x : Item). x.by < length receipts) items n i has w.by in
       let own : told i.by i ≡ Some (receipt_of i) = ap (λ b. cond b (Some (receipt_of i)) None) (eq-eqb i.by i.by refl) in
@@ -157,7 +157,7 @@ module _ (t : Trails) (receipts : List (List Receipt)) (c : Cursors) (items : Li
       (i.by, m.0, l, r.0, r.1)
 
   abbrev pub Told : Part → ℕ → Type 0
-  Told part place = (s : ℕ) × (j : ℕ) × (r : Receipt) × (s < length receipts) × (j < cursor_at c.sessions s) × Has receipts s j r × (r.part ≡ part) × (r.place ≡ place)
+  Told part place = (s : ℕ) × (j : ℕ) × (r : Receipt) × (s < length receipts) × (j < cursor_at c.sessions s) × HasReceipt receipts s j r × (r.part ≡ part) × (r.place ≡ place)
 
   told_at : (i : Item) (n : ℕ) (part : Part) (place : ℕ) → slice_get items n ≡ Some i → part_of i.entry ≡ part → i.place ≡ place → Told part place
   told_at i n part place has is at =

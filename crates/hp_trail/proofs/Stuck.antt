@@ -13,7 +13,7 @@ use Rattle.hp_model.specs.declared.entry.SlotEntry.{SlotEntry}
 use Rattle.hp_model.specs.declared.entry.TableEntry.{TableEntry}
 use Rattle.hp_model.specs.declared.section.PoolAnswer.{PoolAnswer}
 use Rattle.hp_model.specs.declared.section.Section.{Section}
-use Rattle.hp_model.specs.threads.Differ.{Asks, Differ, Has, entry_at, of_pool}
+use Rattle.hp_model.specs.threads.Differ.{Asks, Differ, HasReceipt, entry_at, of_pool}
 use Rattle.hp_model.specs.threads.JointRun.{Trails, slot_trail, InTasks, InSlot, InPool, Item}
 use Rattle.hp_trail.specs.Tellers.{AreTold, TellerRows}
 use Rattle.hp_trail.specs.Walk.{Cursors, HasReceiptsLeft, HaveEnded, JoinsBy, Waits, Walked, WalkedBy, cursor, cursor_at, session}
@@ -26,10 +26,10 @@ some_not_none : {X : Type 0} (x : X) (o : Option X) → o ≡ Some x → o ≢ N
 some_not_none x o a b = cc
 
 module _ (t : Trails) (receipts : List (List Receipt)) (c : Cursors) (items : List Item) (w : Walked t receipts c items) (rows : TellerRows) (h : AreTold t receipts rows) where
-  right : (s j : ℕ) (r : Receipt) → Has receipts s j r → entry_at t r.part r.place ≢ None
+  right : (s j : ℕ) (r : Receipt) → HasReceipt receipts s j r → entry_at t r.part r.place ≢ None
   right s j r has = (let e = h.right s j r has in some_not_none e.0 (entry_at t r.part r.place) e.1.there)
 
-  session_there : (s j : ℕ) (r : Receipt) → Has receipts s j r → s < length receipts
+  session_there : (s j : ℕ) (r : Receipt) → HasReceipt receipts s j r → s < length receipts
   session_there s j r has = row_there receipts s j (get_there (session receipts s) j r has)
 
   -- an event that was passed is told by a receipt that was
@@ -52,7 +52,7 @@ module _ (t : Trails) (receipts : List (List Receipt)) (c : Cursors) (items : Li
       by_entry (Some (OfPool v a)) e = passed_pool t receipts c items w place v a l e
 
   -- a receipt that is left is of an event that is left
-  left_of : (s j : ℕ) (r : Receipt) → cursor_at c.sessions s ≤ j → Has receipts s j r → cursor c r.part ≤ r.place
+  left_of : (s j : ℕ) (r : Receipt) → cursor_at c.sessions s ≤ j → HasReceipt receipts s j r → cursor c r.part ≤ r.place
   left_of s j r l has =
       elim (cases_lt r.place (cursor c r.part)) [
         | inl below ↦
@@ -65,7 +65,7 @@ module _ (t : Trails) (receipts : List (List Receipt)) (c : Cursors) (items : Li
 
   -- and an event that is left is told by a receipt that is left
   told_left : (part : Part) (place : ℕ) → entry_at t part place ≢ None → cursor c part ≤ place
-      → (s : ℕ) × (j : ℕ) × (r : Receipt) × (cursor_at c.sessions s ≤ j) × Has receipts s j r × (r.part ≡ part) × (r.place ≡ place)
+      → (s : ℕ) × (j : ℕ) × (r : Receipt) × (cursor_at c.sessions s ≤ j) × HasReceipt receipts s j r × (r.part ≡ part) × (r.place ≡ place)
   told_left part place some l =
       let x = h.told part place some in
       elim (cases_lt x.1 (cursor_at c.sessions x.0)) [
@@ -90,7 +90,7 @@ module _ (t : Trails) (receipts : List (List Receipt)) (c : Cursors) (items : Li
       ]
 
   -- a section that waits is past the pool's cursor
-  later : (s : ℕ) (r : Receipt) (k : ℕ) (a : Asked) → Has receipts s (cursor_at c.sessions s) r → r.part ≡ AtSlot k → Asks t k r.place a → a.place ≢ c.pool → c.pool < a.place
+  later : (s : ℕ) (r : Receipt) (k : ℕ) (a : Asked) → HasReceipt receipts s (cursor_at c.sessions s) r → r.part ≡ AtSlot k → Asks t k r.place a → a.place ≢ c.pool → c.pool < a.place
   later s r k a has part asks ne =
       elim (cases_lt a.place c.pool) [
         | inl before ↦
@@ -104,7 +104,7 @@ module _ (t : Trails) (receipts : List (List Receipt)) (c : Cursors) (items : Li
         | inr after ↦ omega (arith, after, ne)
       ]
 
-  blocked : ((s : ℕ) → s < length receipts → Waits t receipts c s) → (s : ℕ) (r : Receipt) → Has receipts s (cursor_at c.sessions s) r → r.place ≡ cursor c r.part
+  blocked : ((s : ℕ) → s < length receipts → Waits t receipts c s) → (s : ℕ) (r : Receipt) → HasReceipt receipts s (cursor_at c.sessions s) r → r.place ≡ cursor c r.part
       → (k : ℕ) × (asked : Asked) × (r.part ≡ AtSlot k) × Asks t k r.place asked × (c.pool < asked.place) × (slice_get t.pool asked.place ≢ None)
   blocked waits s r has at_cursor =
       elim (waits s (session_there s (cursor_at c.sessions s) r has) r has) [

@@ -13,7 +13,7 @@ use Rattle.hp_model.specs.declared.entry.PoolEntry.TheVariants.{OfSlot, OfPool}
 use Rattle.hp_model.specs.declared.entry.Receipt.{Receipt}
 use Rattle.hp_model.specs.declared.entry.SlotEntry.{SlotEntry}
 use Rattle.hp_model.specs.declared.entry.TableEntry.{TableEntry}
-use Rattle.hp_model.specs.threads.Differ.{Has, entry_at, of_pool}
+use Rattle.hp_model.specs.threads.Differ.{HasReceipt, entry_at, of_pool}
 use Rattle.hp_model.specs.threads.JointRun.{Trails, slot_trail, Entry, InTasks, InSlot, InPool, Item, section_entry, placed, part_of, event_of, receipt_of}
 use Rattle.hp_trail.specs.Tellers.{AreRight, HaveSections, Stands, TellsEntry, asked_section}
 use Rattle.hp_trail.specs.Walk.{ComesNext, Cursors, GoesNumbered, GoesOn, IsBlocked, IsLater, Passes, Waits, SectionStands, Took}
@@ -55,7 +55,7 @@ past_session s c = record c { sessions = slice_set c.sessions s (cursor_at c.ses
 
 module _ (t : Trails) (receipts : List (List Receipt)) (s : ℕ) (c : Cursors) (r : Receipt) where
   pub record IsNextOf (e : Entry) : Type 0 where
-    pub has : Has receipts s (cursor_at c.sessions s) r
+    pub has : HasReceipt receipts s (cursor_at c.sessions s) r
     pub sessions : length c.sessions ≡ length receipts
     pub slots : length c.slots ≡ length t.slots
     pub stands : StandsAt t e (cursor c (part_of e))
@@ -146,7 +146,7 @@ module _ (t : Trails) (receipts : List (List Receipt)) (s : ℕ) (c : Cursors) (
   }
 
   -- the receipt, with the entry that it tells of
-  pub took : (e : Entry) → TellsEntry t r e → Has receipts s (cursor_at c.sessions s) r → r.place ≡ cursor c r.part → length c.sessions ≡ length receipts →
+  pub took : (e : Entry) → TellsEntry t r e → HasReceipt receipts s (cursor_at c.sessions s) r → r.place ≡ cursor c r.part → length c.sessions ≡ length receipts →
       length c.slots ≡ length t.slots → SectionNext t c (asked_section e)
       → Took t receipts s r.part c (past_session s (past r.part (past_section (asked_section e) c)))
   took e tells has place sessions slots section =
@@ -187,7 +187,8 @@ module _ (t : Trails) (c : Cursors) where
       by_asked (Some a) = get_there (slot_trail t k) (cursor_at c.slots k) e h
   within (InPool v a) h = get_there t.pool c.pool (OfPool v a) h
 
-  pub found : (receipts : List (List Receipt)) (s i : ℕ) (r : Receipt) (part : Part) (place : ℕ) → AreRight t receipts → HaveSections t receipts → Has receipts s i r → r.part ≡ part → r.place ≡ place
+  pub found : (receipts : List (List Receipt)) (s i : ℕ) (r : Receipt) (part : Part) (place : ℕ) → AreRight t receipts → HaveSections t receipts → HasReceipt receipts s i r → r.part ≡ part
+      → r.place ≡ place
       → place ≡ cursor c part → Found t c r part
   found receipts s i r part place right sections has is at next =
       let e = right s i r has in
@@ -225,7 +226,8 @@ past_slots (AtSlot k) (Some a) c = length-set c.slots k (cursor_at c.slots k + 1
 past_slots AtPool None c = refl
 past_slots AtPool (Some a) c = refl
 
-pub taken : (t : Trails) (receipts : List (List Receipt)) (s : ℕ) (c : Cursors) (r : Receipt) (part : Part) (inside : Cursors) (n : ℕ) → Found t c r part → Has receipts s (cursor_at c.sessions s) r
+pub taken : (t : Trails) (receipts : List (List Receipt)) (s : ℕ) (c : Cursors) (r : Receipt) (part : Part) (inside : Cursors) (n : ℕ) → Found t c r part
+    → HasReceipt receipts s (cursor_at c.sessions s) r
     → r.part ≡ part → ComesNext c (next_section t c part) → length inside.sessions ≡ length receipts → length inside.slots ≡ length t.slots
     → inside ≡ past part (past_section (next_section t c part) c) → n ≡ slice_index_or inside.sessions s n
     → Took t receipts s part c (record inside { sessions = slice_set inside.sessions s (n + 1) })
@@ -244,7 +246,7 @@ taken t receipts s c r part inside n f has is next sessions slots same read =
     (subst (λ (x : Cursors). Took t receipts s part c (past_session s x)) (sym same) by_section)
 
 -- a session whose next receipt has its section later waits
-pub later_waits : (t : Trails) (receipts : List (List Receipt)) (s : ℕ) (c : Cursors) (r : Receipt) (part : Part) → Found t c r part → Has receipts s (cursor_at c.sessions s) r → r.part ≡ part
+pub later_waits : (t : Trails) (receipts : List (List Receipt)) (s : ℕ) (c : Cursors) (r : Receipt) (part : Part) → Found t c r part → HasReceipt receipts s (cursor_at c.sessions s) r → r.part ≡ part
     → IsLater c (next_section t c part) → Waits t receipts c s
 later_waits t receipts s c r part f has is later q has' =
     let same : r ≡ q = some_is r q (sym has ∙ has') in

@@ -12,7 +12,7 @@ use Rattle.hp_model.specs.declared.entry.SlotEntry.{SlotEntry}
 use Rattle.hp_model.specs.declared.entry.TableEntry.{TableEntry}
 use Rattle.hp_model.specs.declared.section.PoolAnswer.{PoolAnswer}
 use Rattle.hp_model.specs.declared.section.Section.{Section}
-use Rattle.hp_model.specs.threads.Differ.{Asks, Has, entry_at, of_pool}
+use Rattle.hp_model.specs.threads.Differ.{Asks, HasReceipt, entry_at, of_pool}
 use Rattle.hp_model.specs.threads.JointRun.{Trails, slot_trail, Entry, InTasks, InSlot, InPool, event_of}
 
 -- for each place of each trail the number of the session that tells of it, plus 1, or 0
@@ -181,7 +181,7 @@ pub record Source (t : Trails) (receipts : List (List Receipt)) (s j : ℕ) (w :
   pub i : ℕ
   pub receipt : Receipt
   pub past : IsPast s j session i
-  pub has : Has receipts session i receipt
+  pub has : HasReceipt receipts session i receipt
   pub noted : teller w part place ≡ session + 1
   pub is : ((receipt.part ≡ part) × (receipt.place ≡ place))
       ⊎ ((k : ℕ) × (a : Asked) × (receipt.part ≡ AtSlot k) × Asks t k receipt.place a
@@ -190,30 +190,30 @@ pub record Source (t : Trails) (receipts : List (List Receipt)) (s j : ℕ) (w :
 -- the receipts before receipt j of session s are those that the rows tell of
 pub record AreListed (t : Trails) (receipts : List (List Receipt)) (s j : ℕ)
     (w : TellerRows) : Type 0 where
-  pub right : (u i : ℕ) (r : Receipt) → IsPast s j u i → Has receipts u i r
+  pub right : (u i : ℕ) (r : Receipt) → IsPast s j u i → HasReceipt receipts u i r
       → (e : Entry) × TellsEntry t r e
-  pub noted : (u i : ℕ) (r : Receipt) → IsPast s j u i → Has receipts u i r
+  pub noted : (u i : ℕ) (r : Receipt) → IsPast s j u i → HasReceipt receipts u i r
       → teller w r.part r.place ≡ u + 1
-  pub section : (u i : ℕ) (r : Receipt) (k : ℕ) (a : Asked) → IsPast s j u i → Has receipts u i r
+  pub section : (u i : ℕ) (r : Receipt) (k : ℕ) (a : Asked) → IsPast s j u i → HasReceipt receipts u i r
       → r.part ≡ AtSlot k → Asks t k r.place a
       → Stands t.pool a × (teller w AtPool a.place ≡ u + 1)
   pub source : (part : Part) (place : ℕ) → teller w part place ≢ 0
       → Source t receipts s j w part place
   pub once : (u i v h : ℕ) (r q : Receipt) → IsPast s j u i → IsPast s j v h
-      → Has receipts u i r → Has receipts v h q
+      → HasReceipt receipts u i r → HasReceipt receipts v h q
       → r.part ≡ q.part → r.place ≡ q.place → (u ≡ v) × (i ≡ h)
   pub apart : (u i v h : ℕ) (r q : Receipt) (k l : ℕ) (a b : Asked) → IsPast s j u i
-      → IsPast s j v h → Has receipts u i r → Has receipts v h q
+      → IsPast s j v h → HasReceipt receipts u i r → HasReceipt receipts v h q
       → r.part ≡ AtSlot k → q.part ≡ AtSlot l → Asks t k r.place a → Asks t l q.place b
       → a.place ≡ b.place → (u ≡ v) × (i ≡ h)
 
 -- each receipt tells what stands at its place
 abbrev pub AreRight : Trails → List (List Receipt) → Type 0
-AreRight t receipts = (s i : ℕ) (r : Receipt) → Has receipts s i r → (e : Entry) × TellsEntry t r e
+AreRight t receipts = (s i : ℕ) (r : Receipt) → HasReceipt receipts s i r → (e : Entry) × TellsEntry t r e
 
 -- and the section of what it tells of stands at its place in the pool's trail
 abbrev pub HaveSections : Trails → List (List Receipt) → Type 0
-HaveSections t receipts = (s i : ℕ) (r : Receipt) (k : ℕ) (a : Asked) → Has receipts s i r
+HaveSections t receipts = (s i : ℕ) (r : Receipt) (k : ℕ) (a : Asked) → HasReceipt receipts s i r
     → r.part ≡ AtSlot k → Asks t k r.place a → Stands t.pool a
 
 -- a place that no session tells of: of the task table, of a slot, or of the pool where no other
@@ -233,18 +233,18 @@ NoGap w = (part : Part) (place : ℕ) → place < length (row w part) → teller
 -- event has one receipt, and each section in the pool's trail is that of one slot's entry
 pub record AreTold (t : Trails) (receipts : List (List Receipt)) (w : TellerRows) : Type 0 where
   pub right : AreRight t receipts
-  pub noted : (s i : ℕ) (r : Receipt) → Has receipts s i r → teller w r.part r.place ≡ s + 1
-  pub section : (s i : ℕ) (r : Receipt) (k : ℕ) (a : Asked) → Has receipts s i r
+  pub noted : (s i : ℕ) (r : Receipt) → HasReceipt receipts s i r → teller w r.part r.place ≡ s + 1
+  pub section : (s i : ℕ) (r : Receipt) (k : ℕ) (a : Asked) → HasReceipt receipts s i r
       → r.part ≡ AtSlot k → Asks t k r.place a
       → Stands t.pool a × (teller w AtPool a.place ≡ s + 1)
-  pub once : (s i u j : ℕ) (r q : Receipt) → Has receipts s i r → Has receipts u j q
+  pub once : (s i u j : ℕ) (r q : Receipt) → HasReceipt receipts s i r → HasReceipt receipts u j q
       → r.part ≡ q.part → r.place ≡ q.place → (s ≡ u) × (i ≡ j)
-  pub apart : (s i u j : ℕ) (r q : Receipt) (k l : ℕ) (a b : Asked) → Has receipts s i r
-      → Has receipts u j q
+  pub apart : (s i u j : ℕ) (r q : Receipt) (k l : ℕ) (a b : Asked) → HasReceipt receipts s i r
+      → HasReceipt receipts u j q
       → r.part ≡ AtSlot k → q.part ≡ AtSlot l → Asks t k r.place a → Asks t l q.place b
       → a.place ≡ b.place → (s ≡ u) × (i ≡ j)
   pub told : (part : Part) (place : ℕ) → entry_at t part place ≢ None
-      → (s : ℕ) × (j : ℕ) × (r : Receipt) × Has receipts s j r × (r.part ≡ part) × (r.place ≡ place)
+      → (s : ℕ) × (j : ℕ) × (r : Receipt) × HasReceipt receipts s j r × (r.part ≡ part) × (r.place ≡ place)
   pub claimed : (place : ℕ) (section : Section) (answer : PoolAnswer)
       → slice_get t.pool place ≡ Some (OfSlot section answer)
       → (k : ℕ) × (i : ℕ) × (a : Asked) × Asks t k i a × (a.place ≡ place)

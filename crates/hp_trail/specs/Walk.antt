@@ -11,7 +11,7 @@ use Rattle.hp_model.specs.declared.entry.PoolEntry.{PoolEntry}
 use Rattle.hp_model.specs.declared.entry.Receipt.{Receipt}
 use Rattle.hp_model.specs.declared.entry.SlotEntry.{SlotEntry}
 use Rattle.hp_model.specs.declared.entry.TableEntry.{TableEntry}
-use Rattle.hp_model.specs.threads.Differ.{Asks, Has, entry_at}
+use Rattle.hp_model.specs.threads.Differ.{Asks, HasReceipt, entry_at}
 use Rattle.hp_model.specs.threads.JointRun.{Trails, slot_trail, Item, keep, numbered, task_part, slot_part, pool_part, part_of, told, IsThere, IsTold, Joins}
 
 abbrev pub lists : {X : Type 0} → List (Vec X) → List (List X)
@@ -121,7 +121,7 @@ Took t receipts s part c d = (i : Item) × Passes t receipts c i d × (i.by ≡ 
 
 -- the receipt comes next in the session
 abbrev pub HasNext : Walking → ℕ → Receipt → Type 0
-HasNext w s r = Has w.receipts s (cursor_at w.cursors.sessions s) r
+HasNext w s r = HasReceipt w.receipts s (cursor_at w.cursors.sessions s) r
 
 -- the part and place of the receipt that comes next, if there is one
 abbrev pub IsNext : Walking → ℕ → Option (Part × ℕ) → Type 0
@@ -137,7 +137,7 @@ IsBlocked t c r =
 
 -- the session is at its end, or its next receipt is blocked
 abbrev pub Waits : Trails → List (List Receipt) → Cursors → ℕ → Type 0
-Waits t receipts c s = (r : Receipt) → Has receipts s (cursor_at c.sessions s) r → IsBlocked t c r
+Waits t receipts c s = (r : Receipt) → HasReceipt receipts s (cursor_at c.sessions s) r → IsBlocked t c r
 
 -- what an attempt to pass the session's next receipt does: it passes an event of the part, or the
 -- session waits

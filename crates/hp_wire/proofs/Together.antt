@@ -13,7 +13,7 @@ use Rattle.hp_model.specs.text.Reading.{step_of}
 use Rattle.hp_model.specs.text.Text.{AnswersStep, IsTextOfReplies}
 use Rattle.hp_model.specs.text.Writing.{line_of}
 use Rattle.hp_wire.specs.Answered.{Answered, AnsweredInPart, Gains}
-use Rattle.hp_wire.specs.Queues.{AreRead, IsTaken, queued_text}
+use Rattle.hp_wire.specs.Queues.{AreRead, IsLineTaken, queued_text}
 use Rattle.hp_wire.proofs.LineCuts.{CutOff}
 use Rattle.hp_wire.proofs.Known.{answered_then, appends_none, front_more, front_then, gains_then, text_then}
 
@@ -35,7 +35,7 @@ read_more [] (x ∷ qs) l q read is = absurd read
 read_more (k ∷ ls) [] l q read is = absurd read
 read_more (k ∷ ls) (x ∷ qs) l q read is = (read.0, read_more ls qs l q read.1 is)
 
-pub read_taken : (ls : List Line) (old new : List QueuedView) (l : Line) → AreRead ls old → IsTaken l old new → AreRead (ls ++ l ∷ []) new
+pub read_taken : (ls : List Line) (old new : List QueuedView) (l : Line) → AreRead ls old → IsLineTaken l old new → AreRead (ls ++ l ∷ []) new
 read_taken ls old new l read taken = subst (λ (qs : List QueuedView). AreRead (ls ++ l ∷ []) qs) (sym taken.1) (read_more ls old l taken.0 read taken.2)
 
 -- what was done has the text of the lines' replies

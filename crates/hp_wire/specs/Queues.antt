@@ -18,8 +18,8 @@ abbrev pub IsAdded : Step → (old new : List QueuedView) → Type 0
 IsAdded step old new = (q : QueuedView) × (new ≡ old ++ q ∷ []) × (q.step ≡ step)
 
 -- one more waits, as which the line reads
-abbrev pub IsTaken : Line → (old new : List QueuedView) → Type 0
-IsTaken line old new = (q : QueuedView) × (new ≡ old ++ q ∷ []) × (step_of line ≡ Ok q.step)
+abbrev pub IsLineTaken : Line → (old new : List QueuedView) → Type 0
+IsLineTaken line old new = (q : QueuedView) × (new ≡ old ++ q ∷ []) × (step_of line ≡ Ok q.step)
 
 -- the lines read as what waits
 abbrev pub AreRead : List Line → List QueuedView → Type 0

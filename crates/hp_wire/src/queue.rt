@@ -4,7 +4,7 @@ ghost use Rattle.hp_model.specs.beside.Accesses.{load_step, store_step};
 ghost use Rattle.hp_model.specs.beside.Queue.{DoesAll, QueuedView};
 ghost use Rattle.hp_model.specs.Profile.{most_bytes};
 ghost use Rattle.hp_model.specs.text.Lines.{ended};
-ghost use Rattle.hp_wire.specs.Queues.{IsAdded, IsTaken};
+ghost use Rattle.hp_wire.specs.Queues.{IsAdded, IsLineTaken};
 
 use hp_model::profile::MOST_LINE_BYTES;
 use hp_model::queued::{QUEUED_BYTES, Queued};
@@ -93,7 +93,7 @@ impl Queue {
     #[inline(always)]
     pub fn take(&mut self, line: &[u8], room: &mut [u8; 512]) -> bool
         requires { length self.old < 8 }
-        ensures taken { result ≡ true → IsTaken (ended line.now) self.old self.new }
+        ensures taken { result ≡ true → IsLineTaken (ended line.now) self.old self.new }
         ensures left { result ≡ false → self.new ≡ self.old }
     {
         if line.len() > MOST_LINE_BYTES {

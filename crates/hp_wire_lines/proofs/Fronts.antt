@@ -14,10 +14,10 @@ use Rattle.std.specs.Option.{ok_or}
 use Rattle.std.specs.Str.{all_ascii_digits}
 use Rattle.std.specs.Str.Parse.{digits_value_after}
 use Rattle.hp_model.specs.files.Options.{when}
-use Rattle.hp_model.specs.text.Words.{number_at, number_of, piece_at, pieces_of_line, ◌>>=◌}
+use Rattle.hp_model.specs.text.Words.{number_at, number_read, piece_at, pieces_of_line, ◌>>=◌}
 use Rattle.hp_model.specs.declared.refusal.Refusal.{Refusal}
 use Rattle.hp_model.specs.declared.refusal.Refusal.TheVariants.{BadLine}
-use Rattle.hp_text.specs.Pieces.{pieces, pieces_after, from_separator}
+use Rattle.hp_text.specs.Pieces.{pieces_by, pieces_after, from_separator}
 use Rattle.hp_wire_lines.specs.Words.{number_after, number_with, pieces_from, Takes}
 use denote.Ref.{Bor}
 
@@ -119,7 +119,7 @@ after_piece line piece rest at whole =
     ap (λ n. drop n line) k ∙ sym (drop-drop (length piece + 1) at line) ∙ ap (drop (length piece + 1)) whole ∙ drop-append-add piece (32 ∷ rest) 1
 
 -- the first piece, and what stands after it
-pub next_piece : (line piece : List ℕ) (at : ℕ) (rest : Option (Bor (List ℕ))) → at ≤ length line → pieces 32 (drop at line) ≡ piece ∷ pieces_after 32 rest
+pub next_piece : (line piece : List ℕ) (at : ℕ) (rest : Option (Bor (List ℕ))) → at ≤ length line → pieces_by 32 (drop at line) ≡ piece ∷ pieces_after 32 rest
     → drop at line ≡ piece ++ from_separator 32 rest → piece_at (pieces_from at line) ≡ Ok (piece, pieces_from (at + length piece + 1) line)
 unfolding piece_at
 next_piece line piece at None h cut whole =
@@ -133,11 +133,11 @@ next_piece line piece at (Some rest) h cut whole =
     ap piece_at (within at line h ∙ cut) ∙ ap (λ more. Ok (piece, more)) (ap pieces_of_line (sym left) ∙ sym (within (at + length piece + 1) line short))
 
 -- a number is the first piece
-pub taken_piece : (r : Result ℕ Refusal) (piece : List ℕ) (left before : List (List ℕ)) → piece_at before ≡ Ok (piece, left) → r ≡ number_of piece → Takes (λ (n : ℕ). n) r left (number_at before)
+pub taken_piece : (r : Result ℕ Refusal) (piece : List ℕ) (left before : List (List ℕ)) → piece_at before ≡ Ok (piece, left) → r ≡ number_read piece → Takes (λ (n : ℕ). n) r left (number_at before)
 unfolding number_at
-taken_piece (Ok n) piece left before cut is = ap (λ x. x >>= (λ piece. number_of piece.0 >>= (λ number. Ok (number, piece.1)))) cut ∙ ap (λ x. x >>= (λ number. Ok (number, left))) (sym is)
-taken_piece (Err e) piece left before cut is = ap (λ x. x >>= (λ piece. number_of piece.0 >>= (λ number. Ok (number, piece.1)))) cut ∙ ap (λ x. x >>= (λ number. Ok (number, left))) (sym is)
+taken_piece (Ok n) piece left before cut is = ap (λ x. x >>= (λ piece. number_read piece.0 >>= (λ number. Ok (number, piece.1)))) cut ∙ ap (λ x. x >>= (λ number. Ok (number, left))) (sym is)
+taken_piece (Err e) piece left before cut is = ap (λ x. x >>= (λ piece. number_read piece.0 >>= (λ number. Ok (number, piece.1)))) cut ∙ ap (λ x. x >>= (λ number. Ok (number, left))) (sym is)
 
 pub taken_no_piece : (e : Refusal) (before : List (List ℕ)) → piece_at before ≡ Err e → number_at before ≡ Err e
 unfolding number_at
-taken_no_piece e before h = ap (λ x. x >>= (λ piece. number_of piece.0 >>= (λ number. Ok (number, piece.1)))) h
+taken_no_piece e before h = ap (λ x. x >>= (λ piece. number_read piece.0 >>= (λ number. Ok (number, piece.1)))) h

@@ -2,7 +2,7 @@
 ghost use Rattle.std.specs.Prelude.{◌≡◌, ◌+◌, ◌-◌, ◌<◌, ◌≤◌, length, slice_index, true, false, IfSome, Ok};
 ghost use Rattle.std.specs.Int.{IsInRange};
 ghost use Rattle.std.specs.List.{list_all};
-ghost use Rattle.hp_model.specs.text.Words.{is_word_byte, number_at, number_of, piece_at, pieces_of_line};
+ghost use Rattle.hp_model.specs.text.Words.{is_word_byte, number_at, number_read, piece_at, pieces_of_line};
 ghost use Rattle.hp_model.specs.Profile.{most_line_bytes};
 ghost use Rattle.hp_wire_lines.specs.Words.{between, number_after, piece_with, pieces_from};
 
@@ -257,7 +257,7 @@ fn front_number(line: &[u8], from: usize) -> (u64, usize)
 
 /// Reads a piece as a number.
 pub fn number_of(piece: &[u8]) -> Result<u64, Refusal>
-    ensures { result ≡ number_of piece.now }
+    ensures { result ≡ number_read piece.now }
 {
     numbers::number_of(piece).ok_or(Refusal::BadLine)
 }

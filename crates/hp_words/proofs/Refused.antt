@@ -11,7 +11,7 @@ use Rattle.clap.specs.declared.error.Error.{Error}
 use Rattle.clap.specs.declared.error.kind.ErrorKind.{ErrorKind}
 use Rattle.clap.specs.declared.error.kind.ErrorKind.TheVariants.{OutOfMemory}
 use Rattle.hp_words.proofs.Commands.{Found, is_right, options_are}
-use Rattle.hp_model.specs.text.Words.{number_of}
+use Rattle.hp_model.specs.text.Words.{number_read}
 use Rattle.hp_model.specs.Profile.{most_places}
 use Rattle.hp_words.specs.Asked.{AsksForScript, AsksToServe, CanBe, HasBadValue, IsGood, IsRefusedFor, IsRight, IsWrongIn, IsWrongOf, Sets, SetsServing, Setting}
 use Rattle.hp_words.specs.Asked.{comma_pieces, has_options, hugetlbd, is_serve, machine_options, node_frames, options_given, serving_options, settings_of}
@@ -99,18 +99,18 @@ none_bad [] options name good bad = bad
 none_bad (s ∷ rest) options name good (inl bad) = not_both s (first_of s.name options) good.0 bad.1
 none_bad (s ∷ rest) options name good (inr bad) = none_bad rest options name good.1 bad.1
 
-good_frames : (given : Option Text) (fs usual : List ℕ) → MatchOption given (fs ≡ usual) (λ text. map number_of (comma_pieces text) ≡ map Ok fs) → IsFrames fs
+good_frames : (given : Option Text) (fs usual : List ℕ) → MatchOption given (fs ≡ usual) (λ text. map number_read (comma_pieces text) ≡ map Ok fs) → IsFrames fs
     → MatchOption given (false ≡ false) (CanBe node_frames)
 good_frames None fs usual reads fits = refl
 good_frames (Some text) fs usual reads fits = (fs, reads, fits)
 
-good_number : (given : Option Text) (n usual : ℕ) (Fits : ℕ → Type 0) → MatchOption given (n ≡ usual) (λ text. number_of text ≡ Ok n) → Fits n
-    → MatchOption given (false ≡ false) (λ text. (m : ℕ) × (number_of text ≡ Ok m) × Fits m)
+good_number : (given : Option Text) (n usual : ℕ) (Fits : ℕ → Type 0) → MatchOption given (n ≡ usual) (λ text. number_read text ≡ Ok n) → Fits n
+    → MatchOption given (false ≡ false) (λ text. (m : ℕ) × (number_read text ≡ Ok m) × Fits m)
 good_number None n usual Fits reads fits = refl
 good_number (Some text) n usual Fits reads fits = (n, reads, fits)
 
-good_given : (given : Option Text) (n : ℕ) (Fits : ℕ → Type 0) → IsSomeAnd given (λ text. number_of text ≡ Ok n) → Fits n
-    → MatchOption given (true ≡ false) (λ text. (m : ℕ) × (number_of text ≡ Ok m) × Fits m)
+good_given : (given : Option Text) (n : ℕ) (Fits : ℕ → Type 0) → IsSomeAnd given (λ text. number_read text ≡ Ok n) → Fits n
+    → MatchOption given (true ≡ false) (λ text. (m : ℕ) × (number_read text ≡ Ok m) × Fits m)
 good_given None n Fits reads fits = absurd reads
 good_given (Some text) n Fits reads fits = (n, reads, fits)
 

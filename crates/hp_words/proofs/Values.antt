@@ -4,7 +4,7 @@ use Rattle.std.specs.Borrow.{Bor}
 use Rattle.std.specs.Int.{is_power_of_two}
 use lib.Count.{ones}
 use Rattle.clap.specs.Words.{Text}
-use Rattle.hp_model.specs.text.Words.{number_of}
+use Rattle.hp_model.specs.text.Words.{number_read}
 use Rattle.hp_words.specs.Asked.{CanBe, page_bytes}
 
 bad_shown : (given : Option (Bor Text)) (Fits : Text → Type 0) → IsSomeAnd given (λ text. Fits text.now → ⊥)
@@ -18,7 +18,7 @@ pub bad_value : (given : Option (Bor Text)) (value : Option Text) (Fits : Text �
 bad_value given value Fits same bad = subst (λ (v : Option Text). MatchOption v (false ≡ true) (λ text. Fits text → ⊥)) same (bad_shown given Fits bad)
 
 -- no other number can be read
-pub page_is_bad : (given : Option (Bor Text)) (page : ℕ) → MatchOption given (page ≡ 1024) (λ text. number_of text.now ≡ Ok page) → is_power_of_two page ≡ false
+pub page_is_bad : (given : Option (Bor Text)) (page : ℕ) → MatchOption given (page ≡ 1024) (λ text. number_read text.now ≡ Ok page) → is_power_of_two page ≡ false
     → IsSomeAnd given (λ text. CanBe page_bytes text.now → ⊥)
 unfolding ones
 page_is_bad None page usual power = (let both : true ≡ false = ap is_power_of_two (sym usual) ∙ power in cc)

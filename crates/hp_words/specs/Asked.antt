@@ -17,7 +17,7 @@ use Rattle.clap.specs.declared.builder.command.Command.TheViews.{out-Command}
 use Rattle.clap.specs.declared.parser.matches.ArgMatches.{ArgMatches}
 use Rattle.clap.specs.Words.{found_of, rows_of}
 use Rattle.std.specs.Borrow.{Bor}
-use Rattle.hp_model.specs.text.Words.{number_of}
+use Rattle.hp_model.specs.text.Words.{number_read}
 use Rattle.hp_model.specs.Profile.{most_places, most_slots}
 use Rattle.hp_words.specs.Config.{IsFrames, IsPageSize, IsWithin, MachineChoice, choice_of, usual, most_port, most_sessions, most_workers}
 use Rattle.hp_words.specs.declared.settings.Config.{Config}
@@ -40,9 +40,9 @@ pub data Values : Type 0 where
 
 -- the text is one of these values
 abbrev pub CanBe : Values → Text → Type 0
-CanBe node_frames text = (fs : List ℕ) × (map number_of (comma_pieces text) ≡ map Ok fs) × IsFrames fs
-CanBe page_bytes text = (n : ℕ) × (number_of text ≡ Ok n) × IsPageSize n
-CanBe (between low high) text = (n : ℕ) × (number_of text ≡ Ok n) × IsWithin low high n
+CanBe node_frames text = (fs : List ℕ) × (map number_read (comma_pieces text) ≡ map Ok fs) × IsFrames fs
+CanBe page_bytes text = (n : ℕ) × (number_read text ≡ Ok n) × IsPageSize n
+CanBe (between low high) text = (n : ℕ) × (number_read text ≡ Ok n) × IsWithin low high n
 
 pub record Setting : Type 0 where
   pub name : Text
@@ -107,17 +107,17 @@ options_in matches = rows_of (found_of matches)
 
 -- the option of this name is given, as this number
 abbrev pub IsOptionGiven : Text → List Row → ℕ → Type 0
-IsOptionGiven name options n = IsSomeAnd (first_of name options) (λ text. number_of text ≡ Ok n)
+IsOptionGiven name options n = IsSomeAnd (first_of name options) (λ text. number_read text ≡ Ok n)
 
 -- it is given so, or left out, and this is the usual number
 abbrev pub IsGivenOr : ℕ → Text → List Row → ℕ → Type 0
 IsGivenOr usual name options n =
-    MatchOption (first_of name options) (n ≡ usual) (λ text. number_of text ≡ Ok n)
+    MatchOption (first_of name options) (n ≡ usual) (λ text. number_read text ≡ Ok n)
 
 -- the machine of these options
 pub record Sets (options : List Row) (c : MachineChoice) : Type 0 where
   pub frames : MatchOption (first_of (codes "frames") options) (c.frames ≡ usual.frames)
-      (λ text. map number_of (comma_pieces text) ≡ map Ok c.frames)
+      (λ text. map number_read (comma_pieces text) ≡ map Ok c.frames)
   pub page : IsGivenOr usual.page (codes "page") options c.page
   pub slots : IsGivenOr usual.slots (codes "slots") options c.slots
 
@@ -174,15 +174,15 @@ AsksFor words (Serve m s) = AsksToServe words (choice_of m) s
 
 -- the text is a number between the bounds, this one
 abbrev pub IsNumberWithin : ℕ → ℕ → Text → ℕ → Type 0
-IsNumberWithin low high text n = (number_of text ≡ Ok n) × (low ≤ n) × (n ≤ high)
+IsNumberWithin low high text n = (number_read text ≡ Ok n) × (low ≤ n) × (n ≤ high)
 
 -- it is no number between them
 abbrev pub IsNoneWithin : ℕ → ℕ → Text → Type 0
-IsNoneWithin low high text = (n : ℕ) → number_of text ≡ Ok n → low ≤ n → n ≤ high → ⊥
+IsNoneWithin low high text = (n : ℕ) → number_read text ≡ Ok n → low ≤ n → n ≤ high → ⊥
 
 -- what is given is this number, or nothing is, and it is the usual one
 abbrev pub IsNumberOr : ℕ → Option (Bor Text) → ℕ → Type 0
-IsNumberOr usual given n = MatchOption given (n ≡ usual) (λ text. number_of text.now ≡ Ok n)
+IsNumberOr usual given n = MatchOption given (n ≡ usual) (λ text. number_read text.now ≡ Ok n)
 
 -- what is given for the option is none of its values; so is nothing, where it may not be left out
 abbrev pub IsBad : Setting → List Row → Type 0

@@ -2,7 +2,7 @@
 ghost use Rattle.std.specs.Prelude.{◌≡◌, ◌≤◌, ◌∷◌, [], false, true, map, option_map, codes, IfErr, IfOk, IfSome, IsSomeAnd, MatchOption, Ok};
 ghost use Rattle.std.specs.Str.{bytes_eq};
 ghost use Rattle.clap.specs.Words.{app_of, first_of, rule_of};
-ghost use Rattle.hp_model.specs.text.Words.{number_of};
+ghost use Rattle.hp_model.specs.text.Words.{number_read};
 ghost use Rattle.hp_words.specs.Asked.{AsksFor, IsBadValue, IsLocal, IsNoneWithin, IsNumberOr, IsNumberWithin, IsRefusedFor, IsWrongFrames, IsWrongIn, IsWrongOf, Sets, SetsServing, hugetlbd, machine_options, option, options_in, has_options, comma_pieces, script_app, serve_app, serving_options, with_options};
 ghost use Rattle.hp_words.specs.Config.{IsConfigWithin, IsFrames, IsMachineWithin, IsServing, choice_of};
 
@@ -248,7 +248,7 @@ fn two_nodes(alloc: Global) -> Result<Vec<u64>, AllocError>
 // The frames of 1 to 4 nodes, with one comma between two.
 #[tactic(auto, using(crate::proofs::Frames::frame_read, crate::proofs::Frames::last_frame_read))]
 fn frames_of(alloc: Global, text: &[u8]) -> Result<Vec<u64>, Wrong>
-    ensures reads { IfOk result (λ v. map number_of (comma_pieces text.now) ≡ map Ok v.items) }
+    ensures reads { IfOk result (λ v. map number_read (comma_pieces text.now) ≡ map Ok v.items) }
     ensures limits { IfOk result (λ v. IsFrames v.items) }
     ensures wrong { IfErr result (IsWrongFrames text.now) }
 {
@@ -292,7 +292,7 @@ fn number_or(
 fn number(text: Option<&str>, name: &'static str, low: u64, high: u64) -> Result<u64, Wrong>
     ensures bounds { IfOk result (λ n. (low ≤ n) × (n ≤ high)) }
     ensures reads { IfOk result (λ n.
-        IsSomeAnd text.entry (λ text. number_of text.now ≡ Ok n)) }
+        IsSomeAnd text.entry (λ text. number_read text.now ≡ Ok n)) }
     ensures wrong { IfErr result (λ wrong. IsBadValue name.now wrong
         × IfSome text.entry (λ text. IsNoneWithin low high text.now)) }
 {
@@ -305,7 +305,7 @@ fn number(text: Option<&str>, name: &'static str, low: u64, high: u64) -> Result
 // The number that an option's text is, where that lies between the bounds.
 fn number_in(text: &str, name: &'static str, low: u64, high: u64) -> Result<u64, Wrong>
     ensures bounds { IfOk result (λ n. (low ≤ n) × (n ≤ high)) }
-    ensures reads { IfOk result (λ n. number_of text.now ≡ Ok n) }
+    ensures reads { IfOk result (λ n. number_read text.now ≡ Ok n) }
     ensures wrong { IfErr result (λ wrong. IsBadValue name.now wrong
         × IsNoneWithin low high text.now) }
 {

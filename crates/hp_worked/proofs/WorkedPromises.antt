@@ -18,7 +18,7 @@ use Rattle.hp_model.specs.pool.NodeRows.{free_of, total_of}
 use Rattle.hp_model.specs.beside.Plain.{plain_step}
 use Rattle.hp_model.specs.machine.Plan.{Slot}
 use Rattle.hp_model.specs.machine.Promises.{LeavesAll, LosesTo, Makes, SameFiles, SameLimits, Shape, StillMapped, StillNamed}
-use Rattle.hp_model.specs.machine.Promises.{Tells, file_in, is_backed_step, is_cut_off_step, is_ended_number, least_of, map_at, map_named}
+use Rattle.hp_model.specs.machine.Promises.{AnswersWhatWas, file_in, is_backed_step, is_cut_off_step, is_ended_number, least_of, map_at, map_named}
 use Rattle.hp_model.specs.machine.Promises.{seen_in, seen_over, shown_in, shown_on, stored_over, named_on, map_in}
 use Rattle.hp_model.specs.files.Spot.{Spot}
 use Rattle.hp_model.specs.machine.State.{Node, State, slot_at, with_slot}
@@ -132,13 +132,13 @@ abbrev files_on : Slot → ℕ
 files_on None = 0
 files_on (Some m) = length m.files
 
-rsvd_told_as_none : Tells mounted Meminfo (Ok (Numbers (record (counts_in mounted) { rsvd = 0 }))) → ⊥
+rsvd_told_as_none : AnswersWhatWas mounted Meminfo (Ok (Numbers (record (counts_in mounted) { rsvd = 0 }))) → ⊥
 rsvd_told_as_none e = (let wrong : false ≡ true = subst (λ a. (rsvd_in a == 0) ≡ true) e refl in cc)
 
-usage_told_as_less : Tells mounted (Df 2) (Ok (Usage (Some 3) 2 2 None 1)) → ⊥
+usage_told_as_less : AnswersWhatWas mounted (Df 2) (Ok (Usage (Some 3) 2 2 None 1)) → ⊥
 usage_told_as_less e = (let wrong : false ≡ true = subst (λ a. (used_in a == 2) ≡ true) e refl in cc)
 
-usage_of_no_mount : Tells mounted (Df 3) (Ok (Usage None 0 0 None 0)) → ⊥
+usage_of_no_mount : AnswersWhatWas mounted (Df 3) (Ok (Usage None 0 0 None 0)) → ⊥
 usage_of_no_mount e = e
 
 abbrev names_in : Answer → ℕ
@@ -153,22 +153,22 @@ abbrev home_in : Answer → ℕ
 home_in (Home home) = home
 home_in other = 99
 
-names_told_without_one : Tells mounted (Ls 2) (Ok (Names [])) → ⊥
+names_told_without_one : AnswersWhatWas mounted (Ls 2) (Ok (Names [])) → ⊥
 names_told_without_one e = (let wrong : false ≡ true = subst (λ a. (names_in a == 1) ≡ true) (sym e) refl in cc)
 
-names_of_no_mount : Tells mounted (Ls 3) (Ok (Names [])) → ⊥
+names_of_no_mount : AnswersWhatWas mounted (Ls 3) (Ok (Names [])) → ⊥
 names_of_no_mount e = e
 
-holes_told_as_pages : Tells mounted (Stat 2 (codes "a")) (Ok (StatAnswer 3 3 3 1)) → ⊥
+holes_told_as_pages : AnswersWhatWas mounted (Stat 2 (codes "a")) (Ok (StatAnswer 3 3 3 1)) → ⊥
 holes_told_as_pages e = (let wrong : false ≡ true = subst (λ a. (pages_in a == 0) ≡ true) (sym e) refl in cc)
 
-numbers_of_no_file : Tells mounted (Stat 2 (codes "b")) (Ok (StatAnswer 0 0 0 0)) → ⊥
+numbers_of_no_file : AnswersWhatWas mounted (Stat 2 (codes "b")) (Ok (StatAnswer 0 0 0 0)) → ⊥
 numbers_of_no_file e = e
 
-another_home_told : Tells mounted (Attach 1) (Ok (Home 1)) → ⊥
+another_home_told : AnswersWhatWas mounted (Attach 1) (Ok (Home 1)) → ⊥
 another_home_told e = (let wrong : false ≡ true = subst (λ a. (home_in a == 0) ≡ true) (sym e) refl in cc)
 
-home_of_no_task : Tells mounted (Attach 2) (Ok (Home 0)) → ⊥
+home_of_no_task : AnswersWhatWas mounted (Attach 2) (Ok (Home 0)) → ⊥
 home_of_no_task e = e
 
 refused_create_makes_a_file : LeavesAll mounted (Create 2 (codes "a/b")) (Err BadName) (plain_step mounted (Create 2 (codes "b"))).1 → ⊥

@@ -19,7 +19,7 @@ use Rattle.hp_model.specs.declared.event.SlotEvent.TheVariants.{Create, Map as M
 use Rattle.hp_model.specs.declared.event.TableEvent.TheVariants.{Add, Find}
 use Rattle.hp_model.specs.declared.step.Sharing.TheVariants.{Shared}
 use Rattle.hp_model.specs.declared.step.Reserving.TheVariants.{Reserve}
-use Rattle.hp_model.specs.threads.Differ.{Asks, IsBefore, Differ, Has, LostSection, SharedSection, entry_at}
+use Rattle.hp_model.specs.threads.Differ.{Asks, IsBefore, Differ, HasReceipt, LostSection, SharedSection, entry_at}
 use Rattle.hp_model.specs.Profile.{most_frames}
 use Rattle.hp_model.specs.files.File.{with_file, new_file}
 use Rattle.hp_model.specs.threads.JointRun.{keep, numbered, slot_part, told, Trails, slot_trail, Entry, InTasks, InSlot, InPool, Item, IsThere, Joins, AreRuns, IsJointRun}
@@ -179,7 +179,7 @@ no_receipts session i r rs has = cc
 pub left_out : Differ (trails 1 1) ((pool_0 ∷ tasks_0 ∷ slot_0 ∷ tasks_1 ∷ []) ∷ [])
 left_out = inr (inr (inr (inr (inr (inl (record { part = AtSlot 0; place = 1; entry = InSlot 0 (map_a 1); there = refl; untold = none }))))))
   where
-    none : (session i : ℕ) (r : Receipt) → Has ((pool_0 ∷ tasks_0 ∷ slot_0 ∷ tasks_1 ∷ []) ∷ []) session i r → (r.part ≡ AtSlot 0) × (r.place ≡ 1) → ⊥
+    none : (session i : ℕ) (r : Receipt) → HasReceipt ((pool_0 ∷ tasks_0 ∷ slot_0 ∷ tasks_1 ∷ []) ∷ []) session i r → (r.part ≡ AtSlot 0) × (r.place ≡ 1) → ⊥
     none zero zero r has is = cc
     none zero (suc zero) r has is = cc
     none zero (suc (suc zero)) r has is = cc

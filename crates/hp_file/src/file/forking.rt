@@ -2,7 +2,7 @@
 ghost use Rattle.std.specs.Prelude.{◌≡◌, ◌++◌, ◌^◌, ◌+◌, ◌≤◌, ℕ, length, vec_capacity, IfOk};
 ghost use Rattle.hp_store.specs.Store.{holders_of, page_at};
 ghost use Rattle.hp_lookup.specs.Dropping.{HasHolders};
-ghost use Rattle.hp_lookup.specs.Forking.{HasNoted, IsReady, IsSharing, in_list, list_copies, maps_of, with_list};
+ghost use Rattle.hp_lookup.specs.Forking.{HasNoted, IsReady, IsSharing, in_list, list_copies, maps_by, with_list};
 ghost use Rattle.hp_lookup.specs.Held.{more_in};
 
 use super::File;
@@ -55,7 +55,7 @@ impl File {
     /// The file stands at a place: notes where a task's maps stand, and their tags. There is room for them. Takes a step for
     /// each map.
     pub fn note_maps(&self, task: u64, file: FileTag, hints: &mut Hints)
-        requires { maps_of task self.now ≤ hints.old.room }
+        requires { maps_by task self.now ≤ hints.old.room }
         ensures { HasNoted task self.now hints.old hints.new }
     {
         for (map, mapping) in self.maps.iter().enumerate() {

@@ -7,7 +7,7 @@ ghost use Rattle.hp_lookup.specs.Dropping.{HasHolders, IsDropping};
 ghost use Rattle.hp_lookup.specs.Forking.{maps_named};
 ghost use Rattle.hp_lookup.specs.Held.{in_file, more_in};
 ghost use Rattle.hp_lookup.specs.Numbered.{mapping_at};
-ghost use Rattle.hp_lookup.specs.Leaving.{IsMoreButTask, cut_at, emptied, file_owed, is_used, least_among, least_of, left_at, left_by};
+ghost use Rattle.hp_lookup.specs.Leaving.{IsMoreButTask, cut_at, emptied, file_owed, is_used, least_among, lesser_task, left_at, left_by};
 
 use super::File;
 use crate::dropping::{drop_map, end_maps_of, leave_range};
@@ -17,7 +17,7 @@ use hp_store::PageStore;
 
 // The lesser of a task and one that is known, if any.
 fn lesser(known: Option<u64>, task: u64) -> u64
-    ensures { result ≡ least_of known task }
+    ensures { result ≡ lesser_task known task }
 {
     match known {
         Some(known) => known.min(task),

@@ -14,7 +14,7 @@ use Rattle.hp_model.specs.declared.event.TableEvent.TheVariants as table
 use Rattle.hp_model.specs.declared.refusal.Refusal.{Refusal}
 use Rattle.hp_model.specs.declared.refusal.Refusal.TheVariants.{NoSuchTask, TaskExists, TooMany}
 use Rattle.hp_model.specs.declared.step.Step.TheVariants.{Fork}
-use Rattle.hp_model.specs.machine.Event.{IsEvent, has_maps_of, planned, settled, with_table}
+use Rattle.hp_model.specs.machine.Event.{IsEvent, has_maps_of, planned, with_outcome, with_table}
 use Rattle.hp_model.specs.files.File.{Mount}
 use Rattle.hp_model.specs.files.Fork.{file_forked, forked}
 use Rattle.hp_model.specs.files.GiveBack.{file_without, swept, without_task}
@@ -58,7 +58,7 @@ pub record SameSetting (s t : State) : Type 0 where
   pub nr : t.nr ≡ s.nr
   pub overcommit : t.overcommit ≡ s.overcommit
 
-outcome_setting : (s : State) (k : ℕ) (o : Outcome) → SameSetting s (settled s k o).1
+outcome_setting : (s : State) (k : ℕ) (o : Outcome) → SameSetting s (with_outcome s k o).1
 outcome_setting s k (Refused r) = record { table = refl; nr = refl; overcommit = refl }
 outcome_setting s k (Answered a new) = record { table = refl; nr = refl; overcommit = refl }
 

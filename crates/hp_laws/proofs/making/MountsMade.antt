@@ -17,7 +17,7 @@ use Rattle.hp_model.specs.declared.step.Step.{Step}
 use Rattle.hp_model.specs.declared.step.Step.TheVariants as step
 use Rattle.hp_model.specs.files.File.{Mount}
 use Rattle.hp_model.specs.files.Options.{limits, wanted_of}
-use Rattle.hp_model.specs.machine.Event.{IsEvent, planned, settled}
+use Rattle.hp_model.specs.machine.Event.{IsEvent, planned, with_outcome}
 use Rattle.hp_model.specs.machine.Machine.{pool_of, with_pool}
 use Rattle.hp_model.specs.machine.Plan.{Answered, Choice, Outcome, Refused, Reply, Slot}
 use Rattle.hp_model.specs.machine.Settings.{IsMountedWith, IsRemountedWith, Mounts}
@@ -55,7 +55,7 @@ module _ (s : State) (k : ℕ) (options : List ℕ) (within : k < length s.slots
   with_old old new none (Err e) h = h
   with_old old new none (Ok l) h = (none, h.1)
 
-  by_settled : (u : State) → u.slots ≡ s.slots → slot_at s k ≡ None → (o : Outcome) → Made wanted o → (reply : Reply) (t : State) → settled u k o ≡ (reply, t)
+  by_settled : (u : State) → u.slots ≡ s.slots → slot_at s k ≡ None → (o : Outcome) → Made wanted o → (reply : Reply) (t : State) → with_outcome u k o ≡ (reply, t)
       → Mounts s (step.Mount k options) reply t
   by_settled u same none (Refused r) made reply t e = subst (λ (q : Reply × State). Mounts s (step.Mount k options) q.0 q.1) e tt
   by_settled u same none (Answered a new) made reply t e =
@@ -70,7 +70,7 @@ module _ (s : State) (k : ℕ) (options : List ℕ) (within : k < length s.slots
       let d : ℕ = mount_pages c wanted in
       let q : PoolAnswer × Pool = section (pool_of s) (mount_section c d) in
       by_settled (with_pool s q.1) refl there (mount_outcome c q.0 wanted) (mount_made c q.0 wanted) reply t
-      (subst (λ nr. settled (with_pool s q.1) k (mount_outcome c q.0 (limits nr s.page_size (wanted_of options))) ≡ (reply, t)) (tells_nr (pool_of s) c.after_grant d) e)
+      (subst (λ nr. with_outcome (with_pool s q.1) k (mount_outcome c q.0 (limits nr s.page_size (wanted_of options))) ≡ (reply, t)) (tells_nr (pool_of s) c.after_grant d) e)
 
 -- ---- remounts
 

@@ -12,7 +12,7 @@ use Rattle.hp_model.specs.declared.section.Section.TheVariants.{ReadAndGiveBack,
 use Rattle.hp_model.specs.files.File.{Mount}
 use Rattle.hp_model.specs.files.MountCounts.{committed_of}
 use Rattle.hp_model.specs.files.Options.{limits, wanted_of}
-use Rattle.hp_model.specs.machine.Event.{IsEvent, planned, settled}
+use Rattle.hp_model.specs.machine.Event.{IsEvent, planned, with_outcome}
 use Rattle.hp_model.specs.machine.Machine.{pool_of, with_pool}
 use Rattle.hp_model.specs.machine.Plan.{Answered, Outcome, Refused, Reply, Slot, refuse}
 use Rattle.hp_model.specs.machine.SlotEvent.{committed_with, remount_outcome, remount_section, slot_event}
@@ -31,7 +31,7 @@ pub record EndsIn (s : State) (k : ℕ) (o : Outcome) (reply : Reply) (t : State
   pub replied : reply ≡ reply_of o
   pub slots : t.slots ≡ slice_set s.slots k (left_by (slot_at s k) o)
 
-settled_ends : (u : State) (k : ℕ) (o : Outcome) → EndsIn u k o (settled u k o).0 (settled u k o).1
+settled_ends : (u : State) (k : ℕ) (o : Outcome) → EndsIn u k o (with_outcome u k o).0 (with_outcome u k o).1
 settled_ends u k (Refused r) = record { replied = refl; slots = ap (λ x. x.slots) (settled_is u k (Refused r)) }
 settled_ends u k (Answered a new) = record { replied = refl; slots = refl }
 
@@ -53,7 +53,7 @@ module _ (s : State) (k : ℕ) (options : List ℕ) (m : Mount) where
       let ends = λ (nr : ℕ). remount_outcome m q.0 (limits nr s.page_size (wanted_of options)) in
       let nr : q.0.nr ≡ s.nr = remount_tells (pool_of s) m wanted in
       let at = settled_ends u k (ends s.nr) in
-      subst (λ n. EndsIn s k (ends s.nr) (settled u k (ends n)).0 (settled u k (ends n)).1) (sym nr) (record { replied = at.replied; slots = at.slots })
+      subst (λ n. EndsIn s k (ends s.nr) (with_outcome u k (ends n)).0 (with_outcome u k (ends n)).1) (sym nr) (record { replied = at.replied; slots = at.slots })
 
   pub remount_ends : slot_at s k ≡ Some m → (reply : Reply) (t : State) → IsEvent s (OnSlot k (slot.Remount options)) reply t → EndsIn s k remount_left reply t
   remount_ends there reply t is =

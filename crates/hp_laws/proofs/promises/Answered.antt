@@ -18,7 +18,7 @@ use Rattle.hp_model.specs.machine.Event.{IsEvent}
 use Rattle.hp_model.specs.files.File.{File, cell_at}
 use Rattle.hp_model.specs.machine.Machine.{pool_of}
 use Rattle.hp_model.specs.machine.Plan.{Choice, Outcome, Refused, Answered, Finish, Reply, Slot, with_value}
-use Rattle.hp_model.specs.machine.Promises.{IsHome, IsListed, IsRead, IsStat, IsUsage, LeavesAll, LeavesOthers, SameButNodes, Tells, is_late, is_late_step, named_on}
+use Rattle.hp_model.specs.machine.Promises.{IsHome, IsListed, IsRead, IsStat, IsUsage, LeavesAll, LeavesOthers, SameButNodes, AnswersWhatWas, is_late, is_late_step, named_on}
 use Rattle.hp_model.specs.pool.Resize.{node_counts}
 use Rattle.hp_model.specs.machine.Settled.{IsSettledState}
 use Rattle.hp_model.specs.machine.SlotEvent.{bytes_answer, file_named, read, read_tests, slot_event, stat}
@@ -122,27 +122,27 @@ read_told size k c (Some m) name i offset count = by_file (file_named m name)
         (Finish (Answered (bytes_answer offset count (shown size (cell_at f.1 i))) (Some m))) refl
 
 -- a step that was refused tells nothing
-nothing_told : (s : State) (step : Step) (r : Refusal) → Tells s step (Err r)
+nothing_told : (s : State) (step : Step) (r : Refusal) → AnswersWhatWas s step (Err r)
 nothing_told s Meminfo r = tt
 nothing_told s other r = tt
 
 module _ (s : State) (st : IsSettledState s) where
   -- what is told of the slot
   slot_tells : (P : Answer → Type 0) (k : ℕ) (e : SlotEvent) (reply : Reply) (t : State)
-      → ((c : Choice) → Always (Says P) (slot_event s.page_size k c (slot_at s k) e)) → ((a : Answer) → P a → Tells s (slot_step k e) (Ok a))
-      → IsEvent s (OnSlot k e) reply t → Tells s (slot_step k e) reply
+      → ((c : Choice) → Always (Says P) (slot_event s.page_size k c (slot_at s k) e)) → ((a : Answer) → P a → AnswersWhatWas s (slot_step k e) (Ok a))
+      → IsEvent s (OnSlot k e) reply t → AnswersWhatWas s (slot_step k e) reply
   slot_tells P k e reply t all h is =
-      let ends = event_ends (Says P) s k e reply t all is in subst (λ x. Tells s (slot_step k e) x) (sym ends.replied) (each ends.outcome ends.holds)
+      let ends = event_ends (Says P) s k e reply t all is in subst (λ x. AnswersWhatWas s (slot_step k e) x) (sym ends.replied) (each ends.outcome ends.holds)
     where
-      each : (o : Outcome) → Says P o → Tells s (slot_step k e) (reply_of o)
+      each : (o : Outcome) → Says P o → AnswersWhatWas s (slot_step k e) (reply_of o)
       each (Refused r) says = nothing_told s (slot_step k e) r
       each (Answered a new) says = h a says
 
-  home_told : (task : ℕ) (o : Option ℕ) → home_of s.table task ≡ o → (reply : Reply) → reply ≡ (when_known s.table o (λ home. (Ok (Home home), s.table))).0 → Tells s (Attach task) reply
-  home_told task None known reply is = subst (λ x. Tells s (Attach task) x) (sym is) tt
-  home_told task (Some home) known reply is = subst (λ x. Tells s (Attach task) x) (sym is) (subst (λ o. IsHome o (Home home)) (sym known) refl)
+  home_told : (task : ℕ) (o : Option ℕ) → home_of s.table task ≡ o → (reply : Reply) → reply ≡ (when_known s.table o (λ home. (Ok (Home home), s.table))).0 → AnswersWhatWas s (Attach task) reply
+  home_told task None known reply is = subst (λ x. AnswersWhatWas s (Attach task) x) (sym is) tt
+  home_told task (Some home) known reply is = subst (λ x. AnswersWhatWas s (Attach task) x) (sym is) (subst (λ o. IsHome o (Home home)) (sym known) refl)
 
-  event_tells : (e : Event) (reply : Reply) (t : State) → is_whole e ≡ true → IsEvent s e reply t → Tells s (step_of e) reply
+  event_tells : (e : Event) (reply : Reply) (t : State) → is_whole e ≡ true → IsEvent s e reply t → AnswersWhatWas s (step_of e) reply
   event_tells (OnSlot k slot.Df) reply t whole is =
       slot_tells (IsUsage (slot_at s k)) k slot.Df reply t (λ c. usage_told s.page_size k c (slot_at s k)) (λ a h. h) is
   event_tells (OnSlot k slot.Ls) reply t whole is =
@@ -153,9 +153,9 @@ module _ (s : State) (st : IsSettledState s) where
       slot_tells (IsRead s.page_size (named_on (slot_at s k) name) i offset count) k (slot.Read name i offset count) reply t
       (λ c. read_told s.page_size k c (slot_at s k) name i offset count) (λ a h. h) is
   event_tells (OnPool pool.Meminfo) reply t whole is =
-      subst (λ x. Tells s Meminfo x) (ap (λ (q : Reply × State). q.0) is.2) (ap Numbers (counts_are_sums s st).counts)
+      subst (λ x. AnswersWhatWas s Meminfo x) (ap (λ (q : Reply × State). q.0) is.2) (ap Numbers (counts_are_sums s st).counts)
   event_tells (OnPool pool.Nodes) reply t whole is =
-      subst (λ x. Tells s Nodes x) (ap (λ (q : Reply × State). q.0) is.2) (ap (λ n. PerNode n (node_counts (pool_of s))) (rows_many s 0 s.nodes))
+      subst (λ x. AnswersWhatWas s Nodes x) (ap (λ (q : Reply × State). q.0) is.2) (ap (λ n. PerNode n (node_counts (pool_of s))) (rows_many s 0 s.nodes))
   event_tells (OnSlot k (slot.ForkMaps parent child)) reply t whole is = cc
   event_tells (OnSlot k (slot.ExitMaps task)) reply t whole is = cc
   event_tells (OnSlot k other) reply t whole is = tt
@@ -164,6 +164,6 @@ module _ (s : State) (st : IsSettledState s) where
   event_tells (Tasks (table.Add task home)) reply t whole is = tt
   event_tells (Tasks other) reply t whole is = tt
 
-  pub step_tells : (reply : Reply) (t : State) (step : Step) → IsStep s step reply t → Tells s step reply
-  step_tells reply t step is = by_event s (λ step reply t. Tells s step reply) (λ step r early. nothing_told s step r) event_tells
+  pub step_tells : (reply : Reply) (t : State) (step : Step) → IsStep s step reply t → AnswersWhatWas s step reply
+  step_tells reply t step is = by_event s (λ step reply t. AnswersWhatWas s step reply) (λ step r early. nothing_told s step r) event_tells
       (λ parent child reply t is. tt) (λ task reply t is. tt) reply t step is

@@ -37,7 +37,7 @@ use Rattle.hp_model.specs.files.Page.{Copy, Page}
 use Rattle.hp_model.specs.files.Reserved.{is_reserved}
 use Rattle.hp_model.specs.files.Spot.{Spot, again, spot, written}
 use Rattle.hp_model.specs.files.Value.{value}
-use Rattle.hp_model.specs.machine.Event.{IsEvent, has_maps_of, planned, settled}
+use Rattle.hp_model.specs.machine.Event.{IsEvent, has_maps_of, planned, with_outcome}
 use Rattle.hp_model.specs.machine.Machine.{pool_of, with_pool}
 use Rattle.hp_model.specs.machine.Plan.{Answered, Ask, Choice, Finish, Outcome, Plan, Refused, Reply, Slot, and_then, continued, gives, grant}
 use Rattle.hp_model.specs.machine.Plan.{grant_page, refuse, unless, when_granted, with_value}
@@ -102,7 +102,7 @@ module _ (s : State) where
   at_then P f h (Finish o) at = h o at
   at_then P f h (Ask sec g) at = h (g (section (pool_of s) (sec s.nr)).0) at
 
-  settled_reply : (u : State) (k : ℕ) (o : Outcome) → (settled u k o).0 ≡ reply_of o
+  settled_reply : (u : State) (k : ℕ) (o : Outcome) → (with_outcome u k o).0 ≡ reply_of o
   settled_reply u k (Refused r) = refl
   settled_reply u k (Answered a new) = refl
 

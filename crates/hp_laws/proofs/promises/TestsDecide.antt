@@ -33,7 +33,7 @@ use Rattle.hp_model.specs.files.Options.{limits, wanted_of}
 use Rattle.hp_model.specs.files.Page.{Copy, Page}
 use Rattle.hp_model.specs.files.Spot.{Spot, again, spot, written}
 use Rattle.hp_model.specs.files.Value.{value}
-use Rattle.hp_model.specs.machine.Event.{IsEvent, has_maps_of, planned, settled, with_table}
+use Rattle.hp_model.specs.machine.Event.{IsEvent, has_maps_of, planned, with_outcome, with_table}
 use Rattle.hp_model.specs.machine.Plan.{Answered, Ask, Choice, Finish, Outcome, Plan, Refused, Reply, Slot, continued, gives, grant, grant_page, refuse, unless, when_granted, with_value}
 use Rattle.hp_model.specs.machine.SlotEvent.{anon_tests, byte_access, byte_tests, bytes_answer, edited, fault, fault_tests, file_named}
 use Rattle.hp_model.specs.machine.SlotEvent.{is_bad_range, is_beyond, is_name, is_unmapped, load, fill, preallocate, preallocate_tests}
@@ -402,7 +402,7 @@ module _ (s : State) (reply : Reply) (t : State) where
           by_tests false true true = refl
           by_tests false true false = refl
 
-      settled_reply : (u : State) (o : Outcome) → (settled u k o).0 ≡ reply_of o
+      settled_reply : (u : State) (o : Outcome) → (with_outcome u k o).0 ≡ reply_of o
       settled_reply u (Refused r) = refl
       settled_reply u (Answered a new) = refl
 
@@ -413,8 +413,8 @@ module _ (s : State) (reply : Reply) (t : State) where
           let l = limits s.nr s.page_size (wanted_of options) in
           let d : ℕ = mount_pages c l in
           let q : PoolAnswer × Pool = section (pool_of s) (mount_section c d) in
-          let at : settled (with_pool s q.1) k (mount_outcome c q.0 l) ≡ (reply, t) =
-          subst (λ nr. settled (with_pool s q.1) k (mount_outcome c q.0 (limits nr s.page_size (wanted_of options))) ≡ (reply, t)) (tells_nr (pool_of s) c.after_grant d) e in
+          let at : with_outcome (with_pool s q.1) k (mount_outcome c q.0 l) ≡ (reply, t) =
+          subst (λ nr. with_outcome (with_pool s q.1) k (mount_outcome c q.0 (limits nr s.page_size (wanted_of options))) ≡ (reply, t)) (tells_nr (pool_of s) c.after_grant d) e in
           subst (λ r. IsRefusedBy (refused_limits l) r) (sym (settled_reply (with_pool s q.1) (mount_outcome c q.0 l)) ∙ ap (λ (x : Reply × State). x.0) at) (by_limits c q.0 l)
 
       by_test : (b : Bool) → IsScript s (if b then only (OnSlot k (slot.Mount options)) else Answer_with (Err NoSuchSlot)) reply t

@@ -13,7 +13,7 @@ use Rattle.hp_model.specs.pool.Grant.{can_grant, granted, surplus_times}
 use Rattle.hp_model.specs.machine.Machine.{pool_of, with_pool, rows_of, node_of}
 use Rattle.hp_model.specs.pool.NodeRows.{NodeRows, at_row, row_at, lowest, near, next_from, give_back_row, promote_row, demote_row, grow_row, put_row, take_row, taken_times}
 use Rattle.hp_model.specs.pool.NodeRows.{shrink_row, add_surplus_row, total_of, grown, shrunk, promoted, demoted, given_back, free_of, surp_of, frames_of}
-use Rattle.hp_model.specs.pool.Pool.{section, filled_by, granted_at, no_pages, page_taken, pages_taken, nr_answer, take_node, takes_of, kept_times, puts_from, released, settled, give_back_times}
+use Rattle.hp_model.specs.pool.Pool.{section, filled_by, granted_at, no_pages, page_taken, pages_taken, nr_answer, take_node, takes_of, kept_times, puts_from, released, trimmed, give_back_times}
 use Rattle.hp_model.specs.declared.section.PoolAnswer.{PoolAnswer}
 use Rattle.hp_model.specs.declared.section.Section.{Section}
 use Rattle.hp_model.specs.declared.section.Section.TheVariants.{Grant, GrantPage, TakePage, FillPages, GiveBack, ReadAndGrant, ReadAndGiveBack, GrantAndReturn}
@@ -71,7 +71,7 @@ long_puts : (node : ℕ) (ks : List ℕ) (p : Pool) → length (puts_from node k
 long_puts node [] p = refl
 long_puts node (k ∷ ks) p = long_puts (node + 1) ks (kept_times node k p) ∙ long_kept_times node k p
 
-long_settled : (p : Pool) → length (settled p).nodes.rows ≡ length p.nodes.rows
+long_settled : (p : Pool) → length (trimmed p).nodes.rows ≡ length p.nodes.rows
 long_settled p = long_give_back_times (surp_of p.nodes.rows - (p.committed - p.nr)) p.nodes
 
 long_granted : (home d : ℕ) (p : Pool) → length (granted home d p).nodes.rows ≡ length p.nodes.rows
@@ -95,7 +95,7 @@ long_section p (ReadAndGrant d) =
     (λ e. long_granted 0 d p) (λ e. refl)
 long_section p (ReadAndGiveBack k) = long_settled (released k p)
 long_section p (GrantAndReturn d) =
-    cond_both (can_grant d p) (nr_answer true p, settled (released d (granted 0 d p))) (nr_answer false p, p) (Long p)
+    cond_both (can_grant d p) (nr_answer true p, trimmed (released d (granted 0 d p))) (nr_answer false p, p) (Long p)
     (λ e. long_settled (released d (granted 0 d p)) ∙ long_granted 0 d p) (λ e. refl)
 
 pub long_event : (p : Pool) (e : PoolEvent) → length (pool_event p e).1.nodes.rows ≡ length p.nodes.rows

@@ -5,7 +5,7 @@ use Rattle.std.proofs.lemmas.List.{length-map, set-get_or}
 use Rattle.std.proofs.lemmas.List.Elements.{All-head, All-tail, All-set}
 use Rattle.std.proofs.lemmas.List.Sums.{sum_by-set, sum-map, sum_by-le-sum_by}
 use Rattle.hp_laws.specs.Balance.{Always, Moves, taken_at, left_by, IsBalanced}
-use Rattle.hp_model.specs.machine.Event.{planned, settled}
+use Rattle.hp_model.specs.machine.Event.{planned, with_outcome}
 use Rattle.hp_model.specs.machine.Machine.{pool_of, with_pool, rows_of, node_of, committed_pages, used_at}
 use Rattle.hp_model.specs.pool.NodeRows.{IsRow, used as row_used}
 use Rattle.hp_model.specs.machine.Plan.{Slot, Outcome, Refused, Answered, Plan, Finish, Ask, slot_committed, slot_pages, slot_pages_at}
@@ -111,7 +111,7 @@ module _ (s : State) (k : ℕ) (st : IsSettledState s) (new : Slot) (sound : IsS
 
 -- ---- events
 
-pub settled_is : (s : State) (k : ℕ) (o : Outcome) → (settled s k o).1 ≡ with_slot s k (left_by (slot_at s k) o)
+pub settled_is : (s : State) (k : ℕ) (o : Outcome) → (with_outcome s k o).1 ≡ with_slot s k (left_by (slot_at s k) o)
 settled_is s k (Refused r) = ap (λ xs. record s { slots = xs }) (sym (set-get_or s.slots k None))
 settled_is s k (Answered a new) = refl
 
@@ -134,7 +134,7 @@ plan_tied s k (Finish o) l st b sound =
     let leads = relead p p _ _ _ _ (unchanged p st.pool) (let x = w.commits in omega (arith, x))
     (same_list p (λ n. used_at n s) (λ n. used_at n (with_slot (with_pool s p) k new)) (length s.nodes) w.few w.was w.pages) in
     let t = tied s st (slice_set s.slots k new) (All-set IsSound s.slots k new sound st.slots) p leads homed in
-    let is : with_slot (with_pool s p) k new ≡ (settled s k o).1 = ap (λ x. with_slot x k new) (pool_back s) ∙ sym (settled_is s k o) in
+    let is : with_slot (with_pool s p) k new ≡ (with_outcome s k o).1 = ap (λ x. with_slot x k new) (pool_back s) ∙ sym (settled_is s k o) in
     subst (λ (x : State). Tied s (Finish o) x) is t
 plan_tied s k (Ask sec f) l st b sound =
     let q : PoolAnswer × Pool = section (pool_of s) (sec s.nr) in

@@ -4,13 +4,13 @@ use Rattle.std.specs.List.{sum, slice_index_or, range_with_len}
 use Rattle.std.proofs.lemmas.Bool.{cases_lt, eq-eqb, ne_eqb}
 use Rattle.std.proofs.lemmas.List.{get_or_past, length-map}
 use Rattle.std.proofs.lemmas.List.Sums.{sum_by-cons}
-use Rattle.hp_laws.specs.Balance.{raised_by, lowered_by, takes, taken_at, put_at}
+use Rattle.hp_laws.specs.Balance.{raised_by, lowered_by, takes, taken_at, given_at}
 use Rattle.hp_model.specs.pool.Grant.{can_grant, granted}
 use Rattle.hp_model.specs.Lists.{edit_at}
 use Rattle.hp_model.specs.declared.node.NodeRow.{NodeRow}
 use Rattle.hp_model.specs.files.Fill.{rising_nodes}
 use Rattle.hp_model.specs.pool.NodeRows.{no_row, row_at, used as row_used}
-use Rattle.hp_model.specs.pool.Pool.{take_node, page_taken, pages_taken, puts_from, released, settled as settled_pool, filled_by, granted_at, no_pages, nr_answer, section, takes_at, takes_of}
+use Rattle.hp_model.specs.pool.Pool.{take_node, page_taken, pages_taken, puts_from, released, trimmed as settled_pool, filled_by, granted_at, no_pages, nr_answer, section, takes_at, takes_of}
 use Rattle.hp_model.specs.declared.section.PoolAnswer.{PoolAnswer}
 use Rattle.hp_model.specs.declared.section.Section.{Section}
 use Rattle.hp_model.specs.declared.section.Section.TheVariants.{Grant, GrantPage, TakePage, FillPages, GiveBack, ReadAndGrant, ReadAndGiveBack, GrantAndReturn}
@@ -79,7 +79,7 @@ pub record IsWanted (p : Pool) (sec : Section) (a : PoolAnswer) (f g : ℕ → �
   pub long : length p.nodes.rows ≡ k
   pub was : map row_used p.nodes.rows ≡ map f (range_with_len 0 k)
   pub commits : c + lowered_by sec a ≡ p.committed + raised_by sec a
-  pub pages : (n : ℕ) → n < 4 → g n + put_at n sec ≡ f n + taken_at n sec a
+  pub pages : (n : ℕ) → n < 4 → g n + given_at n sec ≡ f n + taken_at n sec a
   pub covered : used p + takes sec a ≤ p.committed + raised_by sec a
   pub within : sum (map g (range_with_len 0 k)) ≤ c
 

@@ -10,7 +10,7 @@ use Rattle.hp_model.specs.declared.node.NodeRow.{NodeRow}
 use Rattle.hp_model.specs.pool.Grant.{can_grant, granted, most}
 use Rattle.hp_model.specs.Lists.{edit_at}
 use Rattle.hp_model.specs.pool.NodeRows.{NodeRows, IsRow, used as row_used, total_of, free_of, surp_of, frames_of, promoted, grown, shrunk, demoted}
-use Rattle.hp_model.specs.pool.Pool.{take_node, page_taken, puts_from, released, settled}
+use Rattle.hp_model.specs.pool.Pool.{take_node, page_taken, puts_from, released, trimmed}
 use Rattle.hp_model.specs.pool.PoolCounts.{Pool, used, rsvd}
 use Rattle.hp_model.specs.pool.Resize.{raised, raise_times, lowered, lower_times, set_nr}
 use Rattle.hp_model.specs.machine.Settled.{IsSettledPool}
@@ -92,7 +92,7 @@ took_one home p s l =
 
 pub gave_back : (puts : List ℕ) (k : ℕ) (vs : List ℕ) (p : Pool) → IsSettledPool p → length vs ≡ length p.nodes.rows
     → ((n : ℕ) → n < length p.nodes.rows → slice_index_or vs n 0 + slice_index_or puts n 0 ≡ slice_index_or (map row_used p.nodes.rows) n 0)
-    → sum vs + k ≤ p.committed → Leads p (settled (released k (puts_from 0 puts p))) (p.committed - k) vs
+    → sum vs + k ≤ p.committed → Leads p (trimmed (released k (puts_from 0 puts p))) (p.committed - k) vs
 gave_back puts k vs p s len each covers =
     let mid : Pool = record p { committed = p.committed - k; nodes = record p.nodes { rows = put_rows puts p.nodes.rows } } in
     let puts_in = put puts p.nodes.rows vs s.rows len each in
@@ -108,7 +108,7 @@ gave_back puts k vs p s len each covers =
     let lt = less.total in
     let lf = less.free in
     let ls = less.surplus in
-    let done : Leads p (settled mid) (p.committed - k) vs = record {
+    let done : Leads p (trimmed mid) (p.committed - k) vs = record {
       settled = record {
         rows = less.rows;
         total = omega (arith, lt, t, falls);
@@ -119,7 +119,7 @@ gave_back puts k vs p s len each covers =
       is_used = less.used ∙ puts_in.used;
       frames = less.frames ∙ puts_in.frames;
     } in
-    subst (λ (q : Pool). Leads p (settled (released k q)) (p.committed - k) vs) (sym (puts_are puts p)) done
+    subst (λ (q : Pool). Leads p (trimmed (released k q)) (p.committed - k) vs) (sym (puts_are puts p)) done
 
 -- ---- nr rises and falls
 

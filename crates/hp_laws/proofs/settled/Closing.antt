@@ -30,7 +30,7 @@ use Rattle.hp_model.specs.machine.Settled.{IsSettledPool}
 use Rattle.hp_model.specs.machine.SlotEvent.{slot_event}
 use Rattle.hp_model.specs.machine.Table.{Table, added, home_of, is_crowded, is_known, or_refused, removed, table_event, when_known}
 use Rattle.hp_model.specs.pool.NodeRows.{frames_of, used as row_used}
-use Rattle.hp_model.specs.pool.Pool.{puts_from, released, settled}
+use Rattle.hp_model.specs.pool.Pool.{puts_from, released, trimmed}
 use Rattle.hp_model.specs.pool.PoolCounts.{Pool}
 use Rattle.hp_model.specs.pool.Resize.{pool_event, set_nr}
 use Rattle.hp_model.specs.Profile.{most_overcommit, most_tasks}
@@ -213,7 +213,7 @@ sums (u ∷ us) (p ∷ ps) within =
     let rest = sums us ps (behind p u ps us within) in
     omega (arith, sum_by-cons (λ x. x) p ps, sum_by-cons (λ x. x) u us, sum_by-cons (λ x. x) (u - p) (minus us ps), le, rest)
 
-given_less : (puts : List ℕ) (k : ℕ) (p q : Pool) → IsSettledPool p → IsInUse puts k p → q ≡ settled (released k (puts_from 0 puts p)) → 0 < sum puts + k → to_return q < to_return p
+given_less : (puts : List ℕ) (k : ℕ) (p q : Pool) → IsSettledPool p → IsInUse puts k p → q ≡ trimmed (released k (puts_from 0 puts p)) → 0 < sum puts + k → to_return q < to_return p
 given_less puts k p q s held is some =
     let us : List ℕ = map row_used p.nodes.rows in
     let parts = sums us puts held.pages in
@@ -221,10 +221,10 @@ given_less puts k p q s held is some =
     let covered = held.committed in
     let gave = gave_back puts k (minus us puts) p s (long us puts ∙ length-map p.nodes.rows row_used)
     (λ n l. each us puts held.pages n (omega (arith, l, length-map p.nodes.rows row_used))) (omega (arith, parts, uses, covered)) in
-    let after = used_sum (settled (released k (puts_from 0 puts p))).nodes.rows gave.settled.rows in
+    let after = used_sum (trimmed (released k (puts_from 0 puts p))).nodes.rows gave.settled.rows in
     let same = ap sum gave.is_used in
     let left = gave.is_committed in
-    let less : to_return (settled (released k (puts_from 0 puts p))) < to_return p = omega (arith, parts, uses, covered, after, same, left, some) in
+    let less : to_return (trimmed (released k (puts_from 0 puts p))) < to_return p = omega (arith, parts, uses, covered, after, same, left, some) in
     subst (λ (x : Pool). to_return x < to_return p) (sym is) less
 
 event_frames : (p : Pool) (e : PoolEvent) → IsSettledPool p → frames_of (pool_event p e).1.nodes.rows ≡ frames_of p.nodes.rows

@@ -12,7 +12,7 @@ use Rattle.hp_model.specs.declared.entry.SlotEntry.{SlotEntry}
 use Rattle.hp_model.specs.declared.entry.TableEntry.{TableEntry}
 use Rattle.hp_model.specs.declared.event.Event.TheVariants.{Slot as OnSlot, Pool as OnPool}
 use Rattle.hp_model.specs.declared.event.PoolEvent.{PoolEvent}
-use Rattle.hp_model.specs.machine.Event.{IsEvent, IsEventRun, CanHappen, after, planned, settled, asked_pool, with_table, with_pool_reply}
+use Rattle.hp_model.specs.machine.Event.{IsEvent, IsEventRun, CanHappen, after, planned, with_outcome, asked_pool, with_table, with_pool_reply}
 use Rattle.hp_model.specs.threads.JointRun.{slot_trail, Entry, InTasks, InSlot, InPool, Item, option_cons, keep, numbered, task_entry}
 use Rattle.hp_model.specs.threads.JointRun.{slot_entry, section_entry, pool_entry, placed, task_part, slot_part, pool_part, IsThere, event_of, HasParts}
 use Rattle.hp_laws.specs.Laws.{JoinedLaw}
@@ -41,7 +41,7 @@ abbrev PoolGoes : Pool → Option Asked → Pool → Type 0
 PoolGoes p None q = p ≡ q
 PoolGoes p (Some a) q = section p a.section ≡ (a.answer, q)
 
-settles : (s : State) (k : ℕ) (o : Outcome) (old new : Slot) (r : Reply) → slot_at s k ≡ old → Gives o old r new → settled s k o ≡ (r, with_slot s k new)
+settles : (s : State) (k : ℕ) (o : Outcome) (old new : Slot) (r : Reply) → slot_at s k ≡ old → Gives o old r new → with_outcome s k o ≡ (r, with_slot s k new)
 settles s k (Refused e) old new r is h =
     ap (λ xs. (Err e, record s { slots = xs })) (sym (set-get_or s.slots k None))
     ∙ ap (λ x. (Err e, with_slot s k x)) (is ∙ sym h.1) ∙ ap (λ x. (x, with_slot s k new)) (sym h.0)

@@ -11,7 +11,7 @@ use Rattle.hp_model.specs.declared.refusal.Refusal.{Refusal}
 use Rattle.hp_model.specs.declared.refusal.Refusal.TheVariants.{NoSuchTask, NoSuchSlot}
 pub use Rattle.hp_laws.specs.Balance.{Always}
 use Rattle.hp_laws.specs.Balance.{left_by}
-use Rattle.hp_model.specs.machine.Event.{IsEvent, planned, settled, with_table}
+use Rattle.hp_model.specs.machine.Event.{IsEvent, planned, with_outcome, with_table}
 use Rattle.hp_model.specs.files.File.{Mount}
 use Rattle.hp_model.specs.machine.Machine.{pool_of, with_pool}
 use Rattle.hp_model.specs.machine.Plan.{Reply, Outcome, Refused, Answered, Plan, Finish, Ask, Choice, refuse, continued, and_then}
@@ -57,7 +57,7 @@ pub record Ends (P : Outcome → Type 0) (s : State) (k : ℕ) (reply : Reply) (
   pub size : t.page_size ≡ s.page_size
   pub slots : t.slots ≡ slice_set s.slots k (left_by (slot_at s k) outcome)
 
-pub ends_so : (P : Outcome → Type 0) (s : State) (k : ℕ) (o : Outcome) → P o → Ends P s k (settled s k o).0 (settled s k o).1
+pub ends_so : (P : Outcome → Type 0) (s : State) (k : ℕ) (o : Outcome) → P o → Ends P s k (with_outcome s k o).0 (with_outcome s k o).1
 ends_so P s k (Refused r) h = record { outcome = Refused r; holds = h; replied = refl; size = refl; slots = ap (λ x. x.slots) (settled_is s k (Refused r)) }
 ends_so P s k (Answered a new) h = record { outcome = Answered a new; holds = h; replied = refl; size = refl; slots = refl }
 

@@ -16,7 +16,7 @@ use Rattle.hp_model.specs.declared.event.TableEvent.TheVariants.{Add, Find, Find
 use Rattle.hp_model.specs.declared.limits.Limits.{Limits}
 use Rattle.hp_model.specs.declared.refusal.Refusal.{Refusal}
 use Rattle.hp_model.specs.declared.refusal.Refusal.TheVariants.{OutOfMemory, TaskExists, NoSuchNode, TooMany, OutOfRange, SlotTaken}
-use Rattle.hp_model.specs.machine.Event.{after, settled, planned}
+use Rattle.hp_model.specs.machine.Event.{after, with_outcome, planned}
 use Rattle.hp_model.specs.files.File.{Mount}
 use Rattle.hp_model.specs.pool.Grant.{can_grant, granted, surplus_times}
 use Rattle.hp_model.specs.pool.NodeRows.{total_of, surp_of}
@@ -26,7 +26,7 @@ use Rattle.hp_model.specs.machine.Machine.{pool_of, with_pool}
 use Rattle.hp_model.specs.files.MountCounts.{committed_of}
 use Rattle.hp_model.specs.files.Options.{limits, wanted_of}
 use Rattle.hp_model.specs.machine.Plan.{Reply, Slot, Outcome, Refused, Answered, Plan, Finish, Ask, Choice, continued, and_then, when_granted}
-use Rattle.hp_model.specs.pool.Pool.{section, filled_by, granted_at, no_pages, pages_taken, nr_answer, released, takes_of, settled as settled_pool, take_node, page_taken, give_back_times}
+use Rattle.hp_model.specs.pool.Pool.{section, filled_by, granted_at, no_pages, pages_taken, nr_answer, released, takes_of, trimmed as settled_pool, take_node, page_taken, give_back_times}
 use Rattle.hp_model.specs.declared.section.PoolAnswer.{PoolAnswer}
 use Rattle.hp_model.specs.declared.section.Section.TheVariants.{ReadAndGiveBack, ReadAndGrant, GrantAndReturn}
 use Rattle.hp_model.specs.pool.PoolCounts.{Pool}
@@ -179,7 +179,7 @@ keeps_on_none size c other = record { keeps = tt }
 
 -- ---- the machine
 
-settled_refused : (s : State) (k : ℕ) (o : Outcome) (r : Refusal) (t : State) → settled s k o ≡ (Err r, t) → (o ≡ Refused r) × (t ≡ s)
+settled_refused : (s : State) (k : ℕ) (o : Outcome) (r : Refusal) (t : State) → with_outcome s k o ≡ (Err r, t) → (o ≡ Refused r) × (t ≡ s)
 settled_refused s k (Refused x) r t e = (let first = ap (λ (q : Reply × State). q.0) e in let second = ap (λ (q : Reply × State). q.1) e in let same : x ≡ r = cc in (ap Refused same, sym second))
 settled_refused s k (Answered a n) r t e = (let first = ap (λ (q : Reply × State). q.0) e in cc)
 

@@ -24,7 +24,7 @@ use Rattle.hp_model.specs.files.Mapping.{is_map}
 use Rattle.hp_model.specs.files.MountCounts.{committed_of, stamps_of, file_pages_at, pages_at}
 use Rattle.hp_model.specs.files.Options.{limits, wanted_of}
 use Rattle.hp_model.specs.machine.Plan.{Slot, Plan, Choice, refuse, unless, gives}
-use Rattle.hp_model.specs.pool.Pool.{nr_answer, section, settled, released}
+use Rattle.hp_model.specs.pool.Pool.{nr_answer, section, trimmed, released}
 use Rattle.hp_model.specs.declared.section.PoolAnswer.{PoolAnswer}
 use Rattle.hp_model.specs.declared.section.Section.TheVariants.{GrantAndReturn, ReadAndGiveBack, ReadAndGrant}
 use Rattle.hp_model.specs.pool.PoolCounts.{Pool}
@@ -130,7 +130,7 @@ told p d q =
     (λ (x : PoolAnswer × Pool). x.0.nr ≡ p.nr) (λ e. refl) (λ e. refl)
 
 pub tells_nr : (p : Pool) (after_grant : Bool) (d : ℕ) → (section p (if after_grant then GrantAndReturn d else ReadAndGrant d)).0.nr ≡ p.nr
-tells_nr p true d = told p d (settled (released d (granted 0 d p)))
+tells_nr p true d = told p d (trimmed (released d (granted 0 d p)))
 tells_nr p false d = told p d (granted 0 d p)
 
 -- ---- remount

@@ -3,7 +3,7 @@ ghost use Rattle.std.specs.Prelude.{◌∷◌, [], ◌≡◌, ◌+◌, ◌<◌, 
 ghost use Rattle.std.specs.List.{sum};
 ghost use Rattle.hp_model.specs.declared.entry.PoolEntry.TheVariants.{OfSlot};
 ghost use Rattle.hp_model.specs.declared.section.Section.TheVariants.{GiveBack};
-ghost use Rattle.hp_model.specs.pool.Pool.{granted_at, puts_from, released, settled};
+ghost use Rattle.hp_model.specs.pool.Pool.{granted_at, puts_from, released, trimmed};
 ghost use Rattle.hp_model.specs.threads.Closing.{to_return};
 ghost use Rattle.hp_mount_door.specs.Door.{IsReady, with_less};
 ghost use Rattle.hp_subpool.specs.Subpool.{committed_of, fall};
@@ -126,7 +126,7 @@ fn returned<N: Naming>(
     requires held { reserves ≤ share.old.held }
     ensures puts { result.0 ≡ parcel }
     ensures fall { result.1 ≡ fall share.old (sum parcel + reserves) }
-    ensures moved { pool.new ≡ settled (released (fall share.old (sum parcel + reserves))
+    ensures moved { pool.new ≡ trimmed (released (fall share.old (sum parcel + reserves))
         (puts_from 0 parcel pool.old)) }
     ensures same { sum parcel + fall share.old (sum parcel + reserves) ≡ 0 → pool.new ≡ pool.old }
     ensures share { share.new ≡ with_less (sum parcel) reserves share.old }
@@ -148,7 +148,7 @@ fn ended<N: Naming>(pool: &mut Pool<N>, share: Subpool<N>, parcel: Parcel<N>) ->
     requires pages { sum parcel ≡ share.pages }
     ensures puts { result.0 ≡ parcel }
     ensures fall { result.1 ≡ committed_of share }
-    ensures moved { pool.new ≡ settled (released (committed_of share)
+    ensures moved { pool.new ≡ trimmed (released (committed_of share)
         (puts_from 0 parcel pool.old)) }
     ensures same { sum parcel + committed_of share ≡ 0 → pool.new ≡ pool.old }
     ensures ready { IsReady pool.new }

@@ -3,7 +3,7 @@ ghost use Rattle.std.specs.Prelude.{[], Some, ◌≡◌, ◌+◌, ◌<◌, ◌�
 ghost use Rattle.std.specs.List.{sum};
 ghost use Rattle.hp_model.specs.declared.section.Section.TheVariants.{TakePage};
 ghost use Rattle.hp_model.specs.pool.Pool.{filled_by, granted_at, no_pages, section};
-ghost use Rattle.hp_mount_door.specs.Door.{IsReady, grant_for, page_for, with_granted, with_page, with_reserves};
+ghost use Rattle.hp_mount_door.specs.Door.{IsReady, grant_for, grant_one, with_granted, with_page, with_reserves};
 ghost use Rattle.hp_mount_door.specs.Filling.{fill_for, with_filled};
 ghost use Rattle.hp_subpool.specs.Subpool.{is_full as ShareIsFull, rise, used};
 ghost use Rattle.hp_trail.specs.Keeping.{has_room};
@@ -130,7 +130,7 @@ impl<N: Naming + Places, T: Trail<PoolEntry>> Core<N, T> {
         requires within { ShareIsFull share.old 1 ≡ false }
         requires few { used share.old + 1 < 2 ^ 64 }
         ensures section { IfOk result (λ r. IsSection self.old self.new r.1) }
-        ensures asks { IfOk result (λ r. r.1.section ≡ page_for home share.old) }
+        ensures asks { IfOk result (λ r. r.1.section ≡ grant_one home share.old) }
         ensures some { IfOk result (λ r. IfSome r.0 (λ claim.
             (r.1.answer ≡ granted_at claim.node) × (share.new ≡ with_granted share.old))) }
         ensures one { IfOk result (λ r. IfSome r.0 (λ claim. claim.amount ≡ 1)) }
@@ -217,7 +217,7 @@ fn paged<N: Naming>(
     requires ready { IsReady pool.old }
     requires within { ShareIsFull share.old 1 ≡ false }
     requires few { used share.old + 1 < 2 ^ 64 }
-    ensures section { section pool.old (page_for home share.old) ≡ (result.1, pool.new) }
+    ensures section { section pool.old (grant_one home share.old) ≡ (result.1, pool.new) }
     ensures some { IfSome result.0 (λ claim. (result.1 ≡ granted_at claim.node)
         × (share.new ≡ with_granted share.old)) }
     ensures one { IfSome result.0 (λ claim. claim.amount ≡ 1) }

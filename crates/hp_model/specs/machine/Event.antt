@@ -30,15 +30,15 @@ IsFresh c slot = IsTrue (not (is_among c.stamp (stamps_in slot)))
 
 -- ---- what an event does
 
-abbrev pub settled : State → ℕ → Outcome → Reply × State
-settled s k (Refused r) = (Err r, s)
-settled s k (Answered a slot) = (Ok a, with_slot s k slot)
+abbrev pub with_outcome : State → ℕ → Outcome → Reply × State
+with_outcome s k (Refused r) = (Err r, s)
+with_outcome s k (Answered a slot) = (Ok a, with_slot s k slot)
 
 abbrev pub asked_pool : State → ℕ → PoolAnswer × Pool → (PoolAnswer → Outcome) → Reply × State
-asked_pool s k q f = settled (with_pool s q.1) k (f q.0)
+asked_pool s k q f = with_outcome (with_pool s q.1) k (f q.0)
 
 abbrev pub planned : State → ℕ → Plan → Reply × State
-planned s k (Finish o) = settled s k o
+planned s k (Finish o) = with_outcome s k o
 planned s k (Ask sec f) = asked_pool s k (section (pool_of s) (sec s.nr)) f
 
 abbrev pub with_table : State → Reply × Table → Reply × State

@@ -264,15 +264,15 @@ IsHome None a = ⊥
 IsHome (Some home) a = a ≡ Home home
 
 -- a step that reads answers what there was: the counts, the nodes' rows, a mount's numbers and names, a file's numbers and bytes, a task's home
-abbrev pub Tells : State → Step → Reply → Type 0
-Tells s (Attach task) (Ok a) = IsHome (home_of s.table task) a
-Tells s Meminfo (Ok a) = a ≡ Numbers (counts_in s)
-Tells s Nodes (Ok a) = a ≡ PerNode (length s.nodes) (node_counts (pool_of s))
-Tells s (Df k) (Ok a) = IsUsage (slot_at s k) a
-Tells s (Ls k) (Ok a) = IsListed (slot_at s k) a
-Tells s (Stat k name) (Ok a) = IsStat (named_on (slot_at s k) name) a
-Tells s (ReadStep k name i offset count) (Ok a) = IsRead s.page_size (named_on (slot_at s k) name) i offset count a
-Tells s step reply = Unit {0}
+abbrev pub AnswersWhatWas : State → Step → Reply → Type 0
+AnswersWhatWas s (Attach task) (Ok a) = IsHome (home_of s.table task) a
+AnswersWhatWas s Meminfo (Ok a) = a ≡ Numbers (counts_in s)
+AnswersWhatWas s Nodes (Ok a) = a ≡ PerNode (length s.nodes) (node_counts (pool_of s))
+AnswersWhatWas s (Df k) (Ok a) = IsUsage (slot_at s k) a
+AnswersWhatWas s (Ls k) (Ok a) = IsListed (slot_at s k) a
+AnswersWhatWas s (Stat k name) (Ok a) = IsStat (named_on (slot_at s k) name) a
+AnswersWhatWas s (ReadStep k name i offset count) (Ok a) = IsRead s.page_size (named_on (slot_at s k) name) i offset count a
+AnswersWhatWas s step reply = Unit {0}
 
 -- ---- what is made
 
@@ -448,7 +448,7 @@ pub record IsPromised (s : State) (step : Step) (reply : Reply) (t : State) : Ty
   -- a load answers what its map showed
   pub loads : ShowsMap s step reply
   -- and so do the steps that read counts, rows, a mount's numbers or a file
-  pub answers : Tells s step reply
+  pub answers : AnswersWhatWas s step reply
   -- what a name and a map's number mean, once they are made
   pub makes : Makes s step reply t
   -- and that a map which reserves has each index of its range reserved, in a file that is long enough

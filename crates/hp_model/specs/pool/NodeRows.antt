@@ -48,8 +48,8 @@ next_from kind from rows =
     if nat_lt ahead (length rows) then ahead else lowest kind rows
 
 -- the node after, and 0 after the last
-abbrev pub after : ℕ → List NodeRow → ℕ
-after i rows = if i + 1 == length rows then 0 else i + 1
+abbrev pub next_node : ℕ → List NodeRow → ℕ
+next_node i rows = if i + 1 == length rows then 0 else i + 1
 
 abbrev pub some_has : Kind → List NodeRow → Bool
 some_has kind rows = nat_lt (lowest kind rows) (length rows)
@@ -99,10 +99,10 @@ abbrev pub surplus_added : ℕ → NodeRows → NodeRows
 surplus_added home s = record s { rows = at_row add_surplus_row (near Idle home s.rows) s.rows }
 
 abbrev pub grown : NodeRows → NodeRows
-grown s = let i = next_from Idle s.growth s.rows in record s { rows = at_row grow_row i s.rows; growth = after i s.rows }
+grown s = let i = next_from Idle s.growth s.rows in record s { rows = at_row grow_row i s.rows; growth = next_node i s.rows }
 
 abbrev pub shrunk : NodeRows → NodeRows
-shrunk s = let i = next_from Free s.release s.rows in record s { rows = at_row shrink_row i s.rows; release = after i s.rows }
+shrunk s = let i = next_from Free s.release s.rows in record s { rows = at_row shrink_row i s.rows; release = next_node i s.rows }
 
 abbrev pub promoted : NodeRows → NodeRows
 promoted s = record s { rows = at_row promote_row (lowest Surplus s.rows) s.rows }

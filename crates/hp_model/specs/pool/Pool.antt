@@ -50,8 +50,8 @@ give_back_times zero s = s
 give_back_times (suc n) s = given_back (give_back_times n s)
 
 -- all that is not needed leaves
-abbrev pub settled : Pool → Pool
-settled p = record p { nodes = give_back_times (surp_of p.nodes.rows - (p.committed - p.nr)) p.nodes }
+abbrev pub trimmed : Pool → Pool
+trimmed p = record p { nodes = give_back_times (surp_of p.nodes.rows - (p.committed - p.nr)) p.nodes }
 
 -- what holds of every pool
 pub record IsPool (nr overcommit reserved : ℕ) (sum : NodeRow) : Type 0 where
@@ -101,9 +101,9 @@ section p (FillPages d n) =
     if can_grant d p
     then (filled_by (takes_of n (granted 0 d p)), pages_taken n (granted 0 d p))
     else (no_pages, p)
-section p (GiveBack puts k) = (granted_at 0, settled (released k (puts_from 0 puts p)))
+section p (GiveBack puts k) = (granted_at 0, trimmed (released k (puts_from 0 puts p)))
 section p (ReadAndGrant d) =
     if can_grant d p then (nr_answer true p, granted 0 d p) else (nr_answer false p, p)
-section p (ReadAndGiveBack k) = (nr_answer true p, settled (released k p))
+section p (ReadAndGiveBack k) = (nr_answer true p, trimmed (released k p))
 section p (GrantAndReturn d) =
-    if can_grant d p then (nr_answer true p, settled (released d (granted 0 d p))) else (nr_answer false p, p)
+    if can_grant d p then (nr_answer true p, trimmed (released d (granted 0 d p))) else (nr_answer false p, p)

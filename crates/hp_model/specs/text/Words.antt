@@ -58,13 +58,13 @@ word_at pieces = do
 -- ---- numbers
 
 -- 1 to 20 digits whose value is below 2^64, as in a mount's options
-abbrev pub number_of : List ℕ → Result ℕ Refusal
-number_of piece = ok_or (number_in piece) BadLine
+abbrev pub number_read : List ℕ → Result ℕ Refusal
+number_read piece = ok_or (number_in piece) BadLine
 
 unfoldable pub number_at : List (List ℕ) → Read ℕ
 number_at pieces = do
   piece ← piece_at pieces
-  number ← number_of piece.0
+  number ← number_read piece.0
   Ok (number, piece.1)
 
 -- ---- hex

@@ -80,9 +80,9 @@ text page_bytes replies = flat_map (line_of page_bytes) replies
 
 -- ---- the limits of what a reply says, by which there is room for its text
 
-abbrev pub IsWithinLimit : Option ℕ → Type 0
-IsWithinLimit None = Unit {0}
-IsWithinLimit (Some n) = n < 2 ^ 64
+abbrev pub IsSmallLimit : Option ℕ → Type 0
+IsSmallLimit None = Unit {0}
+IsSmallLimit (Some n) = n < 2 ^ 64
 
 abbrev pub HasSmallAnswer : Answer → Type 0
 HasSmallAnswer Done = Unit {0}
@@ -91,7 +91,7 @@ HasSmallAnswer (MapNo number) = number < 2 ^ 64
 HasSmallAnswer (Number n) = n < 2 ^ 64
 HasSmallAnswer (Bytes count bytes) = count ≤ most_bytes
 HasSmallAnswer (Stat len pages entries maps) = (len < 2 ^ 64) × (pages < 2 ^ 64) × (entries < 2 ^ 64) × (maps < 2 ^ 64)
-HasSmallAnswer (Usage max min used inodes files) = IsWithinLimit max × (min < 2 ^ 64) × (used < 2 ^ 64) × IsWithinLimit inodes × (files < 2 ^ 64)
+HasSmallAnswer (Usage max min used inodes files) = IsSmallLimit max × (min < 2 ^ 64) × (used < 2 ^ 64) × IsSmallLimit inodes × (files < 2 ^ 64)
 HasSmallAnswer (Names names) = (length names ≤ most_files) × All (λ name. length name ≤ most_name_bytes) names
 HasSmallAnswer (Numbers c) = (c.total ≤ most_nodes * most_frames) × (c.free ≤ c.total) × (c.rsvd ≤ c.total) × (c.surp ≤ c.total)
 HasSmallAnswer (PerNode nodes rows) = (nodes ≤ most_nodes) × All (λ r. (r.total ≤ most_frames) × (r.free ≤ r.total) × (r.surp ≤ r.total)) rows

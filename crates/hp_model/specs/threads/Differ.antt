@@ -63,15 +63,15 @@ entry_at t (AtSlot k) i = option_map (InSlot k) (slice_get (slot_trail t k) i)
 entry_at t AtPool i = option_and_then of_pool (slice_get t.pool i)
 
 -- the session's receipt at this place
-abbrev pub Has : List (List Receipt) → (session i : ℕ) → Receipt → Type 0
-Has sessions session i r = slice_get (slice_index_or sessions session []) i ≡ Some r
+abbrev pub HasReceipt : List (List Receipt) → (session i : ℕ) → Receipt → Type 0
+HasReceipt sessions session i r = slice_get (slice_index_or sessions session []) i ≡ Some r
 
 -- a receipt does not tell what stands at its place
 pub record WrongReceipt (t : Trails) (sessions : List (List Receipt)) : Type 0 where
   pub session : ℕ
   pub i : ℕ
   pub receipt : Receipt
-  pub has : Has sessions session i receipt
+  pub has : HasReceipt sessions session i receipt
   pub other : option_map event_of (entry_at t receipt.part receipt.place)
       ≢ Some (receipt.event, receipt.reply)
 
@@ -83,8 +83,8 @@ pub record ToldTwice (sessions : List (List Receipt)) : Type 0 where
   pub session' : ℕ
   pub i' : ℕ
   pub receipt' : Receipt
-  pub has : Has sessions session i receipt
-  pub has' : Has sessions session' i' receipt'
+  pub has : HasReceipt sessions session i receipt
+  pub has' : HasReceipt sessions session' i' receipt'
   pub apart : (session ≡ session') × (i ≡ i') → ⊥
   pub part : receipt.part ≡ receipt'.part
   pub place : receipt.place ≡ receipt'.place
@@ -95,7 +95,7 @@ pub record Untold (t : Trails) (sessions : List (List Receipt)) : Type 0 where
   pub place : ℕ
   pub entry : Entry
   pub there : entry_at t part place ≡ Some entry
-  pub untold : (session i : ℕ) (r : Receipt) → Has sessions session i r
+  pub untold : (session i : ℕ) (r : Receipt) → HasReceipt sessions session i r
       → (r.part ≡ part) × (r.place ≡ place) → ⊥
 
 -- ---- orders
@@ -112,7 +112,7 @@ IsBefore t sessions a i b j =
     ((a ≡ b) × (i < j))
     ⊎ (((m : ℕ) × (n : ℕ) × InPoolAt t a i m × InPoolAt t b j n × (m < n))
     ⊎ ((session : ℕ) × (m : ℕ) × (n : ℕ) × (r : Receipt) × (q : Receipt)
-    × Has sessions session m r × Has sessions session n q × (m < n)
+    × HasReceipt sessions session m r × HasReceipt sessions session n q × (m < n)
     × (r.part ≡ a) × (r.place ≡ i) × (q.part ≡ b) × (q.place ≡ j)))
 
 -- some events, each of which has another of them before it: no order has them all

@@ -6,7 +6,7 @@ ghost use Rattle.hp_model.specs.beside.Told.{told_reply};
 ghost use Rattle.hp_model.specs.Profile.{most_bytes};
 ghost use Rattle.hp_store.specs.Store.{Store as StoreValue};
 ghost use Rattle.hp_subpool.specs.Subpool.{Subpool as ShareValue};
-ghost use Rattle.hp_events.specs.Event.{event_of, shows_bytes};
+ghost use Rattle.hp_events.specs.Event.{as_event, shows_bytes};
 ghost use Rattle.hp_events.specs.Memory.{asks_memory};
 ghost use Rattle.hp_mount_laws.specs.Done.{IsDone};
 ghost use Rattle.hp_mount_laws.specs.Maps.{is_of_map};
@@ -45,9 +45,9 @@ impl<N: Naming> Mount<N> {
         requires room { shows_bytes event ≡ true → most_bytes ≤ length room.old }
         requires event { is_of_map event ≡ true }
         ensures done { (k : ℕ) → IsDone D.took D.is_full N.page_bytes k (Some self.old) door.old
-            (event_of home event.entry) (told_reply result) (Some self.new) door.new }
+            (as_event home event.entry) (told_reply result) (Some self.new) door.new }
         ensures left { D.is_left door.new }
-        ensures memory { asks_memory (Some self.old) (event_of home event.entry) ≡ false
+        ensures memory { asks_memory (Some self.old) (as_event home event.entry) ≡ false
             → told_reply result ≢ Err Refusal.OutOfMemory }
     {
         match event {

@@ -17,7 +17,7 @@ ghost use Rattle.hp_subpool.specs.Subpool.{Subpool as ShareValue};
 ghost use Rattle.hp_mount_laws.specs.Alone.{IsDoneAlone};
 ghost use Rattle.hp_mount_laws.specs.Done.{Tried, IsDone};
 ghost use Rattle.hp_mount_laws.specs.Reach.{first_of};
-ghost use Rattle.hp_mount_laws.specs.Making.{anon_plan, create_tests, map_event, map_plan, numbered, why_no_anon, why_no_map};
+ghost use Rattle.hp_mount_laws.specs.Making.{anon_plan, create_tests, map_event, map_plan, made_reply, why_no_anon, why_no_map};
 
 use super::Mount;
 use hp_model::naming::Naming;
@@ -163,7 +163,7 @@ impl<N: Naming> Mount<N> {
         requires number { next.number ≡ next_number range.now.task self.old }
         requires first { next.is_first ≡ not (is_among range.now.task (tasks_of self.old)) }
         ensures done { Tried D.took D.is_full (map_plan self.old range.now next.number home file)
-            (Some self.old) door.old (numbered next.number result) (Some self.new) door.new }
+            (Some self.old) door.old (made_reply next.number result) (Some self.new) door.new }
         ensures left { D.is_left door.new }
     {
         let wanted = self.files.wanted(file, range);
@@ -280,7 +280,7 @@ impl<N: Naming> Mount<N> {
         requires number { next.number ≡ next_number range.now.task self.old }
         requires first { next.is_first ≡ not (is_among range.now.task (tasks_of self.old)) }
         ensures done { Tried D.took D.is_full (anon_plan self.old range.now next.number home)
-            (Some self.old) door.old (numbered next.number result) (Some self.new) door.new }
+            (Some self.old) door.old (made_reply next.number result) (Some self.new) door.new }
         ensures left { D.is_left door.new }
     {
         if self.share.is_full(range.wanted_alone()) {

@@ -13,7 +13,7 @@ ghost use Rattle.hp_lookup.specs.Places.{shown_at};
 ghost use Rattle.hp_file.specs.States.{AreAgreed, IsCopyState};
 ghost use Rattle.hp_subpool.specs.Subpool.{Subpool as ShareValue};
 ghost use Rattle.hp_mount_laws.specs.Done.{IsAccessed};
-ghost use Rattle.hp_mount_laws.specs.Reach.{IsTouched, NeedsCopy, has_reserve, shows_page as is_shown, spot_at};
+ghost use Rattle.hp_mount_laws.specs.Reach.{IsFileTouched, NeedsCopy, has_reserve, shows_page as is_shown, spot_at};
 
 use super::Mount;
 use hp_model::naming::Naming;
@@ -73,7 +73,7 @@ impl<N: Naming> Mount<N> {
             self.old door.old result self.new door.new }
         ensures left { D.is_left door.new }
         ensures memory { result ≢ Err Refusal.OutOfMemory }
-        ensures same { IsTouched self.old self.new at.file }
+        ensures same { IsFileTouched self.old self.new at.file }
         ensures once { result ≡ Ok tt → IsCopyState CopyState.HeldOnce (file_in self.new at.file)
             (place_at (map_in (file_in self.new at.file) at.map) index) }
     {
@@ -102,7 +102,7 @@ impl<N: Naming> Mount<N> {
         ensures done { IsAccessed D.took D.is_full N.page_bytes home at index intent
             self.old door.old result self.new door.new }
         ensures left { D.is_left door.new }
-        ensures same { IsTouched self.old self.new at.file }
+        ensures same { IsFileTouched self.old self.new at.file }
         ensures once { result ≡ Ok tt → IsCopyState CopyState.HeldOnce (file_in self.new at.file)
             (place_at (map_in (file_in self.new at.file) at.map) index) }
     {
@@ -146,12 +146,12 @@ impl<N: Naming> Mount<N> {
         ensures left { D.is_left door.new }
         ensures memory { has_reserve (map_in (file_in self.old at.file) at.map) index ≡ true
             → result ≢ Err Refusal.OutOfMemory }
-        ensures same { IsTouched self.old self.new at.file }
+        ensures same { IsFileTouched self.old self.new at.file }
         ensures once { intent ≡ Write → result ≡ Ok tt →
             IsCopyState CopyState.HeldOnce (file_in self.new at.file)
             (place_at (map_in (file_in self.new at.file) at.map) index) }
     {
-        if self.files.map(at).is_unmapped() {
+        if self.files.map(at).is_marked() {
             return Err(Refusal::TakenByOwner);
         }
         if shows_page(&self.files, at.file, index, intent) {
@@ -188,7 +188,7 @@ impl<N: Naming> Mount<N> {
             self.old door.old result self.new door.new }
         ensures left { D.is_left door.new }
         ensures memory { result ≢ Err Refusal.OutOfMemory }
-        ensures same { IsTouched self.old self.new at.file }
+        ensures same { IsFileTouched self.old self.new at.file }
         ensures once { result ≡ Ok tt → IsCopyState CopyState.HeldOnce (file_in self.new at.file)
             (place_at (map_in (file_in self.new at.file) at.map) index) }
     {
@@ -243,7 +243,7 @@ impl<N: Naming> Mount<N> {
         ensures left { D.is_left door.new }
         ensures memory { is_backed intent (Some (spot_at self.old at.file at.map)) index ≡ true
             → result ≢ Err Refusal.OutOfMemory }
-        ensures same { IsTouched self.old self.new at.file }
+        ensures same { IsFileTouched self.old self.new at.file }
         ensures once { intent ≡ Write → result ≡ Ok tt →
             IsCopyState CopyState.HeldOnce (file_in self.new at.file)
             (place_at (map_in (file_in self.new at.file) at.map) index) }

@@ -14,7 +14,7 @@ ghost use Rattle.hp_lookup.specs.declared.copy_state.CopyState.TheVariants as Co
 ghost use Rattle.hp_file.specs.States.{IsCopyState};
 ghost use Rattle.hp_subpool.specs.Subpool.{Subpool as ShareValue};
 ghost use Rattle.hp_mount_laws.specs.Done.{IsAccessed, IsDone, IsReached};
-ghost use Rattle.hp_mount_laws.specs.Reach.{IsTouched, spot_at};
+ghost use Rattle.hp_mount_laws.specs.Reach.{IsFileTouched, spot_at};
 ghost use Rattle.hp_mount.specs.Found.{spot_of};
 
 use super::Mount;
@@ -61,7 +61,7 @@ impl<N: Naming> Mount<N> {
             self.old door.old result self.new door.new }
         ensures left { D.is_left door.new }
         ensures memory { result ≢ Err Refusal.OutOfMemory }
-        ensures same { IsTouched self.old self.new file }
+        ensures same { IsFileTouched self.old self.new file }
     {
         let mut page = door.take_page(&mut self.share, home)?;
         page.zero();
@@ -87,7 +87,7 @@ impl<N: Naming> Mount<N> {
         ensures done { IsReached D.took D.is_full N.page_bytes home file index
             self.old door.old result self.new door.new }
         ensures left { D.is_left door.new }
-        ensures same { IsTouched self.old self.new file }
+        ensures same { IsFileTouched self.old self.new file }
     {
         if self.share.is_full(1) {
             return Err(Refusal::MountFull);
@@ -129,7 +129,7 @@ impl<N: Naming> Mount<N> {
         ensures left { D.is_left door.new }
         ensures memory { is_entered (cell_at (file_in self.old file) index) ≡ true
             → result ≢ Err Refusal.OutOfMemory }
-        ensures same { IsTouched self.old self.new file }
+        ensures same { IsFileTouched self.old self.new file }
     {
         match self.files.cell(file, index) {
             CellState::Present => Ok(()),
@@ -160,7 +160,7 @@ impl<N: Naming> Mount<N> {
         ensures left { D.is_left door.new }
         ensures memory { is_backed intent (Some (spot_at self.old at.file at.map)) index ≡ true
             → result ≢ Err Refusal.OutOfMemory }
-        ensures same { IsTouched self.old self.new at.file }
+        ensures same { IsFileTouched self.old self.new at.file }
         ensures once { intent ≡ Write → result ≡ Ok tt
             → is_shared (map_in (file_in self.old at.file) at.map).sharing ≡ false
             → IsCopyState CopyState.HeldOnce (file_in self.new at.file)

@@ -12,7 +12,7 @@ ghost use Rattle.hp_model.specs.machine.SlotEvent.{unentered};
 ghost use Rattle.hp_mount_door.specs.Door.{by_node};
 ghost use Rattle.hp_mount_door.specs.Filling.{AreRising};
 ghost use Rattle.hp_lookup.specs.Files.{file_at, filled_at};
-ghost use Rattle.hp_file.specs.Filling.{IsTaking, entered_at, pages_at, reply_of, zeros_at};
+ghost use Rattle.hp_file.specs.Filling.{IsTaking, entered_at, pages_put, reply_of, zeros_at};
 ghost use Rattle.hp_store.specs.Batch.{Batch as BatchValue};
 ghost use Rattle.hp_subpool.specs.Subpool.{Subpool as ShareValue, is_full, used};
 
@@ -179,7 +179,7 @@ impl<N: Naming> Files<N> {
         requires pages { share.old.pages ≡ sum_by file_pages self.old.files }
         ensures filled { OnOk result ((takes : List ℕ)
             × IsTaking D.took D.is_full k count share.old door.old result takes share.new door.new
-            × (self.new ≡ pages_at N.page_bytes file from to (rising_nodes count takes)
+            × (self.new ≡ pages_put N.page_bytes file from to (rising_nodes count takes)
             (max self.old.room (share.old.held + k) - count) self.old)) }
         ensures err { OnErr result (self.new ≡ record self.old { room = self.new.room }) }
         ensures more { OnErr result (self.old.room ≤ self.new.room) }
@@ -226,7 +226,7 @@ impl<N: Naming> Files<N> {
         requires pages { share.old.pages ≡ sum_by file_pages self.old.files }
         ensures filled { OnOk result ((takes : List ℕ)
             × IsTaking D.took D.is_full k count share.old door.old result takes share.new door.new
-            × (self.new ≡ pages_at N.page_bytes file from to (rising_nodes count takes)
+            × (self.new ≡ pages_put N.page_bytes file from to (rising_nodes count takes)
             (max self.old.room (share.old.held + k) - count) self.old)) }
         ensures err { OnErr result (self.new ≡ record self.old { room = self.new.room }) }
         ensures more { OnErr result (self.old.room ≤ self.new.room) }

@@ -1,7 +1,7 @@
 //! Files and maps that are lent, to be asked.
 ghost use Rattle.std.specs.Prelude.{◌<◌, length};
 ghost use Rattle.hp_lookup.specs.Files.{file_at};
-ghost use Rattle.hp_lookup.specs.Places.{map_at};
+ghost use Rattle.hp_lookup.specs.Places.{map_among};
 ghost use Rattle.hp_mount_files.specs.Lent.{IsLent, IsMapLent};
 
 use super::Files;
@@ -25,7 +25,7 @@ impl<N: Naming> Files<N> {
     pub fn map(&self, at: MapPlace) -> &Mapping
         requires file { at.file < length self.now.files }
         requires map { at.map < length (file_at self.now.files at.file).maps }
-        ensures { IsMapLent (map_at self.now.files at.file at.map) result.now }
+        ensures { IsMapLent (map_among self.now.files at.file at.map) result.now }
     {
         self.list[at.file].map(at.map)
     }

@@ -7,7 +7,7 @@ ghost use Rattle.hp_model.specs.beside.Accesses.{bytes_reply, done_reply, load_s
 ghost use Rattle.hp_model.specs.beside.Told.{told_answer, told_reply};
 ghost use Rattle.hp_model.specs.text.Writing.{IsWithinLimits};
 ghost use Rattle.hp_model.specs.Profile.{most_bytes};
-ghost use Rattle.hp_events.specs.Event.{event_of, shows_bytes};
+ghost use Rattle.hp_events.specs.Event.{as_event, shows_bytes};
 ghost use Rattle.hp_events.specs.SlotWork.{AreCopiesFor, asked_event, carries, is_of_maps, needs_room};
 ghost use Rattle.hp_events.specs.Replies.{table_reply};
 ghost use Rattle.hp_events.specs.declared.work.Work.TheVariants.{Attach as AttachATask, OfTask as OfATask, OnSlot as OnASlot, Pool as ThePool};
@@ -212,7 +212,7 @@ impl<P: Parts> Session<P> {
         room: &'b mut [u8],
     ) -> Result<Told<'b>, Refusal>
         requires room { shows_bytes event ≡ true → most_bytes ≤ length room.old }
-        requires apart { lists_names (event_of 0 event) ≡ false }
+        requires apart { lists_names (as_event 0 event) ≡ false }
         ensures worked { IsWorked P.keeps P.page self.old (OnASlot slot event.entry)
             (told_reply result) self.new }
         ensures limits { IsWithinLimits (told_reply result) }
@@ -255,12 +255,12 @@ impl<P: Parts> Session<P> {
         room: &'b mut [u8],
     ) -> Result<Told<'b>, Refusal>
         requires room { shows_bytes event ≡ true → most_bytes ≤ length room.old }
-        requires apart { lists_names (event_of 0 event) ≡ false }
+        requires apart { lists_names (as_event 0 event) ≡ false }
         ensures worked { IsWorked P.keeps P.page self.old (OfATask task slot event.entry)
             (told_reply result) self.new }
         ensures limits { IsWithinLimits (told_reply result) }
         ensures answer { IfOk result (λ told.
-            HasAnswerOf (event_of 0 event.entry) (told_answer told)) }
+            HasAnswerOf (as_event 0 event.entry) (told_answer told)) }
     {
         if self.lacks(2) {
             return Err(Refusal::TraceFull);

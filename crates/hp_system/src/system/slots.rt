@@ -10,7 +10,7 @@ ghost use Rattle.hp_model.specs.machine.State.{slot_at};
 ghost use Rattle.hp_model.specs.beside.Told.{told_reply};
 ghost use Rattle.hp_model.specs.text.Writing.{IsWithinLimits};
 ghost use Rattle.hp_model.specs.Profile.{most_bytes};
-ghost use Rattle.hp_events.specs.Event.{event_of, is_usage};
+ghost use Rattle.hp_events.specs.Event.{as_event, is_usage};
 ghost use Rattle.hp_events.specs.Memory.{asks_memory};
 ghost use Rattle.hp_system.specs.Event.{AreExited, AreForked, DoesOfTask, DoesOnSlot, IsForkedOn, mapped_slots};
 ghost use Rattle.hp_model.specs.machine.Ready.{IsReadyMachine};
@@ -150,11 +150,11 @@ impl<N: Naming> System<N> {
     )
         requires ready { IsReadyMachine self.old }
         requires room { most_bytes ≤ length room.old }
-        ensures done { DoesOnSlot self.old.state slot (event_of home event.now)
+        ensures done { DoesOnSlot self.old.state slot (as_event home event.now)
             (told_reply reply.new) self.new.state }
-        ensures memory { asks_memory (slot_at self.old.state slot) (event_of home event.now)
+        ensures memory { asks_memory (slot_at self.old.state slot) (as_event home event.now)
             ≡ false → told_reply reply.new ≢ Err Refusal.OutOfMemory }
-        ensures limits { is_usage (event_of home event.now) ≡ true
+        ensures limits { is_usage (as_event home event.now) ≡ true
             → IsWithinLimits (told_reply reply.new) }
         ensures size { self.new.state.page_size ≡ self.old.state.page_size }
         ensures ready { IsReadyMachine self.new }
@@ -184,9 +184,9 @@ impl<N: Naming> System<N> {
     )
         requires ready { IsReadyMachine self.old }
         requires room { most_bytes ≤ length room.old }
-        ensures done { DoesOfTask self.old.state task slot (λ home. event_of home event.now)
+        ensures done { DoesOfTask self.old.state task slot (λ home. as_event home event.now)
             (told_reply reply.new) self.new.state }
-        ensures memory { asks_memory (slot_at self.old.state slot) (event_of 0 event.now) ≡ false
+        ensures memory { asks_memory (slot_at self.old.state slot) (as_event 0 event.now) ≡ false
             → told_reply reply.new ≢ Err Refusal.OutOfMemory }
         ensures size { self.new.state.page_size ≡ self.old.state.page_size }
         ensures ready { IsReadyMachine self.new }

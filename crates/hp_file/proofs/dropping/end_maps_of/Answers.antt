@@ -4,7 +4,7 @@ use Rattle.std.specs.List.{count_by, sum_by}
 use Rattle.std.proofs.lemmas.List.Sums.{get_or-le-sum_by, sum_by-set, sum_by_more}
 use Rattle.hp_model.specs.files.Mapping.{Mapping, is_map}
 use Rattle.hp_lookup.specs.Held.{in_map}
-use Rattle.hp_lookup.specs.Leaving.{ended_for, map_named, owed}
+use Rattle.hp_lookup.specs.Leaving.{ended_for, one_if_named, owed}
 use Rattle.hp_file.proofs.Drops.{drop_then}
 use Rattle.hp_file.proofs.Leaves.{gone_then}
 use Rattle.hp_file.proofs.Punched.{first_next, first_step}
@@ -25,10 +25,10 @@ loop-map-preserved g c =
       first_step (ended_for c.args.task) i c.args.maps.now was.maps c.map-item.result n c.loop-map-test.true was.invariant.1 one.ensures.map,
       one.ensures.counted,
       (let step = sum_by-set owed was.maps i n c.map-item.result inside in let had = was.invariant.3 in let left = one.ensures.reserves in omega (arith, step, had, left)),
-      gone_then c.args.task (λ n. count_by (is_map c.args.task n) (take i c.args.maps.now)) (map_named c.args.task m) (λ n. count_by (is_map c.args.task n) (take (i + 1) c.args.maps.now))
+      gone_then c.args.task (λ n. count_by (is_map c.args.task n) (take i c.args.maps.now)) (one_if_named c.args.task m) (λ n. count_by (is_map c.args.task n) (take (i + 1) c.args.maps.now))
           c.args.hints.now was.hints one.new.hints was.invariant.4 one.ensures.hints
           (λ n. (let step = sum_by_more (λ (q : Mapping ℕ). cond {A = ℕ} (is_map c.args.task n q) 1 0) c.args.maps.now i c.map-item.result c.loop-map-test.true in
-          let here = ap (λ (q : Mapping ℕ). map_named c.args.task q n) (ap (λ qs. slice_index_or qs i c.map-item.result) was.invariant.1
+          let here = ap (λ (q : Mapping ℕ). one_if_named c.args.task q n) (ap (λ qs. slice_index_or qs i c.map-item.result) was.invariant.1
           ∙ first_next (ended_for c.args.task) i c.args.maps.now c.map-item.result c.loop-map-test.true) in omega (arith, step, here))),
     )
 

@@ -2,7 +2,7 @@ use Rattle.std.proofs.Common.{◌≡◌, ◌+◌, ◌∷◌, ◌++◌, [], ap, a
 use Rattle.std.specs.Prelude.{slice_index_or}
 use Rattle.std.specs.List.{sum_by}
 use Rattle.std.proofs.lemmas.List.{length-append, length-take-le, take_more}
-use Rattle.hp_lookup.specs.Forking.{AreReady, maps_of}
+use Rattle.hp_lookup.specs.Forking.{AreReady, maps_by}
 use Rattle.hp_file.proofs.Joining.{fewer_behind, more_within, ready_push, ready_rest}
 use Rattle.hp_file.proofs.fork_lists.children_among_all.Goals as goal
 
@@ -42,7 +42,7 @@ loop-left-preserved c =
     let counted : length all ≡ length vs + 1 = ap length c.push_reserved.ensures.items ∙ length-append vs (v ∷ []) in
     let taken : take (length vs + 1) fs ≡ take (length vs) fs ++ f ∷ [] = take_more fs (length vs) f within ∙ ap (λ y. take (length vs) fs ++ y ∷ []) (sym read) in
     let behind = fewer_behind parent child fs vs f v within read c.in_ok-list.ensures in
-    let rest = ap (λ n. sum_by (maps_of parent) (drop n fs)) counted in
+    let rest = ap (λ n. sum_by (maps_by parent) (drop n fs)) counted in
     let own : c.len-in-loop-left.result ≡ length v.items = search rules in
     record {
       ready =

@@ -1,13 +1,13 @@
 use Rattle.std.proofs.Common.{◌≡◌, ◌-◌, ◌≤◌, drop, length, take}
 use Rattle.std.specs.Prelude.{vec_capacity}
 use Rattle.std.specs.List.{sum_by}
-use Rattle.hp_lookup.specs.Forking.{AreReady, maps_of}
+use Rattle.hp_lookup.specs.Forking.{AreReady, maps_by}
 use Rattle.hp_file.proofs.fork_lists.children_among_all.Given as goal
 
 abbrev pub invariant-loop-left : goal.invariant-loop-left
 invariant-loop-left l = record {
   ready : AreReady l.parent l.child (take (length l.lists.items) l.files.files) l.lists.items;
-  left : l.left ≡ sum_by (maps_of l.parent) (drop (length l.lists.items) l.files.files);
+  left : l.left ≡ sum_by (maps_by l.parent) (drop (length l.lists.items) l.files.files);
   room : length l.files.files ≤ vec_capacity l.lists;
 }
 

@@ -2,7 +2,7 @@ use Rattle.std.proofs.Common.{◌≡◌, [], ℕ, ◌+◌, ◌-◌, ap, arith, l
 use Rattle.std.specs.List.{sum_by}
 use Rattle.std.proofs.lemmas.List.{get_or-set_same, nil_from_length}
 use Rattle.std.proofs.lemmas.List.Sums.{sum_by_push, sum_by-take-le}
-use Rattle.hp_lookup.specs.Forking.{HasNoted, HasRoom, HaveNoted, HaveRoom, in_list, in_lists, joined, joined_at, list_copies, maps_of, with_list}
+use Rattle.hp_lookup.specs.Forking.{HasNoted, HasRoom, HaveNoted, HaveRoom, in_list, in_lists, joined, joined_at, list_copies, maps_by, with_list}
 use Rattle.hp_lookup.specs.Numbered.{numbered_at}
 use Rattle.hp_lookup.proofs.Cells.{no_file}
 use Rattle.hp_file.proofs.Joining.{last_joined, last_keys, last_none, last_room, last_within, none_joined, rest_none, rest_room}
@@ -12,7 +12,7 @@ use Rattle.hp_file.proofs.fork_lists.join_all.Goals as goal
 
 pub loop-list-init : goal.loop-list-init
 loop-list-init g c =
-    let few = sum_by-take-le (maps_of c.args.child) c.args.files.now.files (length c.args.lists.items) in
+    let few = sum_by-take-le (maps_by c.args.child) c.args.files.now.files (length c.args.lists.items) in
     record {
       room = c.requires.room;
       files = search rules;
@@ -50,11 +50,11 @@ join_at-requires-clause-keys g c =
     let v = c.in-Some.list in
     let split = c.in-Some.ensures.items in
     let room = subst (HaveRoom fs) split was.room in
-    let none = subst (λ ws. sum_by (maps_of c.args.child) (take (length ws) fs) ≡ 0) split was.none in
+    let none = subst (λ ws. sum_by (maps_by c.args.child) (take (length ws) fs) ≡ 0) split was.none in
     let long : c.len-at.result ≡ length vs = search rules in
-    let own = ap (λ k. maps_of c.args.child (with_list (numbered_at fs k) v)) long in
+    let own = ap (λ k. maps_by c.args.child (with_list (numbered_at fs k) v)) long in
     let most = last_keys c.args.child fs vs v room none in
-    let all = ap (sum_by (maps_of c.args.child)) (ap (joined fs) (sym split) ∙ was.files) in
+    let all = ap (sum_by (maps_by c.args.child)) (ap (joined fs) (sym split) ∙ was.files) in
     let left = was.noted.room in
     omega (arith, own, most, all, left, c.requires.keys)
 
@@ -67,7 +67,7 @@ loop-list-preserved g c =
     let v = c.in-Some.list in
     let split = c.in-Some.ensures.items in
     let room = subst (HaveRoom fs) split was.invariant.room in
-    let none = subst (λ ws. sum_by (maps_of child) (take (length ws) fs) ≡ 0) split was.invariant.none in
+    let none = subst (λ ws. sum_by (maps_by child) (take (length ws) fs) ≡ 0) split was.invariant.none in
     let within = last_within fs vs v room in
     let long : c.len-at.result ≡ length vs = search rules in
     let y = with_list (numbered_at fs (length vs)) v in
@@ -79,7 +79,7 @@ loop-list-preserved g c =
     record {
       room = subst (λ gs. HaveRoom gs vs) (sym files_are) (rest_room fs vs v y room);
       files = ap (λ gs. joined gs vs) files_are ∙ last_joined fs vs v no_file room ∙ ap (joined fs) (sym split) ∙ was.invariant.files;
-      none = ap (λ gs. sum_by (maps_of child) (take (length vs) gs)) files_are ∙ rest_none child fs vs v room none;
+      none = ap (λ gs. sum_by (maps_by child) (take (length vs) gs)) files_are ∙ rest_none child fs vs v room none;
       noted = subst (λ gs. HaveNoted child gs c.args.hints.now c.join_at.new.hints) (sym files_are)
           (noted_at child fs (length vs) y c.args.hints.now was.hints c.join_at.new.hints within (last_none child fs vs v room none) was.invariant.noted
           (subst (λ f. HasNoted child f was.hints c.join_at.new.hints) own_is c.join_at.ensures.noted));

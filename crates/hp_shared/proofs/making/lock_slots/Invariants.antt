@@ -1,6 +1,6 @@
 use Rattle.std.proofs.Common.{◌≡◌, ◌≤◌, ◌<◌, ◌+◌, []}
 use Rattle.std.specs.Prelude.{replicate, vec_len, vec_capacity}
-use Rattle.hp_history.specs.History.{slots_from}
+use Rattle.hp_history.specs.History.{held_from}
 use Rattle.hp_shared.proofs.making.lock_slots.Given as goal
 
 abbrev pub invariant-loop-trail : goal.invariant-loop-trail
@@ -9,7 +9,7 @@ invariant-loop-trail g l = record {
   some : 0 < vec_len l.locks;
   room : vec_len l.fn.trails ≤ vec_capacity l.locks;
   named : l.seat.table_id ≡ g.N.Places.history;
-  slots : l.seat.me ≡ (slots_from (vec_len l.locks) (replicate (vec_len l.rest) []), []);
+  slots : l.seat.me ≡ (held_from (vec_len l.locks) (replicate (vec_len l.rest) []), []);
 }
 
 abbrev pub decreases-loop-trail : goal.decreases-loop-trail

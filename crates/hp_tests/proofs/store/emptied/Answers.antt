@@ -4,12 +4,12 @@ use Rattle.std.proofs.lemmas.Bool.{cases_eq, cases_lt}
 use Rattle.std.proofs.lemmas.Grind.{common_steps}
 use Rattle.std.proofs.lemmas.List.{get_or-set_same, get_or-set_other, get_or_past, length-set}
 use Rattle.hp_model.specs.files.Page.{Page}
-use Rattle.hp_store.specs.Store.{Holding, Store, page_at, holders_of, page_of, with_page, dropped, dropped_by}
+use Rattle.hp_store.specs.Store.{Holding, Store, page_at, holders_of, held_page, with_page, dropped, dropped_by}
 use Rattle.hp_tests.proofs.store.emptied.Goals as goal
 
 -- the last holder of a page drops it
 last_drop : (s : Store) (at : ℕ) (o : Option Holding) → holders_of o ≡ 1
-    → (h : Holding) × (dropped_by at o s ≡ record (with_page at None s) { going = s.going ++ page_of h ∷ [] })
+    → (h : Holding) × (dropped_by at o s ≡ record (with_page at None s) { going = s.going ++ held_page h ∷ [] })
 last_drop s at None e = absurd (omega arith)
 last_drop s at (Some h) e = (h, rw e refl)
 
@@ -44,5 +44,5 @@ close-requires-clause-going g c =
     let s = c.args.store in
     let at = c.args.number in
     let d = last_drop s at (page_at s at) c.requires.alone in
-    let one : c.drop_one.new.self.going ≡ page_of d.0 ∷ [] = ap (λ t. t.going) (c.drop_one.ensures.dropped ∙ d.1) ∙ ap (λ xs. xs ++ page_of d.0 ∷ []) c.requires.going in
-    pops_all c.next_going.new.self.going c.next_going.result (page_of d.0) (rw one at c.next_going.ensures.some) (rw one at c.next_going.ensures.going)
+    let one : c.drop_one.new.self.going ≡ held_page d.0 ∷ [] = ap (λ t. t.going) (c.drop_one.ensures.dropped ∙ d.1) ∙ ap (λ xs. xs ++ held_page d.0 ∷ []) c.requires.going in
+    pops_all c.next_going.new.self.going c.next_going.result (held_page d.0) (rw one at c.next_going.ensures.some) (rw one at c.next_going.ensures.going)

@@ -1,5 +1,5 @@
 use Rattle.std.proofs.Common.{Some, map, ap, sym, ◌∙◌}
-use Rattle.hp_lookup.specs.Leaving.{least_among, least_of}
+use Rattle.hp_lookup.specs.Leaving.{least_among, lesser_task}
 use Rattle.hp_lookup.specs.Numbered.{NumberedFile}
 use Rattle.std.proofs.lemmas.List.{take_all}
 use Rattle.hp_file.proofs.FirstTask.{next_map, none_yet}
@@ -12,7 +12,7 @@ pub loop-map-preserved : goal.loop-map-preserved
 loop-map-preserved c =
     let was = c.loop-map in
     let m = c.map-item.result in
-    ap Some (c.lesser.ensures ∙ ap (least_of was.least) c.task.ensures ∙ ap (λ k. least_of k m.task) was.invariant)
+    ap Some (c.lesser.ensures ∙ ap (lesser_task was.least) c.task.ensures ∙ ap (λ k. lesser_task k m.task) was.invariant)
     ∙ next_map c.args.known c.as_slice-maps.result.now was.map-index m c.loop-map-test.true c.map-item.is
 
 pub returns : goal.returns

@@ -1,7 +1,7 @@
 use Rattle.std.proofs.Common.{◌≡◌, ◌++◌, ◌∷◌, [], arith, ap, subst, sym, ◌∙◌}
 use Rattle.std.specs.Prelude.{slice_set, vec_capacity}
 use Rattle.std.proofs.lemmas.List.{append-nil}
-use Rattle.hp_file.specs.FileList.{IsOrder, Listed, files_in}
+use Rattle.hp_file.specs.FileList.{IsFileOrder, Listed, files_in}
 use Rattle.hp_file.proofs.Listed.{pushed_files, pushed_order, taken_files, taken_order}
 use Rattle.hp_file.proofs.file_list.FileList.push.Goals as goal
 
@@ -9,8 +9,8 @@ module _ (c : goal.After-push_reserved) where
   order_is : c.push_reserved.new.self.items ≡ c.self.inside.order.items ++ c.in-Some.number ∷ []
   order_is = c.push_reserved.ensures.items ∙ ap (λ number. c.self.inside.order.items ++ number ∷ []) c.new.ensures
 
-  was : IsOrder c.self.inside.files.len c.self.inside.order.items (c.pop.new.self.items ++ c.in-Some.number ∷ []) (vec_capacity c.self.inside.vacant)
-  was = subst (λ vacant. IsOrder c.self.inside.files.len c.self.inside.order.items vacant (vec_capacity c.self.inside.vacant)) c.in-Some.ensures.items c.self.invariant
+  was : IsFileOrder c.self.inside.files.len c.self.inside.order.items (c.pop.new.self.items ++ c.in-Some.number ∷ []) (vec_capacity c.self.inside.vacant)
+  was = subst (λ vacant. IsFileOrder c.self.inside.files.len c.self.inside.order.items vacant (vec_capacity c.self.inside.vacant)) c.in-Some.ensures.items c.self.invariant
 
 pub invariant_of-self : goal.invariant_of-self
 invariant_of-self c =

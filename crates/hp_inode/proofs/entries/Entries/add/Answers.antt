@@ -1,7 +1,7 @@
 use Rattle.std.proofs.Common.{◌≡◌, ◌+◌, ◌-◌, ◌*◌, ◌/◌, ◌%◌, ◌<◌, ◌≤◌, ◌||◌, true, [], set, Some, length, ltb, refl, ap, ◌∙◌, arith}
 use Rattle.std.proofs.Math.Bool.{or-false}
 use Rattle.hp_model.specs.beside.Ranges.{within}
-use Rattle.hp_inode.specs.Blocks.{has_place}
+use Rattle.hp_inode.specs.Blocks.{has_word_for}
 use Rattle.hp_inode.specs.Later.{contents}
 use Rattle.hp_marks.specs.Marks.{marked}
 use Rattle.hp_inode.proofs.Blocks.{room_for, added, changed_there, near_changed, near_room, others_stay_there}
@@ -11,7 +11,7 @@ use Rattle.hp_inode.proofs.entries.Entries.add.Goals as goal
 pub add-requires : goal.add-requires
 add-requires c less =
     let blocks = c.self.inside.blocks in
-    let has : has_place (contents [] blocks) (c.args.b - 1) ≡ true = rw c.self.view_is (c.requires (c.args.b - 1) (omega (arith, less)) (omega (arith, less))) in
+    let has : has_word_for (contents [] blocks) (c.args.b - 1) ≡ true = rw c.self.view_is (c.requires (c.args.b - 1) (omega (arith, less)) (omega (arith, less))) in
     omega (arith, near_room (contents [] blocks) c.args.b (omega (arith, less)) c.if-b-le-BLOCK.true has, ap length (block_there [] blocks 0 c.first_mut.result.now c.first_mut.ensures.value))
 
 pub returns-then-b-le-BLOCK : goal.returns-then-b-le-BLOCK

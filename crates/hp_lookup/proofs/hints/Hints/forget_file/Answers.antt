@@ -5,7 +5,7 @@ use Rattle.std.proofs.lemmas.Slice.Eq.{bytes_eq-Decides}
 use Rattle.std.specs.List.{swap_remove}
 use Rattle.std.proofs.lemmas.Option.{get_or_from_slice_get, slice_get_within}
 use Rattle.indexmap.specs.IndexMap.{Updates, spare}
-use Rattle.hp_lookup.specs.Hints.{IsMoreBut, Noted, has_name, keys_of, names_of}
+use Rattle.hp_lookup.specs.Hints.{IsMoreBut, Noted, is_noted_as, keys_of, names_of}
 use Rattle.hp_lookup.proofs.Hinted.{key_still_out, keyed_at, not_found, others_stay, rest_stay, still_out}
 use Rattle.hp_lookup.proofs.hints.Hints.forget_file.Goals as goal
 
@@ -40,11 +40,11 @@ returns-then-is_noted_at c =
       names = λ other apart e.
           rest_stay (λ (k : List ℕ). k) (bytes_eq other) old at entry (slice_get_within old at entry noted.1)
           (ap (λ p. bytes_eq other p.0) (get_or_from_slice_get old at entry entry noted.1) ∙ not_both name other name apart ((bytes_eq-Decides name name).1 refl))
-          (subst (λ es. has_name other (record { names = names_of es; keys = []; room = 0 }) ≡ false) left e);
+          (subst (λ es. is_noted_as other (record { names = names_of es; keys = []; room = 0 }) ≡ false) left e);
       keys = λ task number e. e;
       less = record {
         names = λ other e.
-            subst (λ es. has_name other (record { names = names_of es; keys = []; room = 0 }) ≡ false) (sym left)
+            subst (λ es. is_noted_as other (record { names = names_of es; keys = []; room = 0 }) ≡ false) (sym left)
             (still_out (λ (k : List ℕ). k) (bytes_eq other) old at entry (slice_get_within old at entry noted.1) e);
         keys = λ task number e. e;
       };
@@ -58,11 +58,11 @@ returns-else-is_noted_at c =
       gone = not_found (λ (k : List ℕ). k) (bytes_eq c.args.name.now) _ (λ k. refl) new c.swap_remove-noted.ensures.updates.1;
       names = λ other apart e.
           others_stay (λ (k : List ℕ). k) (bytes_eq other) _ (λ k own. not_both c.args.name.now other k apart own) c.self.inside.files.entries
-          (subst (λ es. has_name other (record { names = names_of es; keys = []; room = 0 }) ≡ false) c.swap_remove-noted.ensures.entries e);
+          (subst (λ es. is_noted_as other (record { names = names_of es; keys = []; room = 0 }) ≡ false) c.swap_remove-noted.ensures.entries e);
       keys = λ task number e. e;
       less = record {
         names = λ other e.
-            subst (λ es. has_name other (record { names = names_of es; keys = []; room = 0 }) ≡ false) (sym c.swap_remove-noted.ensures.entries)
+            subst (λ es. is_noted_as other (record { names = names_of es; keys = []; room = 0 }) ≡ false) (sym c.swap_remove-noted.ensures.entries)
             (key_still_out (λ (k : List ℕ). k) (bytes_eq other) _ c.self.inside.files.entries e);
         keys = λ task number e. e;
       };

@@ -4,7 +4,7 @@ use Rattle.hp_model.specs.files.File.{Mount, new_file}
 use Rattle.hp_model.specs.files.MakeMap.{with_new}
 use Rattle.hp_lookup.specs.Asking.{with_range}
 use Rattle.hp_mount_laws.specs.Done.{Tried}
-use Rattle.hp_mount_laws.specs.Kept.{mount_of}
+use Rattle.hp_mount_laws.specs.Kept.{mount_from}
 use Rattle.hp_mount_laws.specs.Making.{anon_plan}
 use Rattle.hp_mount_laws.proofs.Keeping.{anon_kept, anon_left, full_as, rise_as, room_left}
 use Rattle.hp_mount_laws.proofs.Making.{asked_share, grant_denied, grant_full, grant_given}
@@ -44,6 +44,6 @@ returns-in-Err-clause-done g c =
     let m = c.args.self.now in
     let full = full_as o.share o.files o.inodes m c.self.invariant c.self.view_is _ c.wanted_alone.result c.is_full.result c.wanted_alone.ensures.alone c.is_full.ensures in
     let same = asked_share g.D.PoolDoor.took g.D.PoolDoor.is_full c.args.home _ o.share c.args.door.now c.in-Err.refusal c.add_anon.new.share c.add_anon.new.door c.in-Err.ensures.asked in
-    let stays = ap (λ x. mount_of x o.inodes c.add_anon.new.self.files) same ∙ room_left o.share o.files c.add_anon.new.self o.inodes c.self.invariant c.in-Err.ensures.err ∙ c.self.view_is in
+    let stays = ap (λ x. mount_from x o.inodes c.add_anon.new.self.files) same ∙ room_left o.share o.files c.add_anon.new.self o.inodes c.self.invariant c.in-Err.ensures.err ∙ c.self.view_is in
     grant_denied g.D.PoolDoor.took g.D.PoolDoor.is_full m c.args.home _ (MapNo c.args.next.number) _ c.args.door.now (full ∙ c.if-is_full.false) o.share
     (rise_as o.share o.files o.inodes m c.self.invariant c.self.view_is _) c.in-Err.refusal c.add_anon.new.share c.add_anon.new.door _ c.in-Err.ensures.asked stays

@@ -4,7 +4,7 @@ use Rattle.hp_model.specs.files.File.{Mount, with_file}
 use Rattle.hp_lookup.specs.Asking.{IsAsked, IsGranted, with_range}
 use Rattle.hp_lookup.specs.Files.{file_at}
 use Rattle.hp_mount_laws.specs.Done.{Tried}
-use Rattle.hp_mount_laws.specs.Kept.{mount_of}
+use Rattle.hp_mount_laws.specs.Kept.{mount_from}
 use Rattle.hp_mount_laws.specs.Making.{map_plan}
 use Rattle.hp_mount_laws.proofs.Keeping.{full_as, map_kept, map_left, rise_as, room_left, wants_is}
 use Rattle.hp_mount_laws.proofs.Making.{asked_share, grant_denied, grant_full, grant_given}
@@ -56,6 +56,6 @@ returns-in-Err-clause-done g c =
     let denied = subst (λ n. IsAsked g.D.PoolDoor.took g.D.PoolDoor.is_full c.args.home n o.share c.args.door.now (Err c.in-Err.refusal)
     c.add_map.new.share c.add_map.new.door) (wants_is o.share o.files o.inodes m c.self.invariant c.self.view_is k r) c.in-Err.ensures.asked in
     let same = asked_share g.D.PoolDoor.took g.D.PoolDoor.is_full c.args.home _ o.share c.args.door.now c.in-Err.refusal c.add_map.new.share c.add_map.new.door c.in-Err.ensures.asked in
-    let stays = ap (λ x. mount_of x o.inodes c.add_map.new.self.files) same ∙ room_left o.share o.files c.add_map.new.self o.inodes c.self.invariant c.in-Err.ensures.err ∙ c.self.view_is in
+    let stays = ap (λ x. mount_from x o.inodes c.add_map.new.self.files) same ∙ room_left o.share o.files c.add_map.new.self o.inodes c.self.invariant c.in-Err.ensures.err ∙ c.self.view_is in
     grant_denied g.D.PoolDoor.took g.D.PoolDoor.is_full m c.args.home _ (MapNo c.args.next.number) _ c.args.door.now (full ∙ c.if-is_full.false) o.share
     (rise_as o.share o.files o.inodes m c.self.invariant c.self.view_is _) c.in-Err.refusal c.add_map.new.share c.add_map.new.door _ denied stays

@@ -4,7 +4,7 @@ use Rattle.hp_model.specs.files.File.{new_file}
 use Rattle.hp_model.specs.files.MakeMap.{asked, mapped, with_new}
 use Rattle.hp_model.specs.machine.Plan.{Answered, Choice, grant}
 use Rattle.hp_mount_laws.specs.Done.{Tried}
-use Rattle.hp_mount_laws.specs.Making.{numbered}
+use Rattle.hp_mount_laws.specs.Making.{made_reply}
 use Rattle.hp_mount_laws.proofs.Making.{anon_refused, anon_went}
 use Rattle.hp_mount.proofs.mount.Mount.anon.Goals as goal
 
@@ -22,4 +22,5 @@ returns-in-Err-add_anon-clause-done g c size k =
     (Answered (MapNo number) (Some (with_new m (mapped a.task number 0 a.pages a.sharing a.reserving (new_file None))))) in
     anon_went g.D.PoolDoor.took g.D.PoolDoor.is_full m size k a.task a.home a.pages a.sharing a.reserving a.door.now number c.in-Ok.ensures.pass
     c.in-Ok.ensures.number (Err c.in-Err-add_anon.refusal) (Some c.add_anon.new.self) c.add_anon.new.door
-    (subst (λ q. Tried g.D.PoolDoor.took g.D.PoolDoor.is_full plan (Some m) a.door.now (numbered number q) (Some c.add_anon.new.self) c.add_anon.new.door) c.in-Err-add_anon.is c.add_anon.ensures.done)
+    (subst (λ q. Tried g.D.PoolDoor.took g.D.PoolDoor.is_full plan (Some m) a.door.now (made_reply number q) (Some c.add_anon.new.self) c.add_anon.new.door) c.in-Err-add_anon.is
+    c.add_anon.ensures.done)

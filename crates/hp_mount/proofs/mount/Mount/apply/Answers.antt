@@ -5,7 +5,7 @@ use Rattle.hp_model.specs.declared.section.PoolAnswer.{PoolAnswer}
 use Rattle.hp_model.specs.declared.section.Section.{Section}
 use Rattle.hp_model.specs.machine.Plan.{Choice, Reply, Slot}
 use Rattle.hp_model.specs.machine.SlotEvent.{slot_event}
-use Rattle.hp_events.specs.Event.{event_of}
+use Rattle.hp_events.specs.Event.{as_event}
 use Rattle.hp_events.specs.declared.event.MountEvent.{MountEvent}
 use Rattle.hp_mount_laws.specs.Alone.{IsDoneAlone}
 use Rattle.hp_mount_laws.specs.Done.{IsDone}
@@ -15,11 +15,11 @@ use Rattle.hp_mount.proofs.mount.Mount.apply.Goals as goal
 
 -- an event that asks nothing of the pool
 alone : {X : Type 0} (took : X → Section → PoolAnswer → X → Type 0) (full : X → Type 0) (size k home : ℕ) (old new : Slot) (door : X) {e f : MountEvent} {a b : Reply} →
-    e ≡ f → a ≡ b → (b ≡ Err TraceFull → ⊥) → IsDoneAlone size k old (event_of home f) b new
-    → IsDone took full size k old door (event_of home e) a new door
+    e ≡ f → a ≡ b → (b ≡ Err TraceFull → ⊥) → IsDoneAlone size k old (as_event home f) b new
+    → IsDone took full size k old door (as_event home e) a new door
 alone took full size k home old new door {e} {f} {a} {b} event reply noted ends =
     told_as took full size k home old new door door event reply
-    (alone_is_done took full (λ (x : Choice). slot_event size k x old (event_of home f)) old new door b noted ends)
+    (alone_is_done took full (λ (x : Choice). slot_event size k x old (as_event home f)) old new door b noted ends)
 
 pub returns-in-Create-clause-done : goal.returns-in-Create-clause-done
 returns-in-Create-clause-done g c k =

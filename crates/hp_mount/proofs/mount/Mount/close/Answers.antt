@@ -5,7 +5,7 @@ use Rattle.hp_model.specs.threads.LocalRun.{ThroughDoor}
 use Rattle.hp_model.specs.files.Page.{Page}
 use Rattle.hp_model.specs.machine.Plan.{gives}
 use Rattle.hp_mount_door.specs.Door.{GivesBack}
-use Rattle.hp_mount_laws.specs.Kept.{mount_of}
+use Rattle.hp_mount_laws.specs.Kept.{mount_from}
 use Rattle.hp_mount_laws.proofs.Ending.{ended}
 use Rattle.hp_subpool.specs.Subpool.{committed_of}
 use Rattle.hp_mount.proofs.mount.Mount.close.Goals as goal
@@ -13,7 +13,7 @@ use Rattle.hp_mount.proofs.mount.Mount.close.Goals as goal
 pub returns-clause-done : goal.returns-clause-done
 returns-clause-done g c =
     let o = c.self.inside in
-    let m = mount_of o.share o.inodes o.files.files in
+    let m = mount_from o.share o.inodes o.files.files in
     let took = g.D.PoolDoor.took in
     let door = c.args.door.now in
     let going = c.close-going.result in

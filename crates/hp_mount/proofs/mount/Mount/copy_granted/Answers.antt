@@ -12,7 +12,7 @@ use Rattle.hp_model.specs.pool.Grant as grant
 use Rattle.hp_mount_door.specs.Door.{with_granted}
 use Rattle.hp_lookup.specs.Files.{Files, copied_at, file_at}
 use Rattle.hp_mount_laws.specs.Reach.{has_reserve, with_place_at}
-use Rattle.hp_mount_laws.specs.Kept.{IsKept, mount_of}
+use Rattle.hp_mount_laws.specs.Kept.{IsKept, mount_from}
 use Rattle.hp_mount.proofs.Copying as keeps
 use Rattle.hp_mount_laws.proofs.Keeping.{full_as, mount_left, rise_as}
 use Rattle.hp_mount_laws.proofs.Private as private
@@ -72,12 +72,12 @@ module _ (g : Over) (c : After-put_copy g) where
   fresh : is_among stamp (flat_map stamps_of c.self.inside.files.files) ≡ false
   fresh = subst (λ (w : Files). is_among stamp (flat_map stamps_of w.files) ≡ false) room_is c.put_copy.ensures.fresh
 
-  kept : IsKept c.get_page.new.share c.put_copy.new.self (mount_of c.get_page.new.share c.self.inside.inodes c.put_copy.new.self.files)
+  kept : IsKept c.get_page.new.share c.put_copy.new.self (mount_from c.get_page.new.share c.self.inside.inodes c.put_copy.new.self.files)
   kept = keeps.granted_kept c.self.inside.share c.self.inside.files c.self.inside.inodes c.args.self.now c.self.invariant c.self.view_is k j i c.requires.file c.requires.map
       stamp page fresh consumed place c.get_page.new.share c.put_copy.new.self c.saturating_add-spare.result none new_is copied
       (omega (arith, c.held.ensures, c.saturating_add-spare.ensures, c.in-Ok.ensures.few))
 
-  left : mount_of c.get_page.new.share c.self.inside.inodes c.put_copy.new.self.files ≡ with_place_at c.args.self.now k j i (Live consumed (Some (record { stamp = stamp; page = page })))
+  left : mount_from c.get_page.new.share c.self.inside.inodes c.put_copy.new.self.files ≡ with_place_at c.args.self.now k j i (Live consumed (Some (record { stamp = stamp; page = page })))
   left = keeps.granted_left c.self.inside.share c.self.inside.files c.self.inside.inodes c.args.self.now c.self.invariant c.self.view_is k j i c.requires.file c.requires.map
       stamp page fresh consumed place c.get_page.new.share c.put_copy.new.self c.saturating_add-spare.result none new_is copied
 
@@ -119,7 +119,7 @@ returns-in_default-clause-done g c =
     private.copy_without_memory g.D.PoolDoor.took g.D.PoolDoor.is_full g.N.Naming.page_bytes c.args.self.now c.args.home c.args.at.file c.args.at.map
     c.args.index c.args.intent c.args.door.now c.requires.needs c.requires.unreserved
     _ (full g (goal.at.returns-in_default-clause-done g c).After-is_full c.if-is_full.false)
-    (ap (λ (w : Files). mount_of c.self.inside.share c.self.inside.inodes w.files) c.in_default.ensures.err ∙ c.self.view_is)
+    (ap (λ (w : Files). mount_from c.self.inside.share c.self.inside.inodes w.files) c.in_default.ensures.err ∙ c.self.view_is)
 
 pub invariant_of-self-in-Ok-get_page : goal.invariant_of-self-in-Ok-get_page
 invariant_of-self-in-Ok-get_page g c = kept g (goal.at.invariant_of-self-in-Ok-get_page g c).After-put_copy

@@ -18,7 +18,7 @@ use Rattle.hp_subpool.specs.Subpool as share
 use Rattle.std.specs.List.{flat_map}
 use Rattle.hp_model.specs.files.MountCounts.{stamps_of}
 use Rattle.hp_model.specs.Lists.{is_among}
-use Rattle.hp_mount_laws.specs.Kept.{IsKept, mount_of}
+use Rattle.hp_mount_laws.specs.Kept.{IsKept, mount_from}
 use Rattle.hp_lookup.specs.Files.{Files, copied_at, file_at}
 use Rattle.hp_mount.proofs.mount.Mount.copy_reserved.Given.{Over}
 use Rattle.hp_mount.proofs.Here.{file_here, map_here, place_here}
@@ -41,12 +41,12 @@ module _ (g : Over) (c : After-self g) where
     new_is : new ≡ with_page c.self.inside.share
     new_is = sym (c.requires.shares new) ∙ taken ∙ ap with_page (c.requires.shares c.self.inside.share)
 
-    kept : IsKept new w (mount_of new c.self.inside.inodes w.files)
+    kept : IsKept new w (mount_from new c.self.inside.inodes w.files)
     kept = keeps.reserved_kept c.self.inside.share c.self.inside.files c.self.inside.inodes c.args.self.now c.self.invariant c.self.view_is
         c.args.at.file c.args.at.map c.args.index c.requires.file c.requires.map
         stamp page fresh c.requires.needs.consumed place new w reserved new_is (copied c.requires.needs.consumed place)
 
-    left : mount_of new c.self.inside.inodes w.files ≡ with_place_at c.args.self.now c.args.at.file c.args.at.map c.args.index (Live true (Some (record { stamp = stamp; page = page })))
+    left : mount_from new c.self.inside.inodes w.files ≡ with_place_at c.args.self.now c.args.at.file c.args.at.map c.args.index (Live true (Some (record { stamp = stamp; page = page })))
     left = keeps.reserved_left c.self.inside.share c.self.inside.files c.self.inside.inodes c.args.self.now c.self.invariant c.self.view_is
         c.args.at.file c.args.at.map c.args.index c.requires.file c.requires.map
         stamp page fresh c.requires.needs.consumed place new w reserved new_is (copied c.requires.needs.consumed place)
@@ -113,9 +113,9 @@ returns-in_err-got-clause-done g c =
     let o = c.self.inside in
     let m = c.args.self.now in
     let back = err_from_is_err_and c.from_residual.result c.from_residual.ensures.1 in
-    let now : Mount = mount_of c.take_page.new.share o.inodes o.files.files in
+    let now : Mount = mount_from c.take_page.new.share o.inodes o.files.files in
     subst (λ q. IsAccessed g.D.PoolDoor.took g.D.PoolDoor.is_full g.N.Naming.page_bytes c.args.home c.args.at c.args.index c.args.intent m c.args.door.now q now c.take_page.new.self) (sym back.1)
     (private.reserved_full g.D.PoolDoor.took g.D.PoolDoor.is_full g.N.Naming.page_bytes m c.args.home c.args.at.file c.args.at.map c.args.index
     c.args.intent c.args.door.now c.requires.needs c.take_page.new.self now back.0 c.requires.reserved
     (subst (λ x. IsDoorRefusal x ⊥ ((c.take_page.new.self ≡ c.args.door.now) × g.D.PoolDoor.is_full c.take_page.new.self)) (sym back.2) c.in_err-got.ensures.err)
-    (ap (λ (x : share.Subpool). mount_of x o.inodes o.files.files) c.in_err-got.ensures.unchanged ∙ c.self.view_is))
+    (ap (λ (x : share.Subpool). mount_from x o.inodes o.files.files) c.in_err-got.ensures.unchanged ∙ c.self.view_is))

@@ -2,7 +2,7 @@ use Rattle.std.proofs.Common.{Some, sym, ap, ◌∙◌}
 use Rattle.hp_model.specs.files.File.{Mount, new_file}
 use Rattle.hp_model.specs.files.MakeMap.{with_new}
 use Rattle.hp_lookup.specs.Files.{Files}
-use Rattle.hp_mount_laws.specs.Kept.{mount_of}
+use Rattle.hp_mount_laws.specs.Kept.{mount_from}
 use Rattle.hp_mount_laws.proofs.Making.{create_done, create_refused, create_without_memory}
 use Rattle.hp_mount.proofs.mount.Mount.create.Goals as goal
 
@@ -13,10 +13,10 @@ pub returns-in-Err-clause-done : goal.returns-in-Err-clause-done
 returns-in-Err-clause-done g c size k =
     let o = c.self.inside in
     create_without_memory c.args.self.now c.args.name.now size k _ (sym c.refused_file.ensures.first ∙ c.in_default.is)
-    (ap (λ (v : Files). mount_of o.share o.inodes v.files) c.in-Err.ensures.err ∙ c.self.view_is)
+    (ap (λ (v : Files). mount_from o.share o.inodes v.files) c.in-Err.ensures.err ∙ c.self.view_is)
 
 pub returns-clause-done : goal.returns-clause-done
 returns-clause-done g c size k =
     let o = c.self.inside in
     create_done c.args.self.now c.args.name.now size k _ (sym c.refused_file.ensures.first ∙ c.in_default.is)
-    (ap (λ (v : Files). mount_of o.share o.inodes v.files) c.in_default-create.ensures.ok ∙ ap (λ (x : Mount). with_new x (new_file (Some c.args.name.now))) c.self.view_is)
+    (ap (λ (v : Files). mount_from o.share o.inodes v.files) c.in_default-create.ensures.ok ∙ ap (λ (x : Mount). with_new x (new_file (Some c.args.name.now))) c.self.view_is)

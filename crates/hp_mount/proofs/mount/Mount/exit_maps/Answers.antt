@@ -7,7 +7,7 @@ use Rattle.hp_model.specs.files.GiveBack.{file_without, is_kept, without_task}
 use Rattle.hp_model.specs.machine.Plan.{gives}
 use Rattle.hp_model.specs.threads.LocalRun.{ThroughDoor}
 use Rattle.hp_mount_laws.specs.Done.{IsDone}
-use Rattle.hp_mount_laws.specs.Kept.{mount_of}
+use Rattle.hp_mount_laws.specs.Kept.{mount_from}
 use Rattle.hp_mount_laws.proofs.Giving.{gave_through, keeps, leaves}
 use Rattle.hp_mount_laws.proofs.Leaving.{few_reserves, fewer, fewer_maps, tried}
 use Rattle.hp_mount.proofs.mount.Mount.exit_maps.Goals as goal
@@ -30,8 +30,8 @@ returns-clause-done g c size k =
     let took = g.D.PoolDoor.took in
     let full = g.D.PoolDoor.is_full in
     let door = c.args.door.now in
-    let m : Mount = mount_of o.share o.inodes o.files.files in
-    let n : Mount = mount_of c.give_back.new.share o.inodes c.give_back.new.self.files in
+    let m : Mount = mount_from o.share o.inodes o.files.files in
+    let n : Mount = mount_from c.give_back.new.share o.inodes c.give_back.new.self.files in
     let left = c.give_back.new.door in
     let gs = filter is_kept (map (file_without c.args.task) o.files.files) in
     subst (λ (x : Mount). IsDone took full size k (Some x) door (ExitMaps c.args.task) (Ok Done) (Some n) left) c.self.view_is
@@ -46,7 +46,7 @@ pub returns-clause-fewer : goal.returns-clause-fewer
 returns-clause-fewer g c has =
     let o = c.self.inside in
     let gs = filter is_kept (map (file_without c.args.task) o.files.files) in
-    fewer_maps c.args.task c.args.self.now (mount_of c.give_back.new.share o.inodes c.give_back.new.self.files)
+    fewer_maps c.args.task c.args.self.now (mount_from c.give_back.new.share o.inodes c.give_back.new.self.files)
     (leaves o.share o.files c.exit-reserves.new.self o.inodes c.self.invariant gs c.exit-reserves.result c.exit-reserves.ensures.left
     c.exit-reserves.ensures.files c.give_back.new.share c.give_back.new.self c.give_back.ensures.share c.give_back.ensures.going
     ∙ ap (without_task c.args.task) c.self.view_is) has

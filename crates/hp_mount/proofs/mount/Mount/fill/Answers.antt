@@ -4,7 +4,7 @@ use Rattle.hp_model.specs.files.Fill.{lacking, range_filled, rising_nodes}
 use Rattle.hp_model.specs.machine.Promises.{file_in}
 use Rattle.hp_model.specs.machine.SlotEvent.{unentered}
 use Rattle.hp_mount_files.proofs.Lent.{unentered_lent}
-use Rattle.hp_mount_laws.specs.Kept.{mount_of}
+use Rattle.hp_mount_laws.specs.Kept.{mount_from}
 use Rattle.hp_mount.proofs.Filling.{enough_held, fill_denied, fill_full, fill_given, filled_kept, filled_left, taken_share}
 use Rattle.hp_mount_laws.proofs.Keeping.{full_as, rise_as, room_left}
 use Rattle.hp_mount.proofs.mount.Mount.fill.Goals as goal
@@ -68,7 +68,7 @@ returns-in-Err-clause-done g c =
     let more_is = missing_is ∙ ap (λ (x : Mount). unentered a.start a.end (file_in x a.file)) c.self.view_is in
     let full = full_as o.share o.files o.inodes a.self.now c.self.invariant c.self.view_is _ c.missing-k.result c.is_full.result more_is c.is_full.ensures in
     let same = taken_share took g.D.PoolDoor.is_full c.missing-k.result a.count o.share a.door.now c.in-Err.refusal c.preallocate.new.share c.preallocate.new.door c.in-Err.ensures.refused in
-    let stays = ap (λ x. mount_of x o.inodes c.preallocate.new.self.files) same ∙ room_left o.share o.files c.preallocate.new.self o.inodes c.self.invariant c.in-Err.ensures.err ∙ c.self.view_is in
+    let stays = ap (λ x. mount_from x o.inodes c.preallocate.new.self.files) same ∙ room_left o.share o.files c.preallocate.new.self o.inodes c.self.invariant c.in-Err.ensures.err ∙ c.self.view_is in
     fill_denied took g.D.PoolDoor.is_full g.N.Naming.page_bytes a.self.now a.file a.start a.end a.door.now (full ∙ c.if-is_full.false) o.share c.missing-k.result a.count more_is
     c.requires.count (rise_as o.share o.files o.inodes a.self.now c.self.invariant c.self.view_is c.missing-k.result) c.in-Err.refusal c.preallocate.new.share
     c.preallocate.new.door _ c.in-Err.ensures.refused stays

@@ -3,7 +3,7 @@ use Rattle.std.proofs.lemmas.Result.{err_from_is_err_and}
 use Rattle.hp_mount_door.specs.Door.{IsDoorRefusal, with_page}
 use Rattle.hp_model.specs.files.Access.{shared_access}
 use Rattle.hp_mount_laws.specs.Done.{Tried, done}
-use Rattle.hp_mount_laws.specs.Kept.{mount_of}
+use Rattle.hp_mount_laws.specs.Kept.{mount_from}
 use Rattle.hp_subpool.specs.Subpool.{Subpool}
 use Rattle.hp_model.specs.files.File.{Mount, cell_at, with_cell, with_file}
 use Rattle.hp_model.specs.declared.cell.Cell.TheVariants.{Entered, Present}
@@ -45,9 +45,9 @@ returns-in_err-page-clause-done g c s at file =
     let o = c.self.inside in
     let m = c.args.self.now in
     let back = err_from_is_err_and c.from_residual.result c.from_residual.ensures.1 in
-    let now : Mount = mount_of c.take_page.new.share o.inodes o.files.files in
+    let now : Mount = mount_from c.take_page.new.share o.inodes o.files.files in
     subst (λ q. Tried g.D.PoolDoor.took g.D.PoolDoor.is_full (λ x. shared_access x g.N.Naming.page_bytes m s c.args.home c.args.index
     (cell_at s.file c.args.index)) (Some m) c.args.door.now (done q) (Some now) c.take_page.new.self) (sym back.1)
     (entered_full g.D.PoolDoor.took g.D.PoolDoor.is_full g.N.Naming.page_bytes m c.args.home c.args.file c.args.index s at file c.args.door.now c.take_page.new.self now back.0 c.requires.entered
     (subst (λ x. IsDoorRefusal x ⊥ ((c.take_page.new.self ≡ c.args.door.now) × g.D.PoolDoor.is_full c.take_page.new.self)) (sym back.2) c.in_err-page.ensures.err)
-    (ap (λ (x : Subpool). mount_of x o.inodes o.files.files) c.in_err-page.ensures.unchanged ∙ c.self.view_is))
+    (ap (λ (x : Subpool). mount_from x o.inodes o.files.files) c.in_err-page.ensures.unchanged ∙ c.self.view_is))

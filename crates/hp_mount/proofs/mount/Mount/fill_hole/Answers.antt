@@ -8,7 +8,7 @@ use Rattle.hp_model.specs.declared.section.Section.TheVariants.{GrantPage}
 use Rattle.hp_model.specs.pool.Pool.{granted_at, no_pages}
 use Rattle.hp_model.specs.machine.Promises.{file_in}
 use Rattle.hp_lookup.specs.Files.{Files, filled_at, with_cell_at}
-use Rattle.hp_mount_laws.specs.Kept.{mount_of}
+use Rattle.hp_mount_laws.specs.Kept.{mount_from}
 use Rattle.hp_mount_laws.proofs.Keeping.{full_is, rise_is, hole_kept, hole_keeps, hole_stays, granted_left, room_left}
 use Rattle.hp_mount_laws.proofs.Shared.{shared_full, shared_without_memory, shared_granted, shared_denied}
 use Rattle.hp_subpool.specs.Subpool as share
@@ -23,7 +23,7 @@ returns-then-is_full-clause-done g c s at file =
     let m = c.args.self.now in
     let inv = c.self.invariant in
     shared_full g.D.PoolDoor.took g.D.PoolDoor.is_full g.N.Naming.page_bytes m c.args.home k i s at file c.args.door.now c.requires.hole
-    (sym (ap (λ (x : Mount). grant.is_full x 1) c.self.view_is) ∙ sym (full_is o.share o.files (mount_of o.share o.inodes o.files.files) inv refl
+    (sym (ap (λ (x : Mount). grant.is_full x 1) c.self.view_is) ∙ sym (full_is o.share o.files (mount_from o.share o.inodes o.files.files) inv refl
     refl 1) ∙ sym c.is_full.ensures ∙ c.if-is_full.true)
 
 pub returns-in_default-clause-done : goal.returns-in_default-clause-done
@@ -34,7 +34,7 @@ returns-in_default-clause-done g c s at file =
     let m = c.args.self.now in
     let inv = c.self.invariant in
     shared_without_memory g.D.PoolDoor.took g.D.PoolDoor.is_full g.N.Naming.page_bytes m c.args.home k i s at file c.args.door.now c.requires.hole
-    _ (sym (ap (λ (x : Mount). grant.is_full x 1) c.self.view_is) ∙ sym (full_is o.share o.files (mount_of o.share o.inodes o.files.files) inv
+    _ (sym (ap (λ (x : Mount). grant.is_full x 1) c.self.view_is) ∙ sym (full_is o.share o.files (mount_from o.share o.inodes o.files.files) inv
     refl refl 1) ∙ sym c.is_full.ensures ∙ c.if-is_full.false) (room_left o.share o.files c.prepare.new.self o.inodes inv c.in_default.ensures.err
     ∙ c.self.view_is)
 
@@ -75,10 +75,10 @@ returns-in-Ok-get_page-clause-done g c s at file =
     let node = ap (λ (p : Page). p.node) (c.requires.pages got) ∙ sym (ap (λ (p : Page). p.node) c.zero.ensures) in
     shared_granted g.D.PoolDoor.took g.D.PoolDoor.is_full g.N.Naming.page_bytes m c.args.home k i s at file c.args.door.now c.requires.hole
     c.get_page.new.self c.zero.new.self _ (sym (ap (λ (x : Mount). grant.is_full x 1) c.self.view_is)
-    ∙ sym (full_is o.share o.files (mount_of o.share o.inodes o.files.files) inv refl refl 1) ∙ sym c.is_full.ensures ∙ c.if-is_full.false)
+    ∙ sym (full_is o.share o.files (mount_from o.share o.inodes o.files.files) inv refl refl 1) ∙ sym c.is_full.ensures ∙ c.if-is_full.false)
     (subst (λ n. g.D.PoolDoor.took c.args.door.now (GrantPage c.args.home (grant.rise m 1)) (granted_at n) c.get_page.new.self) node
     (subst (λ n. g.D.PoolDoor.took c.args.door.now (GrantPage c.args.home n) (granted_at (g.D.PoolDoor.page_of got).node) c.get_page.new.self)
-    (ap (λ x. share.rise x 1) (c.requires.shares o.share) ∙ rise_is o.share o.files (mount_of o.share o.inodes o.files.files) inv refl refl 1
+    (ap (λ x. share.rise x 1) (c.requires.shares o.share) ∙ rise_is o.share o.files (mount_from o.share o.inodes o.files.files) inv refl refl 1
     ∙ ap (λ (x : Mount). grant.rise x 1) c.self.view_is) c.in-Ok-get_page.ensures.ok))
     (ap (λ (p : Page). p.bytes) c.zero.ensures)
     (granted_left o.share o.files o.inodes inv k (subst (λ (x : Mount). k < length x.files) (sym c.self.view_is) c.requires.file) i
@@ -96,10 +96,10 @@ returns-in-Err-clause-done g c s at file =
     let inv = c.self.invariant in
     shared_denied g.D.PoolDoor.took g.D.PoolDoor.is_full g.N.Naming.page_bytes m c.args.home k i s at file c.args.door.now c.requires.hole
     c.get_page.new.self _ c.in-Err.refusal (sym (ap (λ (x : Mount). grant.is_full x 1) c.self.view_is)
-    ∙ sym (full_is o.share o.files (mount_of o.share o.inodes o.files.files) inv refl refl 1) ∙ sym c.is_full.ensures ∙ c.if-is_full.false)
+    ∙ sym (full_is o.share o.files (mount_from o.share o.inodes o.files.files) inv refl refl 1) ∙ sym c.is_full.ensures ∙ c.if-is_full.false)
     (subst (λ n. IsDoorRefusal c.in-Err.refusal (g.D.PoolDoor.took c.args.door.now (GrantPage c.args.home n) no_pages c.get_page.new.self)
     ((c.get_page.new.self ≡ c.args.door.now) × g.D.PoolDoor.is_full c.get_page.new.self))
-    (ap (λ x. share.rise x 1) (c.requires.shares o.share) ∙ rise_is o.share o.files (mount_of o.share o.inodes o.files.files) inv refl refl 1
+    (ap (λ x. share.rise x 1) (c.requires.shares o.share) ∙ rise_is o.share o.files (mount_from o.share o.inodes o.files.files) inv refl refl 1
     ∙ ap (λ (x : Mount). grant.rise x 1) c.self.view_is) c.in-Err.ensures.err)
     (hole_stays o.share o.files o.inodes inv k (subst (λ (x : Mount). k < length x.files) (sym c.self.view_is) c.requires.file) i
     c.saturating_add-spare.result c.get_page.new.share c.leave.new.self (subst (λ (x : Mount). cell_at (file_in x k) i ≡ Hole)

@@ -5,7 +5,7 @@ use Rattle.hp_lookup.proofs.NewKey.{byte_few, byte_is}
 use Rattle.hp_model.specs.files.File.{Mount, maps_of}
 use Rattle.hp_model.specs.files.Fork.{forked}
 use Rattle.hp_model.specs.files.MakeMap.{tasks_of}
-use Rattle.hp_mount_laws.specs.Kept.{mount_of}
+use Rattle.hp_mount_laws.specs.Kept.{mount_from}
 use Rattle.hp_mount_laws.proofs.Forking.{by_tasks, many, many_maps, maps_are, tasks_are}
 use Rattle.hp_mount.proofs.mount.Mount.forks_too_many.Goals as goal
 
@@ -18,7 +18,7 @@ same_test a b over under = ⊎_elim
 pub returns-then-saturating_add-gt-MOST_MAPS : goal.returns-then-saturating_add-gt-MOST_MAPS
 returns-then-saturating_add-gt-MOST_MAPS g c =
     let o = c.self.inside in
-    let m : Mount = mount_of o.share o.inodes o.files.files in
+    let m : Mount = mount_from o.share o.inodes o.files.files in
     let all = maps_are m c.args.parent c.args.child c.requires.apart in
     let over : 4096 < length (maps_of (forked c.args.parent c.args.child m)) = omega (
       arith,
@@ -35,7 +35,7 @@ returns-then-saturating_add-gt-MOST_MAPS g c =
 pub returns : goal.returns
 returns g c =
     let o = c.self.inside in
-    let m : Mount = mount_of o.share o.inodes o.files.files in
+    let m : Mount = mount_from o.share o.inodes o.files.files in
     let all = maps_are m c.args.parent c.args.child c.requires.apart in
     let few : length (maps_of (forked c.args.parent c.args.child m)) ≤ 4096 = omega (
       arith,

@@ -6,7 +6,7 @@ use Rattle.hp_model.specs.machine.Plan.{Answered, Choice, grant}
 use Rattle.hp_model.specs.machine.Promises.{file_in}
 use Rattle.hp_model.specs.machine.SlotEvent.{file_named}
 use Rattle.hp_mount_laws.specs.Done.{Tried}
-use Rattle.hp_mount_laws.specs.Making.{numbered}
+use Rattle.hp_mount_laws.specs.Making.{made_reply}
 use Rattle.hp_mount_laws.proofs.Making.{map_nowhere, map_refused, map_went}
 use Rattle.hp_mount.proofs.mount.Mount.map.Goals as goal
 
@@ -37,5 +37,5 @@ returns-in-Err-add_map-clause-done g c size k =
     (Answered (MapNo number) (Some (with_file m file (mapped r.task number r.start r.pages r.sharing r.reserving (file_in m file))))) in
     map_went g.D.PoolDoor.took g.D.PoolDoor.is_full m size k r.task c.args.home r.start r.pages r.sharing r.reserving c.args.name.now c.args.door.now
     file named number c.in-Ok.ensures.pass c.in-Ok.ensures.number (Err c.in-Err-add_map.refusal) (Some c.add_map.new.self) c.add_map.new.door
-    (subst (λ q. Tried g.D.PoolDoor.took g.D.PoolDoor.is_full plan (Some m) c.args.door.now (numbered number q) (Some c.add_map.new.self)
+    (subst (λ q. Tried g.D.PoolDoor.took g.D.PoolDoor.is_full plan (Some m) c.args.door.now (made_reply number q) (Some c.add_map.new.self)
     c.add_map.new.door) c.in-Err-add_map.is c.add_map.ensures.done)

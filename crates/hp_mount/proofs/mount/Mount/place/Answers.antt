@@ -6,7 +6,7 @@ use Rattle.hp_model.specs.machine.Promises.{file_in, map_in}
 use Rattle.hp_model.specs.files.Spot.{spot}
 use Rattle.hp_mount.specs.Found.{IsPlaced, tests_of}
 use Rattle.hp_mount_laws.specs.Reach.{first_of, spot_at}
-use Rattle.hp_mount_laws.specs.Kept.{mount_of}
+use Rattle.hp_mount_laws.specs.Kept.{mount_from}
 use Rattle.hp_mount.proofs.Commands.{why_of}
 use Rattle.hp_mount.proofs.mount.Mount.place.Goals as goal
 
@@ -32,7 +32,7 @@ returns-in-None-clause-placed g c =
     let a = c.args.access.now in
     let at = c.in-Some.at in
     let there = c.in-Some.ensures.some in
-    let m = mount_of o.share o.inodes o.files.files in
+    let m = mount_from o.share o.inodes o.files.files in
     let limits : Limits = record { max = o.share.max; min = o.share.min; inodes = o.inodes } in
     subst (λ (x : Mount). IsPlaced x a c.args.asked c.args.page_bytes at) c.self.view_is (record {
       found = there.is limits;

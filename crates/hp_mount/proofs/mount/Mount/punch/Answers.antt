@@ -9,7 +9,7 @@ use Rattle.hp_model.specs.machine.SlotEvent.{edited, is_bad_range}
 use Rattle.hp_model.specs.threads.LocalRun.{ThroughDoor}
 use Rattle.hp_lookup.specs.Files.{file_at}
 use Rattle.hp_mount_laws.specs.Done.{IsDone}
-use Rattle.hp_mount_laws.specs.Kept.{mount_of}
+use Rattle.hp_mount_laws.specs.Kept.{mount_from}
 use Rattle.hp_mount_laws.proofs.Giving.{bad_range, gave_back, given, good_range, kept, left_is, nowhere, out_of_range}
 use Rattle.hp_mount.proofs.mount.Mount.punch.Goals as goal
 
@@ -20,7 +20,7 @@ returns-in_default-clause-done g c size k =
     let full = g.D.PoolDoor.is_full in
     let door = c.args.door.now in
     subst (λ (x : Mount). IsDone took full size k (Some x) door (Punch c.args.name.now c.args.start c.args.end) (Err NoSuchFile) (Some x) door) c.self.view_is
-    (nowhere took full (mount_of o.share o.inodes o.files.files) c.args.name.now ((is_bad_range c.args.start c.args.end, OutOfRange) ∷ [])
+    (nowhere took full (mount_from o.share o.inodes o.files.files) c.args.name.now ((is_bad_range c.args.start c.args.end, OutOfRange) ∷ [])
     (punched c.args.start c.args.end) door c.in_default.ensures.none)
 
 pub returns-then-end-start-clause-done : goal.returns-then-end-start-clause-done
@@ -30,7 +30,7 @@ returns-then-end-start-clause-done g c size k =
     let full = g.D.PoolDoor.is_full in
     let door = c.args.door.now in
     subst (λ (x : Mount). IsDone took full size k (Some x) door (Punch c.args.name.now c.args.start c.args.end) (Err OutOfRange) (Some x) door) c.self.view_is
-    (out_of_range took full (mount_of o.share o.inodes o.files.files) c.args.name.now ((is_bad_range c.args.start c.args.end, OutOfRange) ∷ [])
+    (out_of_range took full (mount_from o.share o.inodes o.files.files) c.args.name.now ((is_bad_range c.args.start c.args.end, OutOfRange) ∷ [])
     (punched c.args.start c.args.end) door c.in-Some.file c.in-Some.ensures.some.is (bad_range c.args.start c.args.end c.then-end-start.either))
 
 pub invariant_of-self : goal.invariant_of-self
@@ -48,8 +48,8 @@ returns-clause-done g c size k =
     let took = g.D.PoolDoor.took in
     let full = g.D.PoolDoor.is_full in
     let door = c.args.door.now in
-    let m : Mount = mount_of o.share o.inodes o.files.files in
-    let n : Mount = mount_of c.give_back.new.share o.inodes c.give_back.new.self.files in
+    let m : Mount = mount_from o.share o.inodes o.files.files in
+    let n : Mount = mount_from c.give_back.new.share o.inodes c.give_back.new.self.files in
     let left = c.give_back.new.door in
     let changed = punched c.args.start c.args.end (file_at o.files.files file) in
     subst (λ (x : Mount). IsDone took full size k (Some x) door (Punch c.args.name.now c.args.start c.args.end) (Ok Done) (Some n) left) c.self.view_is

@@ -30,7 +30,7 @@ copy_reserved-requires-clause-needs g c =
     let j = c.args.at.map in
     let i = c.args.index in
     needs_copy c.args.self.now k j i c.args.intent c.requires.private c.requires.live c.requires.bare
-    (sym (ap (λ (x : Mount). (map_in (file_in x k) j).unmapped) c.self.view_is) ∙ sym (c.is_unmapped.ensures ∙ unmapped_lent c.map.ensures) ∙ c.if-is_unmapped.false)
+    (sym (ap (λ (x : Mount). (map_in (file_in x k) j).unmapped) c.self.view_is) ∙ sym (c.is_marked.ensures ∙ unmapped_lent c.map.ensures) ∙ c.if-is_marked.false)
     (sym (ap (λ (x : Mount). shows_page c.args.intent (cell_at (file_in x k) i)) c.self.view_is) ∙ sym c.shows_page.ensures ∙ c.if-shows_page.false)
 
 pub copy_reserved-requires-clause-reserved : goal.copy_reserved-requires-clause-reserved
@@ -44,7 +44,7 @@ copy_granted-requires-clause-needs g c =
     let j = c.args.at.map in
     let i = c.args.index in
     needs_copy c.args.self.now k j i c.args.intent c.requires.private c.requires.live c.requires.bare
-    (sym (ap (λ (x : Mount). (map_in (file_in x k) j).unmapped) c.self.view_is) ∙ sym (c.is_unmapped.ensures ∙ unmapped_lent c.map.ensures) ∙ c.if-is_unmapped.false)
+    (sym (ap (λ (x : Mount). (map_in (file_in x k) j).unmapped) c.self.view_is) ∙ sym (c.is_marked.ensures ∙ unmapped_lent c.map.ensures) ∙ c.if-is_marked.false)
     (sym (ap (λ (x : Mount). shows_page c.args.intent (cell_at (file_in x k) i)) c.self.view_is) ∙ sym c.shows_page.ensures ∙ c.if-shows_page.false)
 
 pub copy_granted-requires-clause-unreserved : goal.copy_granted-requires-clause-unreserved
@@ -52,14 +52,14 @@ copy_granted-requires-clause-unreserved g c =
     sym (ap (λ (x : Mount). has_reserve (map_in (file_in x c.args.at.file) c.args.at.map) c.args.index) c.self.view_is)
     ∙ sym (c.has_reserve.ensures ∙ reserve_lent c.map-2.ensures c.args.index) ∙ c.if-has_reserve.false
 
-pub returns-then-is_unmapped-clause-done : goal.returns-then-is_unmapped-clause-done
-returns-then-is_unmapped-clause-done g c =
+pub returns-then-is_marked-clause-done : goal.returns-then-is_marked-clause-done
+returns-then-is_marked-clause-done g c =
     let k = c.args.at.file in
     let j = c.args.at.map in
     let i = c.args.index in
     let m = c.args.self.now in
     let bare = bare_place (place_at (map_in (file_in m k) j) i) c.requires.live c.requires.bare in
-    let marked = sym (ap (λ (x : Mount). (map_in (file_in x k) j).unmapped) c.self.view_is) ∙ sym (c.is_unmapped.ensures ∙ unmapped_lent c.map.ensures) ∙ c.if-is_unmapped.true in
+    let marked = sym (ap (λ (x : Mount). (map_in (file_in x k) j).unmapped) c.self.view_is) ∙ sym (c.is_marked.ensures ∙ unmapped_lent c.map.ensures) ∙ c.if-is_marked.true in
     private.cut_off g.D.PoolDoor.took g.D.PoolDoor.is_full g.N.Naming.page_bytes m c.args.home k j i c.args.intent c.args.door.now c.requires.private bare.0 bare.1 marked
 
 pub returns-then-shows_page-clause-done : goal.returns-then-shows_page-clause-done
@@ -69,6 +69,6 @@ returns-then-shows_page-clause-done g c =
     let i = c.args.index in
     let m = c.args.self.now in
     let bare = bare_place (place_at (map_in (file_in m k) j) i) c.requires.live c.requires.bare in
-    let kept = sym (ap (λ (x : Mount). (map_in (file_in x k) j).unmapped) c.self.view_is) ∙ sym (c.is_unmapped.ensures ∙ unmapped_lent c.map.ensures) ∙ c.if-is_unmapped.false in
+    let kept = sym (ap (λ (x : Mount). (map_in (file_in x k) j).unmapped) c.self.view_is) ∙ sym (c.is_marked.ensures ∙ unmapped_lent c.map.ensures) ∙ c.if-is_marked.false in
     private.page_read g.D.PoolDoor.took g.D.PoolDoor.is_full g.N.Naming.page_bytes m c.args.home k j i c.args.intent c.args.door.now c.requires.private bare.0 bare.1 kept
     (sym (ap (λ (x : Mount). shows_page c.args.intent (cell_at (file_in x k) i)) c.self.view_is) ∙ sym c.shows_page.ensures ∙ c.if-shows_page.true)

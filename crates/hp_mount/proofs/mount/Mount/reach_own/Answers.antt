@@ -20,8 +20,8 @@ use Rattle.hp_lookup.specs.Dropping.{IsLeft}
 use Rattle.hp_lookup.specs.Files.{Files, file_at, parted_at, taken_back_at}
 use Rattle.hp_file.specs.States.{AreAgreed}
 use Rattle.hp_mount_files.proofs.Lent.{owner_lent}
-use Rattle.hp_mount_laws.specs.Reach.{IsTouched, with_place_at}
-use Rattle.hp_mount_laws.specs.Kept.{IsKept, mount_of}
+use Rattle.hp_mount_laws.specs.Reach.{IsFileTouched, with_place_at}
+use Rattle.hp_mount_laws.specs.Kept.{IsKept, mount_from}
 use Rattle.hp_mount.proofs.Copying as keeps
 use Rattle.hp_mount_laws.proofs.Keeping.{full_as, mount_left, rise_as}
 use Rattle.hp_mount_laws.proofs.Private as private
@@ -78,30 +78,30 @@ module _ (g : Over) (c : After-is_full g) where
     several : is_held_once shown old.stamp ≡ false
     several = ap (λ (x : Mount). is_held_once (file_in x c.args.at.file) old.stamp) c.self.view_is ∙ c.requires.several.2
 
-    own_kept : IsKept new w (mount_of new c.self.inside.inodes w.files)
+    own_kept : IsKept new w (mount_from new c.self.inside.inodes w.files)
     own_kept = keeps.parted_kept c.self.inside.share c.self.inside.files c.self.inside.inodes m c.self.invariant c.self.view_is c.args.at.file c.args.at.map c.args.index c.requires.file c.requires.map
         (live).0 old place agreed new w stamp page fresh several new_is (parted (live).0 old place)
 
-    own_left : mount_of new c.self.inside.inodes w.files ≡ with_place_at m c.args.at.file c.args.at.map c.args.index (Live (live).0 (Some (record { stamp = stamp; page = page })))
+    own_left : mount_from new c.self.inside.inodes w.files ≡ with_place_at m c.args.at.file c.args.at.map c.args.index (Live (live).0 (Some (record { stamp = stamp; page = page })))
     own_left = keeps.parted_left c.self.inside.share c.self.inside.files c.self.inside.inodes m c.self.invariant c.self.view_is c.args.at.file c.args.at.map c.args.index c.requires.file c.requires.map
         (live).0 old place agreed new w stamp page fresh several new_is (parted (live).0 old place)
 
   -- the copy taken back from all others
   module _ (new : share.Subpool) (w : Files) (same : new ≡ c.self.inside.share) (left : IsLeft 0 c.self.inside.files w)
       (files : (x : Copy) → copy_of (place_at (map_in shown c.args.at.map) c.args.index) ≡ Some x → w.files ≡ taken_back_at c.args.at.file c.args.at.map x.stamp c.self.inside.files.files) where
-    back_kept : IsKept new w (mount_of new c.self.inside.inodes w.files)
+    back_kept : IsKept new w (mount_from new c.self.inside.inodes w.files)
     back_kept = keeps.back_kept c.self.inside.share c.self.inside.files c.self.inside.inodes m c.self.invariant c.self.view_is c.args.at.file c.args.at.map c.args.index c.requires.file c.requires.map
         (live).0 old place agreed new w same (files old (ap copy_of place)) left
 
-    back_left : mount_of new c.self.inside.inodes w.files ≡ with_file m c.args.at.file (with_map (record f { maps = mapped (robbed old.stamp) f.maps }) c.args.at.map (map_in f c.args.at.map))
+    back_left : mount_from new c.self.inside.inodes w.files ≡ with_file m c.args.at.file (with_map (record f { maps = mapped (robbed old.stamp) f.maps }) c.args.at.map (map_in f c.args.at.map))
     back_left = keeps.back_left c.self.inside.share c.self.inside.files c.self.inside.inodes m c.self.invariant c.self.view_is c.args.at.file c.args.at.map c.args.index c.requires.file c.requires.map
         (live).0 old place agreed new w same (files old (ap copy_of place)) left
 
-    back_same : IsTouched m (mount_of new c.self.inside.inodes w.files) c.args.at.file
+    back_same : IsFileTouched m (mount_from new c.self.inside.inodes w.files) c.args.at.file
     back_same = back_touched m _ c.args.at.file c.args.at.map old.stamp (map_in f c.args.at.map) c.requires.file back_left
 
   -- refused: all is as it was
-  refused_left : (new : share.Subpool) → new ≡ c.self.inside.share → mount_of new c.self.inside.inodes c.self.inside.files.files ≡ m
+  refused_left : (new : share.Subpool) → new ≡ c.self.inside.share → mount_from new c.self.inside.inodes c.self.inside.files.files ≡ m
   refused_left new same = mount_left c.self.inside.share new c.self.inside.inodes c.self.inside.files.files c.self.inside.files.files
       (ap (λ (x : share.Subpool). x.max) same) (ap (λ (x : share.Subpool). x.min) same) refl ∙ c.self.view_is
 

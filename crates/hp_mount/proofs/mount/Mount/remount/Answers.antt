@@ -5,7 +5,7 @@ use Rattle.hp_model.specs.declared.event.SlotEvent.TheVariants.{Remount}
 use Rattle.hp_model.specs.files.File.{Mount}
 use Rattle.hp_mount_door.specs.Limits.{IsLimitedAt}
 use Rattle.hp_mount_laws.specs.Done.{IsDone}
-use Rattle.hp_mount_laws.specs.Kept.{mount_of}
+use Rattle.hp_mount_laws.specs.Kept.{mount_from}
 use Rattle.hp_mount_laws.proofs.Remounting.{relimited_kept, remount_refused, remount_set}
 use Rattle.hp_mount.proofs.mount.Mount.remount.Goals as goal
 
@@ -23,7 +23,7 @@ returns-in_err-self-inside-clause-done g c k apart =
     let set = subst (λ x. IsLimitedAt took full size text o.share x door left (Err e)) (c.requires.shares new)
     (subst (λ x. IsLimitedAt took full size text x (g.D.PoolDoor.share_of new) door left (Err e)) (c.requires.shares o.share) c.in_err-self-inside.ensures.set) in
     let p = err_from_is_err_and c.from_residual.result c.from_residual.ensures.1 in
-    rw (p.1, p.2) (subst (λ (x : Mount). IsDone took full size k (Some x) door (Remount text) (Err e) (Some (mount_of new o.inodes o.files.files)) left) c.self.view_is
+    rw (p.1, p.2) (subst (λ (x : Mount). IsDone took full size k (Some x) door (Remount text) (Err e) (Some (mount_from new o.inodes o.files.files)) left) c.self.view_is
     (remount_refused took full size text o.share new door left o.files o.inodes c.self.invariant k apart e set))
 
 pub invariant_of-self-2 : goal.invariant_of-self-2
@@ -54,5 +54,5 @@ returns-clause-done g c k apart =
     let files = c.in_ok-self-inside.field-0 in
     let set = subst (λ x. IsLimitedAt took full size text o.share x door left (Ok files)) (c.requires.shares new)
     (subst (λ x. IsLimitedAt took full size text x (g.D.PoolDoor.share_of new) door left (Ok files)) (c.requires.shares o.share) c.in_ok-self-inside.ensures.set) in
-    subst (λ (x : Mount). IsDone took full size k (Some x) door (Remount text) (Ok Done) (Some (mount_of new files o.files.files)) left) c.self.view_is
+    subst (λ (x : Mount). IsDone took full size k (Some x) door (Remount text) (Ok Done) (Some (mount_from new files o.files.files)) left) c.self.view_is
     (remount_set took full size text o.share new door left o.files o.inodes c.self.invariant k apart files set)

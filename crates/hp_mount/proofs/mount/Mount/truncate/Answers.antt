@@ -9,7 +9,7 @@ use Rattle.hp_model.specs.machine.SlotEvent.{edited}
 use Rattle.hp_model.specs.threads.LocalRun.{ThroughDoor}
 use Rattle.hp_lookup.specs.Files.{file_at}
 use Rattle.hp_mount_laws.specs.Done.{IsDone}
-use Rattle.hp_mount_laws.specs.Kept.{mount_of}
+use Rattle.hp_mount_laws.specs.Kept.{mount_from}
 use Rattle.hp_mount_laws.proofs.Giving.{gave_back, given, kept, left_is, long_file, nowhere, out_of_range, short_file}
 use Rattle.hp_mount.proofs.mount.Mount.truncate.Goals as goal
 
@@ -20,7 +20,7 @@ returns-in_default-clause-done g c size k =
     let full = g.D.PoolDoor.is_full in
     let door = c.args.door.now in
     subst (λ (x : Mount). IsDone took full size k (Some x) door (Truncate c.args.name.now c.args.pages) (Err NoSuchFile) (Some x) door) c.self.view_is
-    (nowhere took full (mount_of o.share o.inodes o.files.files) c.args.name.now ((nat_lt 16777216 c.args.pages, OutOfRange) ∷ []) (truncated c.args.pages) door c.in_default.ensures.none)
+    (nowhere took full (mount_from o.share o.inodes o.files.files) c.args.name.now ((nat_lt 16777216 c.args.pages, OutOfRange) ∷ []) (truncated c.args.pages) door c.in_default.ensures.none)
 
 pub returns-then-pages-gt-MOST_FILE_PAGES-clause-done : goal.returns-then-pages-gt-MOST_FILE_PAGES-clause-done
 returns-then-pages-gt-MOST_FILE_PAGES-clause-done g c size k =
@@ -29,7 +29,7 @@ returns-then-pages-gt-MOST_FILE_PAGES-clause-done g c size k =
     let full = g.D.PoolDoor.is_full in
     let door = c.args.door.now in
     subst (λ (x : Mount). IsDone took full size k (Some x) door (Truncate c.args.name.now c.args.pages) (Err OutOfRange) (Some x) door) c.self.view_is
-    (out_of_range took full (mount_of o.share o.inodes o.files.files) c.args.name.now ((nat_lt 16777216 c.args.pages, OutOfRange) ∷ [])
+    (out_of_range took full (mount_from o.share o.inodes o.files.files) c.args.name.now ((nat_lt 16777216 c.args.pages, OutOfRange) ∷ [])
     (truncated c.args.pages) door c.in-Some.file c.in-Some.ensures.some.is (long_file c.args.pages c.if-pages-gt-MOST_FILE_PAGES.true))
 
 pub invariant_of-self : goal.invariant_of-self
@@ -47,8 +47,8 @@ returns-clause-done g c size k =
     let took = g.D.PoolDoor.took in
     let full = g.D.PoolDoor.is_full in
     let door = c.args.door.now in
-    let m : Mount = mount_of o.share o.inodes o.files.files in
-    let n : Mount = mount_of c.give_back.new.share o.inodes c.give_back.new.self.files in
+    let m : Mount = mount_from o.share o.inodes o.files.files in
+    let n : Mount = mount_from c.give_back.new.share o.inodes c.give_back.new.self.files in
     let left = c.give_back.new.door in
     let changed = truncated c.args.pages (file_at o.files.files file) in
     subst (λ (x : Mount). IsDone took full size k (Some x) door (Truncate c.args.name.now c.args.pages) (Ok Done) (Some n) left) c.self.view_is

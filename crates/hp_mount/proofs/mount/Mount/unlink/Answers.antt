@@ -9,7 +9,7 @@ use Rattle.hp_model.specs.machine.SlotEvent.{edited}
 use Rattle.hp_model.specs.threads.LocalRun.{ThroughDoor}
 use Rattle.hp_lookup.specs.Files.{file_at}
 use Rattle.hp_mount_laws.specs.Done.{IsDone}
-use Rattle.hp_mount_laws.specs.Kept.{mount_of}
+use Rattle.hp_mount_laws.specs.Kept.{mount_from}
 use Rattle.hp_mount_laws.proofs.Giving.{gave_back, given, kept, left_is, nowhere}
 use Rattle.hp_mount.proofs.mount.Mount.unlink.Goals as goal
 
@@ -20,7 +20,7 @@ returns-in_default-clause-done g c size k =
     let full = g.D.PoolDoor.is_full in
     let door = c.args.door.now in
     subst (λ (x : Mount). IsDone took full size k (Some x) door (Unlink c.args.name.now) (Err NoSuchFile) (Some x) door) c.self.view_is
-    (nowhere took full (mount_of o.share o.inodes o.files.files) c.args.name.now [] unlinked door c.in_default.ensures.none)
+    (nowhere took full (mount_from o.share o.inodes o.files.files) c.args.name.now [] unlinked door c.in_default.ensures.none)
 
 pub invariant_of-self : goal.invariant_of-self
 invariant_of-self g c =
@@ -37,8 +37,8 @@ returns-clause-done g c size k =
     let took = g.D.PoolDoor.took in
     let full = g.D.PoolDoor.is_full in
     let door = c.args.door.now in
-    let m : Mount = mount_of o.share o.inodes o.files.files in
-    let n : Mount = mount_of c.give_back.new.share o.inodes c.give_back.new.self.files in
+    let m : Mount = mount_from o.share o.inodes o.files.files in
+    let n : Mount = mount_from c.give_back.new.share o.inodes c.give_back.new.self.files in
     let left = c.give_back.new.door in
     let changed = unlinked (file_at o.files.files file) in
     subst (λ (x : Mount). IsDone took full size k (Some x) door (Unlink c.args.name.now) (Ok Done) (Some n) left) c.self.view_is

@@ -11,7 +11,7 @@ use Rattle.hp_model.specs.machine.Plan.{gives}
 use Rattle.hp_model.specs.threads.LocalRun.{ThroughDoor}
 use Rattle.hp_lookup.specs.Places.{spot_of}
 use Rattle.hp_mount_laws.specs.Done.{IsDone}
-use Rattle.hp_mount_laws.specs.Kept.{mount_of}
+use Rattle.hp_mount_laws.specs.Kept.{mount_from}
 use Rattle.hp_mount_laws.proofs.Giving.{gave_through, keeps, leaves}
 use Rattle.hp_mount_laws.proofs.Leaving.{bad_indices, few_reserves, fewer, indices_left, no_map_there}
 use Rattle.hp_mount.proofs.mount.Mount.unmap.Goals as goal
@@ -24,7 +24,7 @@ returns-in_default-clause-done g c size k =
     let door = c.args.door.now in
     let limits : Limits = record { max = o.share.max; min = o.share.min; inodes = o.inodes } in
     subst (λ (x : Mount). IsDone took full size k (Some x) door (Unmap c.args.task c.args.map c.args.start c.args.end) (Err NoSuchMap) (Some x) door) c.self.view_is
-    (no_map_there took full (mount_of o.share o.inodes o.files.files) c.args.task c.args.map c.args.start c.args.end door (c.in_default.ensures.none limits))
+    (no_map_there took full (mount_from o.share o.inodes o.files.files) c.args.task c.args.map c.args.start c.args.end door (c.in_default.ensures.none limits))
 
 pub returns-then-end-start-clause-done : goal.returns-then-end-start-clause-done
 returns-then-end-start-clause-done g c size k =
@@ -35,7 +35,7 @@ returns-then-end-start-clause-done g c size k =
     let at = c.in-Some.at in
     let limits : Limits = record { max = o.share.max; min = o.share.min; inodes = o.inodes } in
     subst (λ (x : Mount). IsDone took full size k (Some x) door (Unmap c.args.task c.args.map c.args.start c.args.end) (Err OutOfRange) (Some x) door) c.self.view_is
-    (bad_indices took full (mount_of o.share o.inodes o.files.files) c.args.task c.args.map c.args.start c.args.end door
+    (bad_indices took full (mount_from o.share o.inodes o.files.files) c.args.task c.args.map c.args.start c.args.end door
     (spot_of o.files.files at.file at.map) (c.in-Some.ensures.some.is limits) c.then-end-start.either)
 
 pub unmap-reserves-requires-clause-few : goal.unmap-reserves-requires-clause-few
@@ -57,8 +57,8 @@ returns-clause-done g c size k =
     let took = g.D.PoolDoor.took in
     let full = g.D.PoolDoor.is_full in
     let door = c.args.door.now in
-    let m : Mount = mount_of o.share o.inodes o.files.files in
-    let n : Mount = mount_of c.give_back.new.share o.inodes c.give_back.new.self.files in
+    let m : Mount = mount_from o.share o.inodes o.files.files in
+    let n : Mount = mount_from c.give_back.new.share o.inodes c.give_back.new.self.files in
     let left = c.give_back.new.door in
     let at = c.in-Some.at in
     let limits : Limits = record { max = o.share.max; min = o.share.min; inodes = o.inodes } in

@@ -1,6 +1,6 @@
 use Rattle.std.proofs.Common.{◌<◌, length, sym, subst}
 use Rattle.hp_lookup.specs.Files.{Files, file_at}
-use Rattle.hp_lookup.specs.Places.{map_at}
+use Rattle.hp_lookup.specs.Places.{map_among}
 use Rattle.hp_lookup.proofs.Views.{map_seen}
 use Rattle.hp_mount_files.specs.Lent.{IsMapLent}
 use Rattle.hp_mount_files.proofs.files.Files.map.Goals as goal
@@ -11,7 +11,7 @@ returns g c =
     let k = c.args.at.file in
     let j = c.args.at.map in
     let y = c.map.result.now in
-    subst (λ (v : Files). IsMapLent (map_at v.files k j) y) c.self.view_is (record {
+    subst (λ (v : Files). IsMapLent (map_among v.files k j) y) c.self.view_is (record {
       store = s.store;
       is = map_seen s.store s.list.files k j (subst (λ (v : Files). k < length v.files) (sym c.self.view_is) c.requires.file) c.index.result.now c.index.ensures
           y c.map.ensures (subst (λ (v : Files). j < length (file_at v.files k).maps) (sym c.self.view_is) c.requires.map);

@@ -4,7 +4,7 @@ use Rattle.std.proofs.lemmas.List.{get_or_read}
 use Rattle.std.specs.Fn.{iterate}
 use Rattle.std.specs.List.{count_by}
 use Rattle.hp_model.specs.declared.node.Kind.TheVariants.{Idle}
-use Rattle.hp_model.specs.pool.NodeRows.{NodeRows, row_at, no_row, has, sum_row, after, grown}
+use Rattle.hp_model.specs.pool.NodeRows.{NodeRows, row_at, no_row, has, sum_row, next_node, grown}
 use Rattle.hp_nodes.specs.Moves.{amount, HasMany, where_has, grow_by}
 use Rattle.hp_nodes.proofs.Each.{kept_grow_each, grow_each_sums, written}
 use Rattle.hp_nodes.proofs.Finds.{has_amount}
@@ -37,7 +37,7 @@ returns-clause-moved g c =
     let enough : All (HasMany Idle r) rows = λ k d below e. (let h = least k d below e in omega (arith, h, c.min-rounds.ensures)) in
     let count : c.having-round.result ≡ count_by (has Idle) rows = c.having-round.ensures.count ∙ ap (count_by (has Idle)) c.deref.ensures.value in
     let lists : NodeRows = record { rows = rows; growth = s.growth; release = s.release } in
-    let behind : s.growth ≡ after c.args.at rows = ap (λ v. v.growth) c.self.view_is ∙ c.requires.behind ∙ ap (λ v. after c.args.at v.rows) (sym c.self.view_is) in
+    let behind : s.growth ≡ next_node c.args.at rows = ap (λ v. v.growth) c.self.view_is ∙ c.requires.behind ∙ ap (λ v. next_node c.args.at v.rows) (sym c.self.view_is) in
     let below : c.args.at < length rows = subst (λ v. c.args.at < length v.rows) (sym c.self.view_is) c.requires.within in
     let is : c.index.result.now ≡ row_at rows c.args.at = get_or_read rows _ _ below c.index.ensures no_row in
     let passes : c.has.result ≡ true = search (rules, tests) in

@@ -1,6 +1,6 @@
 use Rattle.std.proofs.Common.{◌≤◌, subst, sym}
 use Rattle.std.specs.List.{sum}
-use Rattle.hp_own_pool.specs.Parcel.{amount_of}
+use Rattle.hp_own_pool.specs.Parcel.{claimed}
 use Rattle.hp_own_pool.proofs.Returning.{four_put}
 use Rattle.hp_own_pool.proofs.parcel.Parcel.put.Goals as goal
 
@@ -9,6 +9,6 @@ returns-clause-pool g c =
     let s = c.self.inside in
     let within = subst (λ xs. sum xs ≤ c.args.share.now.pages) (sym c.self.view_is) c.requires in
     rw (← c.self.view_is) (four_put c.args.share.now c.put_part.new.share c.put_part-2.new.share c.put_part-3.new.share c.put_part-4.new.share
-    c.args.pool.now c.put_part.new.pool c.put_part-2.new.pool c.put_part-3.new.pool c.put_part-4.new.pool (amount_of s.zero) (amount_of s.one) (amount_of s.two) (amount_of s.three) within
+    c.args.pool.now c.put_part.new.pool c.put_part-2.new.pool c.put_part-3.new.pool c.put_part-4.new.pool (claimed s.zero) (claimed s.one) (claimed s.two) (claimed s.three) within
     c.put_part.ensures.share c.put_part.ensures.pool c.put_part-2.ensures.share c.put_part-2.ensures.pool
     c.put_part-3.ensures.share c.put_part-3.ensures.pool c.put_part-4.ensures.share c.put_part-4.ensures.pool).1

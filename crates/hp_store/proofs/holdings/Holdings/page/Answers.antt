@@ -1,6 +1,6 @@
 use Rattle.std.proofs.Common.{◌≡◌, ap, length, vec_len, arith, rules}
 use Rattle.std.specs.Option.{option_map}
-use Rattle.hp_store.specs.Store.{page_of}
+use Rattle.hp_store.specs.Store.{held_page}
 use Rattle.hp_store.proofs.Counted.{held_within, page_read, page_there}
 use Rattle.hp_store.proofs.holdings.Holdings.page.Goals as goal
 
@@ -18,4 +18,4 @@ unreachable-requires g c =
 pub returns : goal.returns
 returns g c =
     let some = rw (← c.self.view_is) at c.requires in
-    rw (← c.self.view_is) (ap (option_map page_of) (page_read _ _ c.self.invariant.counted c.args.at c.index.result.now some c.index.ensures c.in-Some.page c.in-Some.is))
+    rw (← c.self.view_is) (ap (option_map held_page) (page_read _ _ c.self.invariant.counted c.args.at c.index.result.now some c.index.ensures c.in-Some.page c.in-Some.is))

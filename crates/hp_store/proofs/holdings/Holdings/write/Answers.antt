@@ -1,6 +1,6 @@
 use Rattle.std.proofs.Common.{◌≡◌, length, Some, vec_len, arith, rules}
 use Rattle.std.proofs.lemmas.List.{length-set}
-use Rattle.hp_store.specs.Store.{written}
+use Rattle.hp_store.specs.Store.{written_in}
 use Rattle.hp_store.proofs.Counted.{counted_page, held_within, page_set, page_there}
 use Rattle.hp_store.proofs.holdings.Holdings.write.Goals as goal
 
@@ -31,5 +31,5 @@ returns g c =
     rw (
       ← c.self.view_is,
       page_set _ _ c.self.invariant.counted c.args.at c.index_mut.result.now some c.index_mut.ensures.value c.in-Some.page
-          c.write.new.self (written c.args.offset c.args.bytes.now) c.in-Some.is (λ h. rw c.write.ensures),
+          c.write.new.self (written_in c.args.offset c.args.bytes.now) c.in-Some.is (λ h. rw c.write.ensures),
     )

@@ -12,7 +12,7 @@ use Rattle.hp_model.specs.pool.PoolCounts.{Pool}
 use Rattle.hp_model.specs.machine.State.{State}
 use Rattle.hp_model.specs.machine.Step.{IsScript, on_slot}
 use Rattle.hp_subpool.specs.Subpool.{Subpool}
-use Rattle.hp_mount_laws.specs.Kept.{mount_of}
+use Rattle.hp_mount_laws.specs.Kept.{mount_from}
 use Rattle.hp_model.specs.machine.Ready.{state_of, Machine}
 use Rattle.hp_system.proofs.Carries.{kept_after, ready, kept_by, IsKept, ready_by}
 use Rattle.hp_system.proofs.MachineSteps.{read_slot, slot_done, slot_same}
@@ -90,7 +90,7 @@ returns-clause-ready g c =
     let m = c.new-mount.result in
     let q = c.open.new.self in
     let l = c.in_ok-limits.limits in
-    let mounted = c.new-mount.ensures ∙ ap (λ (x : Subpool). mount_of x l.inodes []) c.in_ok-share.ensures.ok.0 in
+    let mounted = c.new-mount.ensures ∙ ap (λ (x : Subpool). mount_from x l.inodes []) c.in_ok-share.ensures.ok.0 in
     let done = mount_done s.page_bytes c.args.slot s.pool text c.in_ok-limits.limits m q (means ∙ c.in_ok-limits.was) (c.in_ok-share.ensures.granted.0 refl) mounted c.in_ok-share.ensures.ok.1 in
     ready_by (subst (λ y. IsKept s.page_bytes g.N.Naming.page_bytes s.table (slice_set s.slots.items c.args.slot y) q) (sym c.replace.ensures.after)
     (kept_after s.page_bytes g.N.Naming.page_bytes s.table s.slots.items c.args.slot None (Some m) s.pool q (Mount text) (Ok Done)
@@ -108,7 +108,7 @@ returns-clause-done g c =
     let q = c.open.new.self in
     let was = c.args.self.now.state in
     let l = c.in_ok-limits.limits in
-    let mounted = c.new-mount.ensures ∙ ap (λ (x : Subpool). mount_of x l.inodes []) c.in_ok-share.ensures.ok.0 in
+    let mounted = c.new-mount.ensures ∙ ap (λ (x : Subpool). mount_from x l.inodes []) c.in_ok-share.ensures.ok.0 in
     let done = mount_done s.page_bytes c.args.slot s.pool text c.in_ok-limits.limits m q (means ∙ c.in_ok-limits.was) (c.in_ok-share.ensures.granted.0 refl) mounted c.in_ok-share.ensures.ok.1 in
     subst (λ y. IsScript was (on_slot (length was.slots) c.args.slot (Mount text)) (Ok Done) (state_of s.page_bytes s.table (slice_set s.slots.items c.args.slot y) q)) (sym c.replace.ensures.after)
     (slot_done s.page_bytes g.N.Naming.page_bytes s.table s.slots.items s.pool

@@ -3,7 +3,7 @@ use Rattle.hp_model.specs.machine.Step.{on_slot}
 use Rattle.hp_model.specs.machine.State.{State, slot_at}
 use Rattle.hp_model.specs.machine.Table.{home_of}
 use Rattle.hp_model.specs.beside.Told.{told_reply}
-use Rattle.hp_events.specs.Event.{event_of}
+use Rattle.hp_events.specs.Event.{as_event}
 use Rattle.hp_system.proofs.Asking.{of_any_home}
 use Rattle.hp_system.proofs.MachineSteps.{task_found, task_not_found}
 use Rattle.hp_model.specs.machine.Ready.{Machine}
@@ -13,14 +13,14 @@ pub returns-in-Some-clause-done : goal.returns-in-Some-clause-done
 returns-in-Some-clause-done g c =
     let s = c.args.self.now.state in
     let known = ap (λ (x : State). home_of x.table c.args.task) (sym (ap (λ (x : Machine). x.state) c.self.view_is)) ∙ sym c.home.ensures ∙ c.in-Some.is in
-    task_found s c.args.task c.on_slot.new.self.state c.in-Some.home (λ home. on_slot (length s.slots) c.args.slot (event_of home c.args.event.now))
+    task_found s c.args.task c.on_slot.new.self.state c.in-Some.home (λ home. on_slot (length s.slots) c.args.slot (as_event home c.args.event.now))
     (told_reply c.on_slot.new.reply) known c.on_slot.ensures.done
 
 pub returns-in-None-clause-done : goal.returns-in-None-clause-done
 returns-in-None-clause-done g c =
     let s = c.args.self.now.state in
     let unknown = ap (λ (x : State). home_of x.table c.args.task) (sym (ap (λ (x : Machine). x.state) c.self.view_is)) ∙ sym c.home.ensures ∙ c.in-None.is in
-    task_not_found s c.args.task (λ home. on_slot (length s.slots) c.args.slot (event_of home c.args.event.now)) unknown
+    task_not_found s c.args.task (λ home. on_slot (length s.slots) c.args.slot (as_event home c.args.event.now)) unknown
 
 pub returns-in-Some-clause-memory : goal.returns-in-Some-clause-memory
 returns-in-Some-clause-memory g c asks = c.on_slot.ensures.memory (of_any_home (slot_at c.args.self.now.state c.args.slot) c.in-Some.home 0 c.args.event.now ∙ asks)

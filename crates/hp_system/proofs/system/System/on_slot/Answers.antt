@@ -4,7 +4,7 @@ use Rattle.hp_model.specs.machine.Plan.{Choice, Slot}
 use Rattle.hp_model.specs.machine.SlotEvent.{slot_event}
 use Rattle.hp_model.specs.machine.Step.{IsScript, on_slot}
 use Rattle.hp_model.specs.beside.Told.{told_reply}
-use Rattle.hp_events.specs.Event.{event_of}
+use Rattle.hp_events.specs.Event.{as_event}
 use Rattle.hp_system.specs.Event.{IsCarried}
 use Rattle.hp_system.proofs.Carries.{happens, kept_after, never_full, ready, unmounted, kept_by, ready_by}
 use Rattle.hp_system.proofs.MachineSteps.{machine_back, read_slot, slot_done, slot_same, state_back}
@@ -15,7 +15,7 @@ pub returns-in_default-clause-done : goal.returns-in_default-clause-done
 returns-in_default-clause-done g c =
     let s = c.self.inside in
     let was = c.args.self.now.state in
-    let e = event_of c.args.home c.args.event.now in
+    let e = as_event c.args.home c.args.event.now in
     let x = c.index_mut.result.now in
     let within : c.args.slot < length s.slots.items = omega (arith, c.if-at-len.false, c.len.ensures) in
     let here = read_slot s.slots.items c.args.slot x None within c.index_mut.ensures.value c.in_default.is in
@@ -41,7 +41,7 @@ returns-clause-ready g c =
     let s = c.self.inside in
     let old : Slot = Some c.in-Some.mount in
     let new : Slot = Some c.apply.new.self in
-    let e = event_of c.args.home c.args.event.now in
+    let e = as_event c.args.home c.args.event.now in
     let within : c.args.slot < length s.slots.items = omega (arith, c.if-at-len.false, c.len.ensures) in
     let here = read_slot s.slots.items c.args.slot c.index_mut.result.now old within c.index_mut.ensures.value c.in-Some.is in
     let done = never_full (λ (x : Choice). slot_event g.N.Naming.page_bytes c.args.slot x old e) old new s.pool c.apply.new.door (told_reply c.apply.result) (c.apply.ensures.done c.args.slot) in
@@ -55,7 +55,7 @@ returns-clause-done g c =
     let s = c.self.inside in
     let old : Slot = Some c.in-Some.mount in
     let new : Slot = Some c.apply.new.self in
-    let e = event_of c.args.home c.args.event.now in
+    let e = as_event c.args.home c.args.event.now in
     let within : c.args.slot < length s.slots.items = omega (arith, c.if-at-len.false, c.len.ensures) in
     let here = read_slot s.slots.items c.args.slot c.index_mut.result.now old within c.index_mut.ensures.value c.in-Some.is in
     let done = never_full (λ (x : Choice). slot_event g.N.Naming.page_bytes c.args.slot x old e) old new s.pool c.apply.new.door (told_reply c.apply.result) (c.apply.ensures.done c.args.slot) in

@@ -4,7 +4,7 @@ use Rattle.std.proofs.lemmas.List.{length-append}
 use Rattle.std.proofs.lemmas.List.Sorted.{length_permutation}
 use Rattle.std.proofs.lemmas.List.Elements.{filter_map-append}
 use Rattle.hp_model.specs.machine.Table.{Table, added, home_of}
-use Rattle.hp_tasks.specs.Table.{HasEachOnce, Slot, tasks_in}
+use Rattle.hp_tasks.specs.Table.{HasEachOnce, TaskRow, tasks_in}
 use Rattle.hp_tasks.proofs.Slots.{listed_more}
 use Rattle.hp_tasks.proofs.Tasks.{once_added}
 use Rattle.hp_tasks.proofs.table.TaskTable.add.Goals as goal
@@ -16,7 +16,7 @@ module _ (c : After-push_reserved) where
 
   more : tasks_in c.push_reserved.new.self.items ≡ added tasks c.args.task c.args.home
   more =
-      ap tasks_in c.push_reserved.ensures.items ∙ filter_map-append (λ (slot : Slot). slot) c.make_slot.new.slots.items (Some (c.args.task, c.args.home) ∷ [])
+      ap tasks_in c.push_reserved.ensures.items ∙ filter_map-append (λ (slot : TaskRow). slot) c.make_slot.new.slots.items (Some (c.args.task, c.args.home) ∷ [])
       ∙ ap (λ (t : Table). t ++ (c.args.task, c.args.home) ∷ []) c.make_slot.ensures.tasks
 
 pub invariant_of-self : goal.invariant_of-self

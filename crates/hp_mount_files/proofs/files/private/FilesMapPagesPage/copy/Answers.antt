@@ -8,7 +8,7 @@ use Rattle.hp_store.specs.Store.{holders_of, page_at}
 use Rattle.hp_lookup.specs.declared.copy_state.CopyState.TheVariants as state
 use Rattle.hp_lookup.specs.Files.{Files, file_at}
 use Rattle.hp_lookup.specs.Numbered.{copy_shown}
-use Rattle.hp_lookup.specs.Places.{map_at}
+use Rattle.hp_lookup.specs.Places.{map_among}
 use Rattle.hp_file.specs.States.{AreAgreed, IsCopyState}
 use Rattle.hp_mount_files.proofs.CopyHeld.{agreed_there, copy_there, few_there, held_once}
 use Rattle.hp_mount_files.proofs.Here.{file_here, map_here, file_inside, map_inside}
@@ -54,7 +54,7 @@ returns-then-holders-eq1-clause-state g c =
     let n = c.in-Some.number in
     let there = sym c.copy_at.ensures ∙ c.in-Some.is in
     let once : (holders_of (page_at s.store n) == 1) ≡ true = ap (λ x. x == 1) (sym c.holders.ensures.holders) ∙ eq-eqb c.holders.result 1 c.if-holders-eq1.true in
-    subst (λ (v : Files). IsCopyState state.HeldOnce (file_at v.files c.args.at.file) (place_at (map_at v.files c.args.at.file c.args.at.map) c.args.index)) c.self.view_is (
+    subst (λ (v : Files). IsCopyState state.HeldOnce (file_at v.files c.args.at.file) (place_at (map_among v.files c.args.at.file c.args.at.map) c.args.index)) c.self.view_is (
       copy_shown s.store n,
       copy_there s.store s.more s.list.files c.self.invariant.held c.args.at.file c.args.at.map c.args.index
           (file_here c.self.view_is c.args.at.file c.requires.file) (map_here c.self.view_is c.args.at.file c.args.at.map c.requires.map)
@@ -71,7 +71,7 @@ returns-else-holders-eq1-clause-state g c =
     let n = c.in-Some.number in
     let there = sym c.copy_at.ensures ∙ c.in-Some.is in
     let once : (holders_of (page_at s.store n) == 1) ≡ false = ap (λ x. x == 1) (sym c.holders.ensures.holders) ∙ grind (arith, nat_tests, c.if-holders-eq1.false) in
-    subst (λ (v : Files). IsCopyState state.HeldBySeveral (file_at v.files c.args.at.file) (place_at (map_at v.files c.args.at.file c.args.at.map) c.args.index)) c.self.view_is (
+    subst (λ (v : Files). IsCopyState state.HeldBySeveral (file_at v.files c.args.at.file) (place_at (map_among v.files c.args.at.file c.args.at.map) c.args.index)) c.self.view_is (
       copy_shown s.store n,
       copy_there s.store s.more s.list.files c.self.invariant.held c.args.at.file c.args.at.map c.args.index
           (file_here c.self.view_is c.args.at.file c.requires.file) (map_here c.self.view_is c.args.at.file c.args.at.map c.requires.map)

@@ -10,7 +10,7 @@ use Rattle.hp_lookup.specs.declared.copy_state.CopyState.TheVariants as state
 use Rattle.hp_lookup.specs.Files.{Files, parted_at}
 use Rattle.hp_lookup.specs.Keyed.{label_of}
 use Rattle.hp_lookup.specs.Numbered.{files_shown, mapping_at}
-use Rattle.hp_lookup.specs.Places.{map_at}
+use Rattle.hp_lookup.specs.Places.{map_among}
 use Rattle.hp_lookup.proofs.Keys.{files_same, same_label}
 use Rattle.hp_mount_files.proofs.Parting.{number, part_keeps, part_levels, part_once, part_view, room_there, still_there}
 use Rattle.hp_file.proofs.PutCopy.{put_fresh}
@@ -58,7 +58,7 @@ invariant_of-self g c =
     let x = c.index_mut-file.result.now in
     let n = c.insert-number.result in
     let several = (state_here c.self.view_is c.args.at.file c.args.at.map c.args.index state.HeldBySeveral c.requires.several) in
-    let live = live_of (place_at (map_at (files_shown s.store s.list.files) c.args.at.file c.args.at.map) c.args.index) several.0 several.1 in
+    let live = live_of (place_at (map_among (files_shown s.store s.list.files) c.args.at.file c.args.at.map) c.args.index) several.0 several.1 in
     let is = c.self.invariant in
     files_same s.hints s.store c.drop_holder.new.store s.more c.drop_holder.new.more s.maps (count_of s.counts) s.list.files c.args.at.file x
     c.replace_copy-old.new.self (file_here c.self.view_is c.args.at.file c.requires.file) c.index_mut-file.ensures.value
@@ -104,7 +104,7 @@ returns-clause-once g c =
     let x = c.index_mut-file.result.now in
     let n = c.insert-number.result in
     let several = (state_here c.self.view_is c.args.at.file c.args.at.map c.args.index state.HeldBySeveral c.requires.several) in
-    let live = live_of (place_at (map_at (files_shown s.store s.list.files) c.args.at.file c.args.at.map) c.args.index) several.0 several.1 in
+    let live = live_of (place_at (map_among (files_shown s.store s.list.files) c.args.at.file c.args.at.map) c.args.index) several.0 several.1 in
     part_once s.store s.more s.list.files c.self.invariant.held c.args.at.file c.args.at.map c.args.index
     (file_here c.self.view_is c.args.at.file c.requires.file) (map_here c.self.view_is c.args.at.file c.args.at.map c.requires.map)
     c.index_mut-file.result.now c.index_mut-file.ensures.value (state_here c.self.view_is c.args.at.file c.args.at.map c.args.index

@@ -5,7 +5,7 @@ use Rattle.hp_model.specs.files.Mapping.{place_at}
 use Rattle.hp_model.specs.files.MountCounts.{stamps_of}
 use Rattle.hp_lookup.specs.Tally.{count_of}
 use Rattle.hp_lookup.specs.Files.{Files, copied_at}
-use Rattle.hp_lookup.specs.Places.{map_at}
+use Rattle.hp_lookup.specs.Places.{map_among}
 use Rattle.hp_lookup.specs.Keyed.{label_of}
 use Rattle.hp_lookup.specs.Numbered.{mapping_at}
 use Rattle.hp_file.specs.Taking.{first_copy}
@@ -43,7 +43,7 @@ invariant_of-self g c =
     let s = c.self.inside in
     let x = c.index_mut-file.result.now in
     let n = c.insert-number.result in
-    let bare = bare_place (place_at (map_at c.args.self.now.files c.args.at.file c.args.at.map) c.args.index) c.requires.live c.requires.bare in
+    let bare = bare_place (place_at (map_among c.args.self.now.files c.args.at.file c.args.at.map) c.args.index) c.requires.live c.requires.bare in
     let place = place_here c.self.view_is c.args.at.file c.args.at.map c.args.index bare.1 in
     files_same s.hints s.store c.insert-number.new.self s.more s.more s.maps (count_of s.counts) s.list.files c.args.at.file x c.put_copy.new.self
     (file_here c.self.view_is c.args.at.file c.requires.file) c.index_mut-file.ensures.value
@@ -76,14 +76,14 @@ returns-clause-copied g c consumed place =
     c.index_mut-file.result.now c.index_mut-file.ensures.value c.insert-number.result c.args.page c.insert-number.new.self
     c.insert-number.ensures.fresh c.insert-number.ensures.within c.insert-number.ensures.inserted
     c.put_copy.new.self c.put_copy.ensures consumed (place_here c.self.view_is c.args.at.file c.args.at.map c.args.index place)
-    ∙ ap (λ (v : Files). copied_at c.args.at.file c.args.at.map c.args.index ((map_at v.files c.args.at.file c.args.at.map).owner || consumed) c.insert-number.result c.args.page v) c.self.view_is
+    ∙ ap (λ (v : Files). copied_at c.args.at.file c.args.at.map c.args.index ((map_among v.files c.args.at.file c.args.at.map).owner || consumed) c.insert-number.result c.args.page v) c.self.view_is
 
 pub returns-clause-once : goal.returns-clause-once
 returns-clause-once g c =
     let s = c.self.inside in
     let x = c.index_mut-file.result.now in
     let n = c.insert-number.result in
-    let bare = bare_place (place_at (map_at c.args.self.now.files c.args.at.file c.args.at.map) c.args.index) c.requires.live c.requires.bare in
+    let bare = bare_place (place_at (map_among c.args.self.now.files c.args.at.file c.args.at.map) c.args.index) c.requires.live c.requires.bare in
     let place = place_here c.self.view_is c.args.at.file c.args.at.map c.args.index bare.1 in
     put_once s.store s.more s.list.files c.self.invariant.held c.args.at.file c.args.at.map c.args.index
     (file_here c.self.view_is c.args.at.file c.requires.file) (map_here c.self.view_is c.args.at.file c.args.at.map c.requires.map) x

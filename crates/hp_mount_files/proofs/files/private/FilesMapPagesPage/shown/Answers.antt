@@ -2,7 +2,7 @@ use Rattle.std.proofs.Common.{◌<◌, length, sym, subst, ap, ◌∙◌}
 use Rattle.hp_model.specs.files.Value.{value}
 use Rattle.hp_store.specs.Store.{page_at}
 use Rattle.hp_lookup.specs.Files.{Files, file_at}
-use Rattle.hp_lookup.specs.Places.{map_at}
+use Rattle.hp_lookup.specs.Places.{map_among}
 use Rattle.hp_lookup.proofs.Views.{page_lent, page_shows, zeros_show}
 use Rattle.hp_mount_files.proofs.Here.{file_inside, map_inside}
 use Rattle.hp_mount_files.proofs.files.private.FilesMapPagesPage.shown.Goals as goal
@@ -27,14 +27,14 @@ returns-in-Some-page_at-clause-some g c =
     c.index-file.result.now c.index-file.ensures c.map-map.result.now c.map-map.ensures
     (subst (λ (v : Files). j < length (file_at v.files k).maps) (sym c.self.view_is) c.requires.map) g.N.Naming.page_bytes c.args.index
     _ (sym c.copy_at.ensures ∙ c.in-None.is) (sym c.page_at.ensures ∙ c.in-Some-page_at.is))
-    ∙ ap (λ (v : Files). value g.N.Naming.page_bytes (file_at v.files k) (map_at v.files k j) c.args.index) c.self.view_is
+    ∙ ap (λ (v : Files). value g.N.Naming.page_bytes (file_at v.files k) (map_among v.files k j) c.args.index) c.self.view_is
 
 pub returns-in-None-page_at-clause-none : goal.returns-in-None-page_at-clause-none
 returns-in-None-page_at-clause-none g c =
     let s = c.self.inside in
     let k = c.args.at.file in
     let j = c.args.at.map in
-    sym (ap (λ (v : Files). value g.N.Naming.page_bytes (file_at v.files k) (map_at v.files k j) c.args.index) c.self.view_is)
+    sym (ap (λ (v : Files). value g.N.Naming.page_bytes (file_at v.files k) (map_among v.files k j) c.args.index) c.self.view_is)
     ∙ zeros_show s.store s.list.files k j (subst (λ (v : Files). k < length v.files) (sym c.self.view_is) c.requires.file) c.index-file.result.now
     c.index-file.ensures c.map-map.result.now c.map-map.ensures
     (subst (λ (v : Files). j < length (file_at v.files k).maps) (sym c.self.view_is) c.requires.map) g.N.Naming.page_bytes c.args.index

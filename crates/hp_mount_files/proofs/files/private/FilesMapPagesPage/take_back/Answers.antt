@@ -5,7 +5,7 @@ use Rattle.hp_model.specs.files.Page.{Copy}
 use Rattle.hp_lookup.specs.Tally.{count_of}
 use Rattle.hp_lookup.specs.Dropping.{IsLeft}
 use Rattle.hp_lookup.specs.Files.{Files, taken_back_at}
-use Rattle.hp_lookup.specs.Places.{map_at}
+use Rattle.hp_lookup.specs.Places.{map_among}
 use Rattle.hp_mount_files.proofs.TakingBack.{back_files, back_keeps, back_left, back_once}
 use Rattle.hp_lookup.proofs.Views.{view}
 use Rattle.hp_mount_files.proofs.Here.{file_here, map_here, file_inside, map_inside, copy_inside, held_inside}
@@ -45,8 +45,8 @@ take_back-requires-clause-counted g c = c.self.invariant.held.counted
 pub invariant_of-self : goal.invariant_of-self
 invariant_of-self g c =
     let s = c.self.inside in
-    let found = some_value (copy_of (place_at (map_at c.args.self.now.files c.args.at.file c.args.at.map) c.args.index)) c.requires.copy in
-    let there = ap (λ (v : Files). copy_of (place_at (map_at v.files c.args.at.file c.args.at.map) c.args.index)) c.self.view_is ∙ found.1 in
+    let found = some_value (copy_of (place_at (map_among c.args.self.now.files c.args.at.file c.args.at.map) c.args.index)) c.requires.copy in
+    let there = ap (λ (v : Files). copy_of (place_at (map_among v.files c.args.at.file c.args.at.map) c.args.index)) c.self.view_is ∙ found.1 in
     back_keeps s.hints s.store c.take_back.new.store s.more c.take_back.new.more s.maps (count_of s.counts) s.list.files c.self.invariant
     c.args.at.file c.args.at.map c.args.index (file_here c.self.view_is c.args.at.file c.requires.file)
     (map_here c.self.view_is c.args.at.file c.args.at.map c.requires.map) c.index_mut-file.result.now c.take_back.new.self
@@ -59,14 +59,14 @@ returns-clause-files g c copy there =
     c.args.at.file c.args.at.map c.args.index (file_here c.self.view_is c.args.at.file c.requires.file)
     (map_here c.self.view_is c.args.at.file c.args.at.map c.requires.map) c.index_mut-file.result.now c.take_back.new.self
     c.index_mut-file.ensures.value c.take_back.ensures.file c.take_back.ensures.dropping c.take_back.ensures.counted copy
-    (ap (λ (v : Files). copy_of (place_at (map_at v.files c.args.at.file c.args.at.map) c.args.index)) c.self.view_is ∙ there)
+    (ap (λ (v : Files). copy_of (place_at (map_among v.files c.args.at.file c.args.at.map) c.args.index)) c.self.view_is ∙ there)
     ∙ ap (λ (v : Files). taken_back_at c.args.at.file c.args.at.map copy.stamp v.files) c.self.view_is
 
 pub returns-clause-left : goal.returns-clause-left
 returns-clause-left g c =
     let s = c.self.inside in
-    let found = some_value (copy_of (place_at (map_at c.args.self.now.files c.args.at.file c.args.at.map) c.args.index)) c.requires.copy in
-    let there = ap (λ (v : Files). copy_of (place_at (map_at v.files c.args.at.file c.args.at.map) c.args.index)) c.self.view_is ∙ found.1 in
+    let found = some_value (copy_of (place_at (map_among c.args.self.now.files c.args.at.file c.args.at.map) c.args.index)) c.requires.copy in
+    let there = ap (λ (v : Files). copy_of (place_at (map_among v.files c.args.at.file c.args.at.map) c.args.index)) c.self.view_is ∙ found.1 in
     subst (λ v. IsLeft 0 v (view c.take_back.new.store c.take_back.new.more (slice_set s.list.files c.args.at.file c.take_back.new.self))) c.self.view_is
     (back_left s.hints s.store c.take_back.new.store s.more c.take_back.new.more s.maps (count_of s.counts) s.list.files c.self.invariant
     c.args.at.file c.args.at.map c.args.index (file_here c.self.view_is c.args.at.file c.requires.file)
@@ -76,8 +76,8 @@ returns-clause-left g c =
 pub returns-clause-once : goal.returns-clause-once
 returns-clause-once g c =
     let s = c.self.inside in
-    let found = some_value (copy_of (place_at (map_at c.args.self.now.files c.args.at.file c.args.at.map) c.args.index)) c.requires.copy in
-    let there = ap (λ (v : Files). copy_of (place_at (map_at v.files c.args.at.file c.args.at.map) c.args.index)) c.self.view_is ∙ found.1 in
+    let found = some_value (copy_of (place_at (map_among c.args.self.now.files c.args.at.file c.args.at.map) c.args.index)) c.requires.copy in
+    let there = ap (λ (v : Files). copy_of (place_at (map_among v.files c.args.at.file c.args.at.map) c.args.index)) c.self.view_is ∙ found.1 in
     back_once s.hints s.store c.take_back.new.store s.more c.take_back.new.more s.maps (count_of s.counts) s.list.files c.self.invariant
     c.args.at.file c.args.at.map c.args.index (file_here c.self.view_is c.args.at.file c.requires.file)
     (map_here c.self.view_is c.args.at.file c.args.at.map c.requires.map) c.index_mut-file.result.now c.take_back.new.self

@@ -3,7 +3,7 @@ use Rattle.hp_model.specs.files.Mapping.{place_at}
 use Rattle.hp_model.specs.files.Spot.{place_written}
 use Rattle.hp_lookup.specs.declared.copy_state.CopyState.TheVariants as state
 use Rattle.hp_lookup.specs.Files.{Files, file_at, placed_at}
-use Rattle.hp_lookup.specs.Places.{map_at}
+use Rattle.hp_lookup.specs.Places.{map_among}
 use Rattle.hp_file.specs.States.{IsCopyState}
 use Rattle.hp_mount_files.proofs.CopyWritten.{copy_alone, copy_write_keeps, copy_write_view}
 use Rattle.hp_mount_files.proofs.Here.{file_inside, map_inside}
@@ -28,7 +28,7 @@ write-requires-clause-alone g c =
     copy_alone s.store s.more s.list.files c.self.invariant.held k j i (subst (λ (v : Files). k < length v.files) (sym c.self.view_is)
     c.requires.file) (subst (λ (v : Files). j < length (file_at v.files k).maps) (sym c.self.view_is) c.requires.map) c.index.result.now
     c.index.ensures c.map-map.result.now c.map-map.ensures c.unwrap-number.result (sym c.copy_at.ensures ∙ c.unwrap-number.ensures)
-    (subst (λ (v : Files). IsCopyState state.HeldOnce (file_at v.files k) (place_at (map_at v.files k j) i)) (sym c.self.view_is) c.requires.once)
+    (subst (λ (v : Files). IsCopyState state.HeldOnce (file_at v.files k) (place_at (map_among v.files k j) i)) (sym c.self.view_is) c.requires.once)
 
 pub invariant_of-self : goal.invariant_of-self
 invariant_of-self g c =
@@ -42,7 +42,7 @@ invariant_of-self g c =
           (subst (λ (v : Files). k < length v.files) (sym c.self.view_is) c.requires.file)
           (subst (λ (v : Files). j < length (file_at v.files k).maps) (sym c.self.view_is) c.requires.map) c.index.result.now c.index.ensures
           c.map-map.result.now c.map-map.ensures c.unwrap-number.result (sym c.copy_at.ensures ∙ c.unwrap-number.ensures)
-          (subst (λ (v : Files). IsCopyState state.HeldOnce (file_at v.files k) (place_at (map_at v.files k j) i)) (sym c.self.view_is)
+          (subst (λ (v : Files). IsCopyState state.HeldOnce (file_at v.files k) (place_at (map_among v.files k j) i)) (sym c.self.view_is)
           c.requires.once) c.args.offset c.args.bytes.now c.write.new.self c.write.ensures;
       keyed = is.keyed;
       noted = is.noted;
@@ -58,6 +58,6 @@ returns g c =
     copy_write_view s.store s.more s.list.files c.self.invariant.held k j i (subst (λ (v : Files). k < length v.files) (sym c.self.view_is)
     c.requires.file) (subst (λ (v : Files). j < length (file_at v.files k).maps) (sym c.self.view_is) c.requires.map) c.index.result.now
     c.index.ensures c.map-map.result.now c.map-map.ensures c.unwrap-number.result (sym c.copy_at.ensures ∙ c.unwrap-number.ensures)
-    (subst (λ (v : Files). IsCopyState state.HeldOnce (file_at v.files k) (place_at (map_at v.files k j) i)) (sym c.self.view_is) c.requires.once)
+    (subst (λ (v : Files). IsCopyState state.HeldOnce (file_at v.files k) (place_at (map_among v.files k j) i)) (sym c.self.view_is) c.requires.once)
     c.args.offset c.args.bytes.now c.write.new.self c.write.ensures
-    ∙ ap (λ (v : Files). placed_at k j i (place_written c.args.offset c.args.bytes.now (place_at (map_at v.files k j) i)) v) c.self.view_is
+    ∙ ap (λ (v : Files). placed_at k j i (place_written c.args.offset c.args.bytes.now (place_at (map_among v.files k j) i)) v) c.self.view_is
