@@ -9,7 +9,7 @@ use Rattle.hp_model.specs.declared.section.Section.{Section}
 use Rattle.hp_model.specs.files.Options.{limits, wanted_of}
 use Rattle.hp_own_pool.proofs.Limiting.{never_full}
 use Rattle.hp_subpool.specs.Subpool.{Subpool}
-use Rattle.hp_locked.specs.Opened.{IsOpenedAt, IsShareOf, as_share}
+use Rattle.hp_locked.specs.Opened.{IsOpenedAt, IsShareOf}
 
 full_is : (l : Result Limits Refusal) (nr : ℕ) (s : Section) (a : PoolAnswer) → IsShareOf l nr (Err r.TraceFull) s a → l ≡ Err r.TraceFull
 full_is (Err e) nr s a h = (let same = h.0 in cc)
@@ -21,10 +21,3 @@ pub opened_at : {X : Type 0} (took : X → Section → PoolAnswer → X → Type
 opened_at took full size text old new (Err r.TraceFull) nr s a h t = absurd (never_full nr size (wanted_of text) (full_is (limits nr size (wanted_of text)) nr s a h))
 opened_at took full size text old new (Ok got) nr s a h t = (nr, s, a, h, t)
 opened_at took full size text old new (Err other) nr s a h t = (nr, s, a, h, t)
-
--- the same of a share that means itself
-pub opened_as : {X : Type 0} (took : X → Section → PoolAnswer → X → Type 0) (full : X → Type 0) (size : ℕ) (text : List ℕ) (old new : X)
-    (got : Result (Subpool × Limits) Refusal) (nr : ℕ) (s : Section) (a : PoolAnswer)
-    → IsShareOf (limits nr size (wanted_of text)) nr got s a → took old s a new → IsOpenedAt took full size text old new (as_share (λ (x : Subpool). x) got)
-opened_as took full size text old new (Ok got) nr s a h t = opened_at took full size text old new (Ok got) nr s a h t
-opened_as took full size text old new (Err e) nr s a h t = opened_at took full size text old new (Err e) nr s a h t

@@ -21,8 +21,3 @@ abbrev pub IsOpenedAt : {X : Type 0} → (took : X → Section → PoolAnswer �
 IsOpenedAt took full size text old new (Err TraceFull) = (new ≡ old) × full new
 IsOpenedAt took full size text old new got =
     (nr : ℕ) × (s : Section) × (a : PoolAnswer) × IsShareOf (limits nr size (wanted_of text)) nr got s a × took old s a new
-
--- a share by what it means
-abbrev pub as_share : {S : Type 0} → (S → Subpool) → Result (S × Limits) Refusal → Result (Subpool × Limits) Refusal
-as_share share_of (Ok got) = Ok (share_of got.0, got.1)
-as_share share_of (Err e) = Err e

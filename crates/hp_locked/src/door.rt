@@ -1,12 +1,11 @@
 //! A session's door to the pool under its lock.
-ghost use Rattle.std.specs.Prelude.{◌≡◌, ◌<◌, ◌==◌, ℕ, Bool, List, None, Option, Some, is_some, true, []};
+ghost use Rattle.std.specs.Prelude.{◌≡◌, ◌<◌, ◌==◌, Bool, List, None, Option, Some, is_some, true, []};
 ghost use Rattle.hp_history.specs.declared.held.Held.{Held};
 ghost use Rattle.hp_history.specs.Sections.{IsEntered, IsFree};
 ghost use Rattle.hp_model.specs.declared.entry.Asked.{Asked as AskedValue};
 ghost use Rattle.hp_model.specs.declared.section.PoolAnswer.{PoolAnswer};
 ghost use Rattle.hp_model.specs.declared.section.Section.{Section};
-ghost use Rattle.hp_store.specs.Store.{page_at};
-ghost use Rattle.hp_locked.specs.Opened.{IsOpenedAt, as_share};
+ghost use Rattle.hp_locked.specs.Opened.{IsOpenedAt};
 ghost use Rattle.hp_locked.specs.Views.{HasAsked};
 
 use crate::gate::Gate;
@@ -106,7 +105,7 @@ impl<'a, N: Naming + Places, R: Wait, G: Gate, S: Notes, const K: usize> Door<'a
         ensures { IsOpenedAt (λ d s a e. HasAsked e.asked s a
             × IsEntered (K == 1) d.mine e.asked e.mine)
             (λ d. (d.asked ≡ None) × ((K == 1) ≡ true)) page_bytes options.now
-            self.old self.new (as_share (λ s. s) result) }
+            self.old self.new result }
     {
         let mine = &mut self.mine;
         let opened = self
@@ -138,28 +137,8 @@ impl<'a, N: Naming + Places, R: Wait, G: Gate, S: Notes, const K: usize> Door<'a
     }
 }
 
-impl<'a, N: Naming + Places, R: Wait, G: Gate, S: Notes, const K: usize> PoolDoor
+impl<'a, N: Naming + Places, R: Wait, G: Gate, S: Notes, const K: usize> PoolDoor<N>
     for Door<'a, N, R, G, S, K> {
-    type Share = Subpool<N>;
-
-    type Page = Page<N>;
-
-    type Going = PageStore<N>;
-
-    type Batch = PageBatch<N>;
-
-    ghost share_of = { λ s. s };
-
-    ghost page_of = { λ p. p };
-
-    ghost going_of = { λ s. s.going };
-
-    ghost batch_of = { λ b. b };
-
-    ghost emptied = { λ s. record s { going = [] } };
-
-    ghost is_spent = { λ s. (n : ℕ) → page_at s n ≡ None };
-
     ghost is_ready = { λ d. d.asked ≡ None };
 
     ghost took = { λ d s a e. HasAsked e.asked s a × IsEntered (K == 1) d.mine e.asked e.mine };
@@ -282,19 +261,17 @@ impl<'a, N: Naming + Places, R: Wait, G: Gate, S: Notes, const K: usize> PoolDoo
         }
     }
 
-    fn close(&mut self, share: Subpool<N>, going: PageStore<N>) {
-        let mut spent = going;
-        let parcel = self.nodes.gather(self.rt, self.gate, &mut spent);
-        spent.close();
+    fn empty(&mut self, share: &mut Subpool<N>, going: &mut PageStore<N>) {
+        let parcel = self.nodes.gather(self.rt, self.gate, going);
         let mut value = self.core.lock(self.rt);
         let core: &mut Core<N, Trace<PoolEntry, K>> = &mut value;
-        let asked = core.close(self.history, &mut self.mine, share, parcel);
+        let asked = core.empty(self.history, &mut self.mine, share, parcel);
         self.noted.note(asked);
     }
 }
 
 /// A door that tells the section that was entered through it.
-pub trait SessionDoor: PoolDoor {
+pub trait SessionDoor<N: Naming>: PoolDoor<N> {
     ghost asked: { Self → Option AskedValue };
 
     // what the seat has of the history
@@ -309,11 +286,11 @@ pub trait SessionDoor: PoolDoor {
 
     /// The section of a mount: reads nr, and commits the minimum that the options mean at it, for pages of so many bytes.
     /// The share and the limits, or BadOption, MinOverSize or NoPages; or TraceFull, and then there was none.
-    fn open(&mut self, options: &[u8], page_bytes: u64) -> Result<(Self::Share, Limits), Refusal>
+    fn open(&mut self, options: &[u8], page_bytes: u64) -> Result<(Subpool<N>, Limits), Refusal>
         requires ready { Self.PoolDoor.is_ready self.old }
         requires bytes { 0 < page_bytes }
         ensures { IsOpenedAt Self.PoolDoor.took Self.PoolDoor.is_full page_bytes options.now
-            self.old self.new (as_share Self.PoolDoor.share_of result) };
+            self.old self.new result };
 
     // a door that is ready was not used
     ghost begins: { (d : Self) → Self.PoolDoor.is_ready d → asked d ≡ None };
@@ -324,7 +301,7 @@ pub trait SessionDoor: PoolDoor {
         → HasAsked (asked e) s a × IsEntered keeps (mine d) (asked e) (mine e) };
 }
 
-impl<'a, N: Naming + Places, R: Wait, G: Gate, S: Notes, const K: usize> SessionDoor
+impl<'a, N: Naming + Places, R: Wait, G: Gate, S: Notes, const K: usize> SessionDoor<N>
     for Door<'a, N, R, G, S, K> {
     ghost asked = { λ d. d.asked };
 

@@ -4,15 +4,11 @@ ghost use Rattle.hp_model.specs.declared.refusal.Refusal.TheVariants as Refusal;
 ghost use Rattle.hp_model.specs.declared.answer.Answer.TheVariants.{Done};
 ghost use Rattle.hp_model.specs.declared.event.SlotEvent.TheVariants.{Df};
 ghost use Rattle.hp_model.specs.threads.LocalRun.{ThroughDoor};
-ghost use Rattle.hp_model.specs.files.Page.{Page as PageValue};
 ghost use Rattle.hp_model.specs.machine.Plan.{gives};
 ghost use Rattle.hp_model.specs.machine.SlotEvent.{has_maps};
 ghost use Rattle.hp_model.specs.beside.Told.{told_reply};
 ghost use Rattle.hp_model.specs.text.Writing.{IsSmallLimit, IsWithinLimits};
 ghost use Rattle.hp_model.specs.Profile.{most_bytes};
-ghost use Rattle.hp_store.specs.Batch.{Batch as BatchValue};
-ghost use Rattle.hp_store.specs.Store.{Store as StoreValue, page_at};
-ghost use Rattle.hp_subpool.specs.Subpool.{Subpool as ShareValue};
 ghost use Rattle.hp_mount_laws.specs.Alone.{IsDoneAlone};
 ghost use Rattle.hp_mount_laws.specs.Done.{IsDone};
 ghost use Rattle.hp_events.specs.Event.{as_event, is_usage, shows_bytes};
@@ -38,8 +34,6 @@ use hp_model::refusal::Refusal;
 use hp_model::told::Told;
 use hp_mount_door::PoolDoor;
 use hp_mount_files::Files;
-use hp_nodes::Page;
-use hp_store::{PageBatch, PageStore};
 use hp_subpool::Subpool;
 pub use reach::MapAccess;
 use std::alloc::Global;
@@ -113,10 +107,7 @@ impl<N: Naming> Mount<N> {
     /// An access asks for no memory where its index is reserved to its map, or where it makes neither a page nor a copy.
     /// Bytes are answered in the front of the room, which has `MOST_BYTES` where an event answers any.
     #[inline(always)]
-    pub fn apply<
-        'a,
-        D: PoolDoor<Share = Subpool<N>, Page = Page<N>, Going = PageStore<N>, Batch = PageBatch<N>>,
-    >(
+    pub fn apply<'a, D: PoolDoor<N>>(
         &mut self,
         door: &mut D,
         page_bytes: u64,
@@ -124,11 +115,6 @@ impl<N: Naming> Mount<N> {
         event: MountEvent<'_>,
         room: &'a mut [u8],
     ) -> Result<Told<'a>, Refusal>
-        requires shares { (s : ShareValue) → D.share_of s ≡ s }
-        requires pages { (p : PageValue) → D.page_of p ≡ p }
-        requires going { (s : StoreValue) → D.going_of s ≡ s.going }
-        requires emptied { (s : StoreValue) → D.emptied s ≡ record s { going = [] } }
-        requires batches { (b : BatchValue) → D.batch_of b ≡ b }
         requires ready { D.is_ready door.old }
         requires page_bytes { page_bytes ≡ N.page_bytes }
         requires room { shows_bytes event ≡ true → most_bytes ≤ length room.old }
@@ -183,13 +169,7 @@ impl<N: Naming> Mount<N> {
     /// them; pages that became unneeded surplus leave the pool.
     ///
     /// While a map is left the mount is busy: it is handed back as it was.
-    pub fn close<D: PoolDoor<Share = Subpool<N>, Going = PageStore<N>>>(
-        self,
-        door: &mut D,
-    ) -> Result<(), Self>
-        requires shares { (s : ShareValue) → D.share_of s ≡ s }
-        requires going { (s : StoreValue) → D.going_of s ≡ s.going }
-        requires spent { (s : StoreValue) → ((n : ℕ) → page_at s n ≡ None) → D.is_spent s }
+    pub fn close<D: PoolDoor<N>>(self, door: &mut D) -> Result<(), Self>
         requires ready { D.is_ready door.old }
         ensures free { OnOk result (has_maps self ≡ false) }
         ensures done { OnOk result (ThroughDoor D.took (gives Done (Some self) None)
@@ -203,12 +183,14 @@ impl<N: Naming> Mount<N> {
             return Err(self);
         }
         let Mount {
-            share,
+            mut share,
             inodes: _,
             files,
         } = self;
-        let going = files.close();
-        door.close(share, going);
+        let mut going = files.close();
+        door.empty(&mut share, &mut going);
+        share.end();
+        going.close();
         Ok(())
     }
 }

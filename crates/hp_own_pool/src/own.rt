@@ -1,5 +1,5 @@
 //! The door of one thread, which never lacks room to note a section.
-ghost use Rattle.std.specs.Prelude.{◌≡◌, ℕ, ◌+◌, ◌-◌, ◌<◌, ◌≤◌, [], ◌∷◌, ◌++◌, length, replicate, None, All, IsTrue, IfOk, IfErr, IsOk, ◌↔◌};
+ghost use Rattle.std.specs.Prelude.{◌≡◌, ◌+◌, ◌-◌, ◌<◌, ◌≤◌, [], ◌∷◌, ◌++◌, length, replicate, All, IsTrue, IfOk, IfErr, IsOk, ◌↔◌};
 ghost use Rattle.std.specs.List.{sum};
 ghost use Rattle.hp_model.specs.pool.Grant.{can_grant, granted};
 ghost use Rattle.hp_model.specs.pool.NodeRows.{row_at, total_of, free_of, surp_of};
@@ -10,7 +10,6 @@ ghost use Rattle.hp_model.specs.Profile.{most_frames, most_overcommit};
 ghost use Rattle.hp_nodes.specs.Ledgers.{AreFrames};
 ghost use Rattle.hp_pool.specs.Ledgers.{AreLedgers};
 ghost use Rattle.hp_pool.specs.Sums.{idle_pool};
-ghost use Rattle.hp_store.specs.Store.{page_at};
 ghost use Rattle.hp_subpool.specs.Subpool.{fall, opened};
 ghost use Rattle.hp_mount_door.specs.Door.{by_node, IsReady};
 ghost use Rattle.hp_mount_door.specs.Filling.{AreRising, nodes_in};
@@ -228,27 +227,7 @@ fn add_pages<N: Naming>(frames: &mut Frames<N>, parcel: Parcel<N>, batch: &mut P
     add_part(&mut frames.zero, zero, batch);
 }
 
-impl<N: Naming> PoolDoor for OwnPool<N> {
-    type Share = Subpool<N>;
-
-    type Page = Page<N>;
-
-    type Going = PageStore<N>;
-
-    type Batch = PageBatch<N>;
-
-    ghost share_of = { λ s. s };
-
-    ghost page_of = { λ p. p };
-
-    ghost going_of = { λ s. s.going };
-
-    ghost batch_of = { λ b. b };
-
-    ghost emptied = { λ s. record s { going = [] } };
-
-    ghost is_spent = { λ s. (n : ℕ) → page_at s n ≡ None };
-
+impl<N: Naming> PoolDoor<N> for OwnPool<N> {
     ghost is_ready = { IsReady };
 
     ghost took = { λ p s a q. section p s ≡ (a, q) };
@@ -304,11 +283,9 @@ impl<N: Naming> PoolDoor for OwnPool<N> {
         files
     }
 
-    fn close(&mut self, share: Subpool<N>, going: PageStore<N>) {
-        let mut last = share;
-        let mut spent = going;
-        put_pages(&mut self.pool, &mut self.frames, &mut last, &mut spent);
-        spent.close();
+    fn empty(&mut self, share: &mut Subpool<N>, going: &mut PageStore<N>) {
+        let mut last = share.take_all();
+        put_pages(&mut self.pool, &mut self.frames, &mut last, going);
         let held = last.used();
         last.put_reserves(&mut self.pool, held);
         last.close(&mut self.pool);

@@ -8,7 +8,7 @@ use std::marker::Model;
 /// A promise of so many pages, which counts as outstanding until it is retired. Contracts see the
 /// amount.
 ///
-/// It can't be dropped: `Book::retire` takes it back, by way of the pool. Its type names the ledger
+/// It can't be dropped: `Book::retire` takes it back, by way of the pool, and `close` ends one of nothing. Its type names the ledger
 /// that it counts in, so it can only be retired by the book that issued it.
 pub struct Permit<N: Naming> {
     amount: u64,
@@ -75,5 +75,13 @@ impl<N: Naming> Permit<N> {
         let Permit { amount, units } = other;
         self.units.join(units);
         self.amount += amount;
+    }
+
+    /// Ends a permit of nothing.
+    pub fn close(self)
+        requires { self ≡ 0 }
+    {
+        let Permit { amount: _, units } = self;
+        units.close();
     }
 }

@@ -103,4 +103,11 @@ impl<L: Ledger> Units<L> {
         let Units { share } = other;
         self.share.merge(share);
     }
+
+    /// Ends no units.
+    pub fn close(self)
+        requires { self ≡ 0 }
+    {
+        let Units { share: _ } = self;
+    }
 }

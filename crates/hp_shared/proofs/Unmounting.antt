@@ -17,7 +17,7 @@ use Rattle.hp_model.specs.machine.SlotEvent.{has_maps, mount_outcome, mount_page
 use Rattle.hp_model.specs.threads.LocalRun.{Gives, Goes, ThroughDoor}
 use Rattle.hp_history.specs.declared.held.Held.{Held}
 use Rattle.hp_history.specs.Sections.{IsEntered}
-use Rattle.hp_locked.specs.Opened.{IsOpenedAt, IsShareOf, as_share}
+use Rattle.hp_locked.specs.Opened.{IsOpenedAt, IsShareOf}
 use Rattle.hp_locked.specs.Views.{HasAsked}
 use Rattle.hp_mount_laws.specs.Kept.{mount_from}
 use Rattle.hp_mount_laws.proofs.Ways.{fresh_choice, is_fresh}
@@ -142,26 +142,21 @@ limits_first full size k text m asked first none =
 
 -- ---- what a door opened
 
-module _ {X : Type 0} (took : X → Section → PoolAnswer → X → Type 0) (full : X → Type 0) (share_of : Subpool → Subpool) (size : ℕ) (text : List ℕ)
-    (d e : X) (got : Result (Subpool × Limits) Refusal) where
-  pub shown_err : (x : Refusal) → got ≡ Err x → IsOpenedAt took full size text d e (as_share share_of got) → IsOpenedAt took full size text d e (Err x)
-  shown_err x is o = subst (λ (y : Result (Subpool × Limits) Refusal). IsOpenedAt took full size text d e (as_share share_of y)) is o
-
-  pub shown_ok : (s : Subpool) (l : Limits) → got ≡ Ok (s, l) → ((s : Subpool) → share_of s ≡ s) →
-      IsOpenedAt took full size text d e (as_share share_of got) → IsOpenedAt took full size text d e (Ok (s, l))
-  shown_ok s l is means o =
-      subst (λ (y : Subpool). IsOpenedAt took full size text d e (Ok (y, l))) (means s)
-      (subst (λ (y : Result (Subpool × Limits) Refusal). IsOpenedAt took full size text d e (as_share share_of y)) is o)
-
+module _ {X : Type 0} (took : X → Section → PoolAnswer → X → Type 0) (full : X → Type 0) (size : ℕ) (text : List ℕ) (d e : X) (got : Result (Subpool × Limits) Refusal) where
   is_opened : (m : Result Limits Refusal) (nr : ℕ) (s : Subpool) (l : Limits) (sec : Section) (a : PoolAnswer) → IsShareOf m nr (Ok (s, l)) sec a → (n : Limits) × (s ≡ opened n.max n.min)
   is_opened (Err x) nr s l sec a h = (let same = h.0 in cc)
   is_opened (Ok n) nr s l sec a h = (n, ap (λ (y : Subpool × Limits). y.0) h.0)
 
-  pub opened_pages : (s : Subpool) (l : Limits) → got ≡ Ok (s, l) → ((s : Subpool) → share_of s ≡ s) → IsOpenedAt took full size text d e (as_share share_of got) → s.pages ≡ 0
-  opened_pages s l is means o = (let t = shown_ok s l is means o in ap (λ (y : Subpool). y.pages) (is_opened (limits t.0 size (wanted_of text)) t.0 s l t.1 t.2 t.3).1)
+  opens : (s : Subpool) (l : Limits) → got ≡ Ok (s, l) → IsOpenedAt took full size text d e got → (n : Limits) × (s ≡ opened n.max n.min)
+  opens s l is o =
+      let t = subst (λ (y : Result (Subpool × Limits) Refusal). IsOpenedAt took full size text d e y) is o in
+      is_opened (limits t.0 size (wanted_of text)) t.0 s l t.1 t.2 t.3
 
-  pub opened_held : (s : Subpool) (l : Limits) → got ≡ Ok (s, l) → ((s : Subpool) → share_of s ≡ s) → IsOpenedAt took full size text d e (as_share share_of got) → s.held ≡ 0
-  opened_held s l is means o = (let t = shown_ok s l is means o in ap (λ (y : Subpool). y.held) (is_opened (limits t.0 size (wanted_of text)) t.0 s l t.1 t.2 t.3).1)
+  pub opened_pages : (s : Subpool) (l : Limits) → got ≡ Ok (s, l) → IsOpenedAt took full size text d e got → s.pages ≡ 0
+  opened_pages s l is o = ap (λ (y : Subpool). y.pages) (opens s l is o).1
+
+  pub opened_held : (s : Subpool) (l : Limits) → got ≡ Ok (s, l) → IsOpenedAt took full size text d e got → s.held ≡ 0
+  opened_held s l is o = ap (λ (y : Subpool). y.held) (opens s l is o).1
 
 pub none_mount : (x : Slot) → is_some x ≡ false → x ≡ None
 none_mount None e = refl

@@ -1,10 +1,9 @@
 //! A slot with its trail.
-ghost use Rattle.std.specs.Prelude.{◌≡◌, ◌⊎◌, ◌||◌, ℕ, ◌<◌, ◌≤◌, [], length, true, false, None, Ok, is_some};
+ghost use Rattle.std.specs.Prelude.{◌≡◌, ◌⊎◌, ◌||◌, ◌<◌, ◌≤◌, length, true, false, None, Ok, is_some};
 ghost use Rattle.hp_history.specs.Sections.{IsEntered};
 ghost use Rattle.hp_model.specs.declared.answer.Answer.TheVariants.{Done};
 ghost use Rattle.hp_model.specs.declared.entry.Part.TheVariants.{Slot as AtSlot};
 ghost use Rattle.hp_model.specs.declared.event.Event.TheVariants.{Slot as OnSlot};
-ghost use Rattle.hp_model.specs.files.Page.{Page as PageValue};
 ghost use Rattle.hp_model.specs.beside.Copying.{reply_has_names};
 ghost use Rattle.hp_model.specs.machine.Event.{has_maps_of};
 ghost use Rattle.hp_model.specs.beside.Told.{told_reply};
@@ -14,9 +13,6 @@ ghost use Rattle.hp_laws.specs.Answers.{lists_names};
 ghost use Rattle.hp_locked.specs.Told.{IsReceipt};
 ghost use Rattle.hp_locked.specs.Views.{IsNewTrail};
 ghost use Rattle.hp_events.specs.Event.{as_event, shows_bytes};
-ghost use Rattle.hp_store.specs.Batch.{Batch as BatchValue};
-ghost use Rattle.hp_store.specs.Store.{Store as StoreValue, page_at};
-ghost use Rattle.hp_subpool.specs.Subpool.{Subpool as ShareValue};
 ghost use Rattle.hp_events.specs.Replies.{is_trace_full};
 ghost use Rattle.hp_events.specs.SlotWork.{AreCopiesFor, IsAnother, asked_event, is_exit, needs_room};
 ghost use Rattle.hp_shared.specs.Slots.{IsSlotEvent, IsSlotTrail, slot_start};
@@ -36,9 +32,6 @@ use hp_model::refusal::Refusal;
 use hp_model::told::Told;
 use hp_mount::Mount;
 use hp_mount_door::PoolDoor;
-use hp_nodes::Page;
-use hp_store::{PageBatch, PageStore};
-use hp_subpool::Subpool;
 use hp_trail::trail::Trail;
 use std::alloc::Global;
 use std::marker::Model;
@@ -148,15 +141,7 @@ impl<N: Naming, T: Trail<SlotEntry>> Slot<N, T> {
     /// there are copies of what it carries. Answered TraceFull, and then nothing changed, where the trail has no room, or where
     /// the event enters a section of the pool that is more than a giving back, and the door has none; but an exit, which always
     /// has its place, is done.
-    pub fn work<
-        'a,
-        D: SessionDoor<
-            Share = Subpool<N>,
-            Page = Page<N>,
-            Going = PageStore<N>,
-            Batch = PageBatch<N>,
-        >,
-    >(
+    pub fn work<'a, D: SessionDoor<N>>(
         &mut self,
         door: &mut D,
         alloc: Global,
@@ -165,12 +150,6 @@ impl<N: Naming, T: Trail<SlotEntry>> Slot<N, T> {
         copies: Option<Copies>,
         room: &'a mut [u8],
     ) -> (Result<Told<'a>, Refusal>, Option<Receipt>)
-        requires shares { (s : ShareValue) → D.share_of s ≡ s }
-        requires pages { (p : PageValue) → D.page_of p ≡ p }
-        requires going { (s : StoreValue) → D.going_of s ≡ s.going }
-        requires batches { (b : BatchValue) → D.batch_of b ≡ b }
-        requires emptied { (s : StoreValue) → D.emptied s ≡ record s { going = [] } }
-        requires spent { (s : StoreValue) → ((n : ℕ) → page_at s n ≡ None) → D.is_spent s }
         requires ready { D.is_ready door.old }
         requires page_bytes { page_bytes ≡ N.page_bytes }
         requires bytes { 0 < page_bytes }
@@ -211,15 +190,7 @@ impl<N: Naming, T: Trail<SlotEntry>> Slot<N, T> {
     /// An event of a mount but a list of names, where no entries are kept: its reply, with bytes in the front of the room. There
     /// is no receipt. (`work` hands back room for one, which costs more than a load.)
     #[inline(always)]
-    pub fn event_unnoted<
-        'a,
-        D: SessionDoor<
-            Share = Subpool<N>,
-            Page = Page<N>,
-            Going = PageStore<N>,
-            Batch = PageBatch<N>,
-        >,
-    >(
+    pub fn event_unnoted<'a, D: SessionDoor<N>>(
         &mut self,
         door: &mut D,
         page_bytes: u64,
@@ -227,11 +198,6 @@ impl<N: Naming, T: Trail<SlotEntry>> Slot<N, T> {
         event: MountEvent<'_>,
         room: &'a mut [u8],
     ) -> Result<Told<'a>, Refusal>
-        requires shares { (s : ShareValue) → D.share_of s ≡ s }
-        requires pages { (p : PageValue) → D.page_of p ≡ p }
-        requires going { (s : StoreValue) → D.going_of s ≡ s.going }
-        requires batches { (b : BatchValue) → D.batch_of b ≡ b }
-        requires emptied { (s : StoreValue) → D.emptied s ≡ record s { going = [] } }
         requires ready { D.is_ready door.old }
         requires page_bytes { page_bytes ≡ N.page_bytes }
         requires room { shows_bytes event ≡ true → most_bytes ≤ length room.old }

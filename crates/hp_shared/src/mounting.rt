@@ -1,12 +1,10 @@
 //! Mount and umount of a slot.
-ghost use Rattle.std.specs.Prelude.{◌≡◌, ◌<◌, ◌≤◌, ℕ, [], Ok, Err, None, Some, true, false};
+ghost use Rattle.std.specs.Prelude.{◌≡◌, ◌<◌, ℕ, Ok, Err, None, Some, false};
 ghost use Rattle.hp_history.specs.Sections.{IsEntered};
 ghost use Rattle.hp_model.specs.declared.event.SlotEvent.TheVariants.{Mount as Mounting, Umount};
 ghost use Rattle.hp_model.specs.beside.Copying.{reply_has_names};
 ghost use Rattle.hp_model.specs.beside.Told.{told_reply};
 ghost use Rattle.hp_model.specs.text.Writing.{IsWithinLimits};
-ghost use Rattle.hp_store.specs.Store.{Store as StoreValue, page_at};
-ghost use Rattle.hp_subpool.specs.Subpool.{Subpool as ShareValue};
 ghost use Rattle.hp_events.specs.Answered.{Went};
 ghost use Rattle.hp_events.specs.Replies.{is_trace_full};
 ghost use Rattle.hp_shared.specs.Slots.{IsActedOr};
@@ -17,21 +15,16 @@ use hp_model::refusal::Refusal;
 use hp_model::told::Told;
 use hp_mount::Mount;
 use hp_mount_door::PoolDoor;
-use hp_nodes::Page;
-use hp_store::PageStore;
-use hp_subpool::Subpool;
 use std::alloc::Global;
 use std::mem;
 
 // Ends the mount of a slot of this number. Refused as NoSuchSlot where it is not mounted, and as Busy where it is slot 0 or
 // a task has a map there.
-pub(crate) fn unmount<
-    N: Naming,
-    D: SessionDoor<Share = Subpool<N>, Page = Page<N>, Going = PageStore<N>>,
->(mount: &mut Option<Mount<N>>, number: u64, door: &mut D) -> Result<Told<'static>, Refusal>
-    requires shares { (s : ShareValue) → D.share_of s ≡ s }
-    requires going { (s : StoreValue) → D.going_of s ≡ s.going }
-    requires spent { (s : StoreValue) → ((n : ℕ) → page_at s n ≡ None) → D.is_spent s }
+pub(crate) fn unmount<N: Naming, D: SessionDoor<N>>(
+    mount: &mut Option<Mount<N>>,
+    number: u64,
+    door: &mut D,
+) -> Result<Told<'static>, Refusal>
     requires ready { D.is_ready door.old }
     ensures went { (size : ℕ) → Went size number mount.old Umount (told_reply result)
         (D.asked door.new) mount.new }
@@ -60,17 +53,13 @@ pub(crate) fn unmount<
 
 // Mounts a slot with options, and commits the minimum that they ask for. Refused as SlotTaken, BadOption, MinOverSize or
 // NoPages, the first of these that holds; as TraceFull where the door has no room.
-pub(crate) fn mount<
-    N: Naming,
-    D: SessionDoor<Share = Subpool<N>, Page = Page<N>, Going = PageStore<N>>,
->(
+pub(crate) fn mount<N: Naming, D: SessionDoor<N>>(
     mount: &mut Option<Mount<N>>,
     door: &mut D,
     alloc: Global,
     page_bytes: u64,
     options: &[u8],
 ) -> Result<Told<'static>, Refusal>
-    requires shares { (s : ShareValue) → D.share_of s ≡ s }
     requires ready { D.is_ready door.old }
     requires bytes { 0 < page_bytes }
     ensures done { (k : ℕ) → IsActedOr (D.is_full door.new) page_bytes k mount.old

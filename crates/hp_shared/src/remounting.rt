@@ -5,7 +5,6 @@ ghost use Rattle.hp_model.specs.declared.event.SlotEvent.TheVariants.{Remount};
 ghost use Rattle.hp_model.specs.beside.Copying.{reply_has_names};
 ghost use Rattle.hp_model.specs.beside.Told.{told_reply};
 ghost use Rattle.hp_model.specs.text.Writing.{IsWithinLimits};
-ghost use Rattle.hp_subpool.specs.Subpool.{Subpool as ShareValue};
 ghost use Rattle.hp_shared.specs.Slots.{IsActedOr};
 
 use hp_locked::SessionDoor;
@@ -14,24 +13,17 @@ use hp_model::refusal::Refusal;
 use hp_model::told::Told;
 use hp_mount::Mount;
 use hp_mount_door::PoolDoor;
-use hp_nodes::Page;
-use hp_store::PageStore;
-use hp_subpool::Subpool;
 
 // Sets the limits of the mount of a slot of this number anew, to what the options mean. Refused as NoSuchSlot where it is not
 // mounted, as SlotTaken where it is slot 0, and as BadOption, MinOverSize or NoPages, the first of these that holds; as TraceFull
 // where the door has no room.
-pub(crate) fn remount<
-    N: Naming,
-    D: SessionDoor<Share = Subpool<N>, Page = Page<N>, Going = PageStore<N>>,
->(
+pub(crate) fn remount<N: Naming, D: SessionDoor<N>>(
     mount: &mut Option<Mount<N>>,
     number: u64,
     door: &mut D,
     page_bytes: u64,
     options: &[u8],
 ) -> Result<Told<'static>, Refusal>
-    requires shares { (s : ShareValue) → D.share_of s ≡ s }
     requires ready { D.is_ready door.old }
     requires bytes { 0 < page_bytes }
     ensures done { IsActedOr (D.is_full door.new) page_bytes number mount.old

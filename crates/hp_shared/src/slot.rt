@@ -1,16 +1,12 @@
 //! A slot under its lock.
-ghost use Rattle.std.specs.Prelude.{◌≡◌, ◌<◌, ◌≤◌, ◌-◌, ◌++◌, ◌==◌, Ok, ℕ, [], length, replicate, true, false, None};
+ghost use Rattle.std.specs.Prelude.{◌≡◌, ◌<◌, ◌≤◌, ◌-◌, ◌++◌, ◌==◌, Ok, ℕ, length, replicate, true, false, None};
 ghost use Rattle.hp_history.specs.Sections.{IsEntered};
-ghost use Rattle.hp_model.specs.files.Page.{Page as PageValue};
 ghost use Rattle.hp_model.specs.declared.answer.Answer.TheVariants.{Bytes};
 ghost use Rattle.hp_model.specs.beside.Copying.{has_names, reply_has_names};
 ghost use Rattle.hp_model.specs.beside.Told.{told_answer, told_reply};
 ghost use Rattle.hp_model.specs.text.Writing.{HasSmallAnswer, IsWithinLimits};
 ghost use Rattle.hp_laws.specs.Answers.{lists_names};
 ghost use Rattle.hp_events.specs.Event.{as_event, shows_bytes};
-ghost use Rattle.hp_store.specs.Batch.{Batch as BatchValue};
-ghost use Rattle.hp_store.specs.Store.{Store as StoreValue, page_at};
-ghost use Rattle.hp_subpool.specs.Subpool.{Subpool as ShareValue};
 ghost use Rattle.hp_model.specs.declared.answer.Answer.TheVariants.{Done};
 ghost use Rattle.hp_model.specs.declared.event.SlotEvent.TheVariants.{ExitMaps, ForkMaps};
 ghost use Rattle.hp_model.specs.machine.Event.{has_maps_of};
@@ -32,17 +28,10 @@ use hp_model::refusal::Refusal;
 use hp_model::told::Told;
 use hp_mount::Mount;
 use hp_mount_door::PoolDoor;
-use hp_nodes::Page;
-use hp_store::{PageBatch, PageStore};
-use hp_subpool::Subpool;
 use std::alloc::Global;
 
 // What is asked of a slot of this number, through a door that was not used.
-pub(crate) fn ask<
-    'a,
-    N: Naming,
-    D: SessionDoor<Share = Subpool<N>, Page = Page<N>, Going = PageStore<N>, Batch = PageBatch<N>>,
->(
+pub(crate) fn ask<'a, N: Naming, D: SessionDoor<N>>(
     mount: &mut Option<Mount<N>>,
     number: u64,
     door: &mut D,
@@ -51,12 +40,6 @@ pub(crate) fn ask<
     work: SlotWork<'_>,
     room: &'a mut [u8],
 ) -> Result<Told<'a>, Refusal>
-    requires shares { (s : ShareValue) → D.share_of s ≡ s }
-    requires pages { (p : PageValue) → D.page_of p ≡ p }
-    requires going { (s : StoreValue) → D.going_of s ≡ s.going }
-    requires batches { (b : BatchValue) → D.batch_of b ≡ b }
-    requires emptied { (s : StoreValue) → D.emptied s ≡ record s { going = [] } }
-    requires spent { (s : StoreValue) → ((n : ℕ) → page_at s n ≡ None) → D.is_spent s }
     requires ready { D.is_ready door.old }
     requires page_bytes { page_bytes ≡ N.page_bytes }
     requires bytes { 0 < page_bytes }
@@ -84,11 +67,7 @@ pub(crate) fn ask<
 
 // What an event asks of a slot, through a door that was not used.
 #[inline(always)]
-pub(crate) fn act<
-    'a,
-    N: Naming,
-    D: SessionDoor<Share = Subpool<N>, Page = Page<N>, Going = PageStore<N>, Batch = PageBatch<N>>,
->(
+pub(crate) fn act<'a, N: Naming, D: SessionDoor<N>>(
     mount: &mut Option<Mount<N>>,
     door: &mut D,
     page_bytes: u64,
@@ -96,11 +75,6 @@ pub(crate) fn act<
     event: MountEvent<'_>,
     room: &'a mut [u8],
 ) -> Result<Told<'a>, Refusal>
-    requires shares { (s : ShareValue) → D.share_of s ≡ s }
-    requires pages { (p : PageValue) → D.page_of p ≡ p }
-    requires going { (s : StoreValue) → D.going_of s ≡ s.going }
-    requires batches { (b : BatchValue) → D.batch_of b ≡ b }
-    requires emptied { (s : StoreValue) → D.emptied s ≡ record s { going = [] } }
     requires ready { D.is_ready door.old }
     requires page_bytes { page_bytes ≡ N.page_bytes }
     requires room { shows_bytes event ≡ true → most_bytes ≤ length room.old }
@@ -196,13 +170,11 @@ pub(crate) fn is_full(told: &Result<Told<'_>, Refusal>) -> bool
 }
 
 // The maps of a task, which has some, go from a slot.
-pub(crate) fn leave<
-    N: Naming,
-    D: SessionDoor<Share = Subpool<N>, Page = Page<N>, Going = PageStore<N>>,
->(mount: &mut Option<Mount<N>>, door: &mut D, task: u64) -> Result<Told<'static>, Refusal>
-    requires shares { (s : ShareValue) → D.share_of s ≡ s }
-    requires going { (s : StoreValue) → D.going_of s ≡ s.going }
-    requires emptied { (s : StoreValue) → D.emptied s ≡ record s { going = [] } }
+pub(crate) fn leave<N: Naming, D: SessionDoor<N>>(
+    mount: &mut Option<Mount<N>>,
+    door: &mut D,
+    task: u64,
+) -> Result<Told<'static>, Refusal>
     requires ready { D.is_ready door.old }
     requires has { has_maps_of task mount.old ≡ true }
     ensures went { (size k : ℕ) → Went size k mount.old (ExitMaps task) (Ok Done)
@@ -218,18 +190,12 @@ pub(crate) fn leave<
 }
 
 // The maps of a task, which has some on the slot, become its child's as well.
-pub(crate) fn fork<
-    N: Naming,
-    D: SessionDoor<Share = Subpool<N>, Page = Page<N>, Going = PageStore<N>>,
->(
+pub(crate) fn fork<N: Naming, D: SessionDoor<N>>(
     mount: &mut Option<Mount<N>>,
     door: &mut D,
     parent: u64,
     child: u64,
 ) -> Result<Told<'static>, Refusal>
-    requires shares { (s : ShareValue) → D.share_of s ≡ s }
-    requires going { (s : StoreValue) → D.going_of s ≡ s.going }
-    requires emptied { (s : StoreValue) → D.emptied s ≡ record s { going = [] } }
     requires ready { D.is_ready door.old }
     requires has { has_maps_of parent mount.old ≡ true }
     requires apart { (parent == child) ≡ false }

@@ -16,7 +16,7 @@ use std::marker::Model;
 ///
 /// It holds two permits: one for its minimum, of what the minimum is above the pages in use and
 /// the reservations, and one for the reservations of its files and maps. So a held reservation
-/// always gets a page, and the minimum stays committed. It can't be dropped: `close` ends it.
+/// always gets a page, and the minimum stays committed. It can't be dropped: `close` ends it, and `end` where it has nothing.
 pub struct Subpool<N: Naming> {
     max: Option<u64>,
     min: u64,
@@ -248,6 +248,38 @@ impl<N: Naming> Subpool<N> {
         ensures committed { used self.now + result ≡ committed_of self.now }
     {
         self.own.amount()
+    }
+
+    /// All that this one has, as a subpool of its own. Nothing is left here, and no minimum.
+    pub fn take_all(&mut self) -> Subpool<N>
+        ensures all { result ≡ self.old }
+        ensures none { self.new ≡ record self.old { min = 0; pages = 0; held = 0 } }
+    {
+        let all = Subpool {
+            max: self.max,
+            min: self.min,
+            pages: self.pages,
+            own: self.own.split(self.own.amount()),
+            held: self.held.split(self.held.amount()),
+        };
+        self.min = 0;
+        self.pages = 0;
+        all
+    }
+
+    /// Ends a subpool that has nothing in use, and no minimum.
+    pub fn end(self)
+        requires { committed_of self ≡ 0 }
+    {
+        let Subpool {
+            max: _,
+            min: _,
+            pages: _,
+            own,
+            held,
+        } = self;
+        own.close();
+        held.close();
     }
 
     /// Ends the subpool, and its minimum with it.

@@ -36,30 +36,8 @@ struct Noting<N: Naming> {
     taken: Taken,
 }
 
-impl<N: Naming> PoolDoor for Noting<N> {
+impl<N: Naming> PoolDoor<N> for Noting<N> {
     ghost use Rattle.hp_model.specs.pool.Pool.{section};
-    ghost use Rattle.hp_store.specs.Store.{page_at};
-    ghost use Rattle.std.specs.Prelude.{None, [], ℕ};
-
-    type Share = Subpool<N>;
-
-    type Page = Page<N>;
-
-    type Going = PageStore<N>;
-
-    type Batch = PageBatch<N>;
-
-    ghost share_of = { λ s. s };
-
-    ghost page_of = { λ p. p };
-
-    ghost going_of = { λ s. s.going };
-
-    ghost batch_of = { λ b. b };
-
-    ghost emptied = { λ s. record s { going = [] } };
-
-    ghost is_spent = { λ s. (n : ℕ) → page_at s n ≡ None };
 
     ghost is_ready = { λ d. IsReady d.pool };
 
@@ -135,8 +113,8 @@ impl<N: Naming> PoolDoor for Noting<N> {
         PoolDoor::limits(&mut self.pool, share, page_bytes, options)
     }
 
-    fn close(&mut self, share: Subpool<N>, going: PageStore<N>) {
-        PoolDoor::close(&mut self.pool, share, going);
+    fn empty(&mut self, share: &mut Subpool<N>, going: &mut PageStore<N>) {
+        PoolDoor::empty(&mut self.pool, share, going);
     }
 }
 
@@ -273,7 +251,10 @@ fn a_page_by_a_grant<N: Naming, R: Abort>(rt: &R, alloc: Global, door: &mut Noti
         Ok(_page) => panic!(rt; "there is no place"),
         Err(refusal) => same!(rt; refusal, Refusal::TraceFull),
     }
-    PoolDoor::close(&mut door.pool, share, PageStore::new(alloc));
+    let mut none = PageStore::new(alloc);
+    PoolDoor::empty(&mut door.pool, &mut share, &mut none);
+    share.end();
+    none.close();
 }
 
 fn run<N: Naming, R: Abort>(rt: &R, alloc: Global, blanks: Blanks)

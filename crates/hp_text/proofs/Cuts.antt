@@ -13,7 +13,7 @@ separates separator b = b == separator
 -- a text is cut at this place
 pub record IsCutAt (separator : ℕ) (text : List ℕ) (at : ℕ) : Type 0 where
   pub within : at < length text
-  pub pieces : pieces separator text ≡ take at text ∷ pieces separator (drop (at + 1) text)
+  pub pieces : pieces_by separator text ≡ take at text ∷ pieces_by separator (drop (at + 1) text)
   pub whole : text ≡ take at text ++ separator ∷ drop (at + 1) text
 
 first_cut : (separator : ℕ) (text : List ℕ) → position_or_len (separates separator) text < length text → IsCutAt separator text (position_or_len (separates separator) text)

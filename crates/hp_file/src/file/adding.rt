@@ -1,7 +1,7 @@
 //! A map that comes, with what it reserves.
 ghost use Rattle.std.specs.Prelude.{◌≡◌, ◌^◌, ◌+◌, ◌<◌, ◌≤◌, length, false, IfOk, None, OnOk, OnErr};
 ghost use Rattle.hp_lookup.specs.Asking.{IsAsked, wants};
-ghost use Rattle.hp_subpool.specs.Subpool.{Subpool as ShareValue, is_full, used};
+ghost use Rattle.hp_subpool.specs.Subpool.{is_full, used};
 ghost use Rattle.hp_lookup.specs.Numbered.{with_mapping};
 ghost use Rattle.hp_model.specs.Lists.{edit_range};
 ghost use Rattle.hp_model.specs.files.File.{at_least, entered, new_file};
@@ -21,13 +21,12 @@ use std::alloc::Global;
 use std::mem;
 
 // Reserves the pages that a map asks for, through the door.
-fn ask<N: Naming, D: PoolDoor<Share = Subpool<N>>>(
+fn ask<N: Naming, D: PoolDoor<N>>(
     door: &mut D,
     share: &mut Subpool<N>,
     home: usize,
     wanted: u64,
 ) -> Result<(), Refusal>
-    requires shares { (s : ShareValue) → D.share_of s ≡ s }
     requires ready { D.is_ready door.old }
     requires within { is_full share.old wanted ≡ false }
     requires few { used share.old + wanted < 2 ^ 64 }
@@ -50,7 +49,7 @@ pub(super) fn put_back(place: &mut Inode, taken: Inode)
 
 // Enters the indices of an inode from `from` up to `end`, if there are any; it gets longer where `end` is past its end. The
 // rest is as `add_map` says.
-fn enter_range<N: Naming, D: PoolDoor<Share = Subpool<N>>>(
+fn enter_range<N: Naming, D: PoolDoor<N>>(
     inode: &mut Inode,
     alloc: Global,
     door: &mut D,
@@ -60,7 +59,6 @@ fn enter_range<N: Naming, D: PoolDoor<Share = Subpool<N>>>(
     from: u64,
     end: u64,
 ) -> Result<(), Refusal>
-    requires shares { (s : ShareValue) → D.share_of s ≡ s }
     requires ready { D.is_ready door.old }
     requires within { is_full share.old wanted ≡ false }
     requires few { used share.old + wanted < 2 ^ 64 }
@@ -97,7 +95,7 @@ fn enter_range<N: Naming, D: PoolDoor<Share = Subpool<N>>>(
 
 impl File {
     // Adds a map, and enters its indices from `from` on, as `add_range` does.
-    fn add_map<N: Naming, D: PoolDoor<Share = Subpool<N>>>(
+    fn add_map<N: Naming, D: PoolDoor<N>>(
         &mut self,
         alloc: Global,
         door: &mut D,
@@ -107,7 +105,6 @@ impl File {
         from: u64,
         map: Mapping,
     ) -> Result<(), Refusal>
-        requires shares { (s : ShareValue) → D.share_of s ≡ s }
         requires ready { D.is_ready door.old }
         requires within { is_full share.old wanted ≡ false }
         requires few { used share.old + wanted < 2 ^ 64 }
@@ -139,7 +136,7 @@ impl File {
     /// pages of the `wanted` indices without an entry are reserved through the door. Refused as OutOfMemory before the
     /// door, or as the door refuses; then nothing changes.
     #[inline(always)]
-    pub fn add_range<N: Naming, D: PoolDoor<Share = Subpool<N>>>(
+    pub fn add_range<N: Naming, D: PoolDoor<N>>(
         &mut self,
         alloc: Global,
         door: &mut D,
@@ -150,7 +147,6 @@ impl File {
         tag: u64,
         number: u64,
     ) -> Result<(), Refusal>
-        requires shares { (s : ShareValue) → D.share_of s ≡ s }
         requires ready { D.is_ready door.old }
         requires reach { range.now.start + range.now.pages ≤ most_file_pages }
         requires within { is_full share.old wanted ≡ false }
@@ -170,7 +166,7 @@ impl File {
 
     /// A file without name that has one map, of a range. Refused as `add_range` is.
     #[inline(always)]
-    pub fn anon<N: Naming, D: PoolDoor<Share = Subpool<N>>>(
+    pub fn anon<N: Naming, D: PoolDoor<N>>(
         alloc: Global,
         door: &mut D,
         share: &mut Subpool<N>,
@@ -179,7 +175,6 @@ impl File {
         tag: u64,
         number: u64,
     ) -> Result<Self, Refusal>
-        requires shares { (s : ShareValue) → D.share_of s ≡ s }
         requires ready { D.is_ready door.old }
         requires reach { range.now.start + range.now.pages ≤ most_file_pages }
         requires within { is_full share.old (wants range.now (new_file None)) ≡ false }

@@ -7,8 +7,7 @@ ghost use Rattle.hp_model.specs.files.Fill.{lacks_page};
 ghost use Rattle.hp_mount_door.specs.Door.{by_node};
 ghost use Rattle.hp_mount_door.specs.Filling.{AreRising};
 ghost use Rattle.hp_file.specs.Filling.{IsTaking};
-ghost use Rattle.hp_store.specs.Batch.{Batch as BatchValue};
-ghost use Rattle.hp_subpool.specs.Subpool.{Subpool as ShareValue, is_full, used};
+ghost use Rattle.hp_subpool.specs.Subpool.{is_full, used};
 
 use super::File;
 use super::adding::put_back;
@@ -49,15 +48,13 @@ fn lacking(inode: &Inode, a: u64, b: u64) -> u64
 }
 
 // Fills an empty batch through the door.
-fn fill<N: Naming, D: PoolDoor<Share = Subpool<N>, Batch = PageBatch<N>>>(
+fn fill<N: Naming, D: PoolDoor<N>>(
     door: &mut D,
     share: &mut Subpool<N>,
     k: u64,
     count: u64,
     batch: &mut PageBatch<N>,
 ) -> Result<(), Refusal>
-    requires shares { (s : ShareValue) → D.share_of s ≡ s }
-    requires batches { (b : BatchValue) → D.batch_of b ≡ b }
     requires ready { D.is_ready door.old }
     requires within { is_full share.old k ≡ false }
     requires few { used share.old + k < 2 ^ 64 }
@@ -86,7 +83,7 @@ impl File {
 
     /// Enters the indices from `a` up to `b`, which makes the file longer where `b` is past its end, and fills an empty
     /// batch through the door. Refused as OutOfMemory before the door, or as the door refuses; then nothing changes.
-    pub fn take_pages<N: Naming, D: PoolDoor<Share = Subpool<N>, Batch = PageBatch<N>>>(
+    pub fn take_pages<N: Naming, D: PoolDoor<N>>(
         &mut self,
         alloc: Global,
         door: &mut D,
@@ -97,8 +94,6 @@ impl File {
         count: u64,
         batch: &mut PageBatch<N>,
     ) -> Result<(), Refusal>
-        requires shares { (s : ShareValue) → D.share_of s ≡ s }
-        requires batches { (b : BatchValue) → D.batch_of b ≡ b }
         requires ready { D.is_ready door.old }
         requires reach { b < 2 ^ 32 }
         requires within { is_full share.old k ≡ false }

@@ -52,25 +52,26 @@ impl<N: Naming + Places, T: Trail<PoolEntry>> Core<N, T> {
         given(trail, seat, history, mine, puts, pages)
     }
 
-    /// Ends a share, all of whose pages go back: the section, where there is one. Never refused.
-    pub fn close(
+    /// Gives all that a share has back, with its minimum: the section, where there is one. Never refused.
+    pub fn empty(
         &mut self,
         history: &History<N>,
         mine: &mut Token,
-        share: Subpool<N>,
+        share: &mut Subpool<N>,
         parcel: Parcel<N>,
     ) -> Option<Asked>
-        requires pages { sum parcel ≡ share.pages }
+        requires pages { sum parcel ≡ share.old.pages }
         requires named { mine.old.table_id ≡ N.history }
         requires free { IsFree mine.old.me.0 }
         requires alone { mine.old.me.1 ≡ [] }
-        ensures given { IsGiven parcel (committed_of share) self.old self.new result }
+        ensures given { IsGiven parcel (committed_of share.old) self.old self.new result }
+        ensures share { committed_of share.new ≡ 0 }
         ensures entered { IsEntered T.keeps mine.old.me.0 result mine.new.me.0 }
         ensures named { mine.new.table_id ≡ N.history }
         ensures alone { mine.new.me.1 ≡ [] }
     {
         let Core { pool, trail, seat } = self;
-        let (puts, pages) = ended(pool, share, parcel);
+        let (puts, pages) = emptied(pool, share, parcel);
         pool.law();
         given(trail, seat, history, mine, puts, pages)
     }
@@ -142,20 +143,26 @@ fn returned<N: Naming>(
     (puts, before - committed(share))
 }
 
-// Ends a share: its pages by node, and its commitment.
-fn ended<N: Naming>(pool: &mut Pool<N>, share: Subpool<N>, parcel: Parcel<N>) -> ([u64; 4], u64)
+// Empties a share: its pages by node, and its commitment.
+fn emptied<N: Naming>(
+    pool: &mut Pool<N>,
+    share: &mut Subpool<N>,
+    parcel: Parcel<N>,
+) -> ([u64; 4], u64)
     requires ready { IsReady pool.old }
-    requires pages { sum parcel ≡ share.pages }
+    requires pages { sum parcel ≡ share.old.pages }
     ensures puts { result.0 ≡ parcel }
-    ensures fall { result.1 ≡ committed_of share }
-    ensures moved { pool.new ≡ trimmed (released (committed_of share)
+    ensures fall { result.1 ≡ committed_of share.old }
+    ensures share { committed_of share.new ≡ 0 }
+    ensures moved { pool.new ≡ trimmed (released (committed_of share.old)
         (puts_from 0 parcel pool.old)) }
-    ensures same { sum parcel + committed_of share ≡ 0 → pool.new ≡ pool.old }
+    ensures same { sum parcel + committed_of share.old ≡ 0 → pool.new ≡ pool.old }
     ensures ready { IsReady pool.new }
-    ensures less { 0 < sum parcel + committed_of share → to_return pool.new < to_return pool.old }
+    ensures less { 0 < sum parcel + committed_of share.old
+        → to_return pool.new < to_return pool.old }
 {
-    let all = committed(&share);
-    let mut last = share;
+    let all = committed(share);
+    let mut last = share.take_all();
     let puts = parcel.counts();
     parcel.put(pool, &mut last);
     let held = last.used();

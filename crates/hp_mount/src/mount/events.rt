@@ -1,11 +1,8 @@
 //! What events ask of a map that is there: it is cut, or accessed.
-ghost use Rattle.std.specs.Prelude.{◌≡◌, ◌≢◌, ℕ, ◌≤◌, [], length, true, false, Err, Some};
+ghost use Rattle.std.specs.Prelude.{◌≡◌, ◌≢◌, ℕ, ◌≤◌, length, true, false, Err, Some};
 ghost use Rattle.hp_model.specs.declared.refusal.Refusal.TheVariants as Refusal;
-ghost use Rattle.hp_model.specs.files.Page.{Page as PageValue};
 ghost use Rattle.hp_model.specs.beside.Told.{told_reply};
 ghost use Rattle.hp_model.specs.Profile.{most_bytes};
-ghost use Rattle.hp_store.specs.Store.{Store as StoreValue};
-ghost use Rattle.hp_subpool.specs.Subpool.{Subpool as ShareValue};
 ghost use Rattle.hp_events.specs.Event.{as_event, shows_bytes};
 ghost use Rattle.hp_events.specs.Memory.{asks_memory};
 ghost use Rattle.hp_mount_laws.specs.Done.{IsDone};
@@ -18,17 +15,11 @@ use hp_model::naming::Naming;
 use hp_model::refusal::Refusal;
 use hp_model::told::Told;
 use hp_mount_door::PoolDoor;
-use hp_nodes::Page;
-use hp_store::PageStore;
-use hp_subpool::Subpool;
 
 impl<N: Naming> Mount<N> {
     // What is asked of a map that is there, as `apply` does it.
     #[inline(always)]
-    pub(super) fn apply_to_map<
-        'a,
-        D: PoolDoor<Share = Subpool<N>, Page = Page<N>, Going = PageStore<N>>,
-    >(
+    pub(super) fn apply_to_map<'a, D: PoolDoor<N>>(
         &mut self,
         door: &mut D,
         page_bytes: u64,
@@ -36,10 +27,6 @@ impl<N: Naming> Mount<N> {
         event: MountEvent<'_>,
         room: &'a mut [u8],
     ) -> Result<Told<'a>, Refusal>
-        requires shares { (s : ShareValue) → D.share_of s ≡ s }
-        requires pages { (p : PageValue) → D.page_of p ≡ p }
-        requires going { (s : StoreValue) → D.going_of s ≡ s.going }
-        requires emptied { (s : StoreValue) → D.emptied s ≡ record s { going = [] } }
         requires ready { D.is_ready door.old }
         requires page_bytes { page_bytes ≡ N.page_bytes }
         requires room { shows_bytes event ≡ true → most_bytes ≤ length room.old }

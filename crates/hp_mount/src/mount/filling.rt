@@ -6,8 +6,6 @@ ghost use Rattle.hp_model.specs.beside.Accesses.{done_reply};
 ghost use Rattle.hp_model.specs.machine.Promises.{file_in};
 ghost use Rattle.hp_model.specs.machine.SlotEvent.{fill, preallocate_tests};
 ghost use Rattle.hp_model.specs.Profile.{most_file_pages};
-ghost use Rattle.hp_store.specs.Batch.{Batch as BatchValue};
-ghost use Rattle.hp_subpool.specs.Subpool.{Subpool as ShareValue};
 ghost use Rattle.hp_mount_laws.specs.Done.{IsDone, Tried};
 ghost use Rattle.hp_mount_laws.specs.Reach.{first_of};
 
@@ -17,8 +15,6 @@ use hp_model::profile::{MOST_FILE_PAGES, MOST_MAP_PAGES};
 use hp_model::refusal::Refusal;
 use hp_mount_door::PoolDoor;
 use hp_mount_files::Lookup;
-use hp_store::PageBatch;
-use hp_subpool::Subpool;
 
 // What filling a range of a file is refused before its pages are counted, if anything.
 fn refused_range(start: u64, end: u64) -> Option<Refusal>
@@ -37,7 +33,7 @@ fn refused_range(start: u64, end: u64) -> Option<Refusal>
 
 impl<N: Naming> Mount<N> {
     // Fills the indices of a file that have no page, of which there are `count`.
-    fn fill<D: PoolDoor<Share = Subpool<N>, Batch = PageBatch<N>>>(
+    fn fill<D: PoolDoor<N>>(
         &mut self,
         door: &mut D,
         file: usize,
@@ -45,8 +41,6 @@ impl<N: Naming> Mount<N> {
         end: u64,
         count: u64,
     ) -> Result<(), Refusal>
-        requires shares { (s : ShareValue) → D.share_of s ≡ s }
-        requires batches { (b : BatchValue) → D.batch_of b ≡ b }
         requires ready { D.is_ready door.old }
         requires file { file < length self.old.files }
         requires order { start < end }
@@ -78,15 +72,13 @@ impl<N: Naming> Mount<N> {
     /// - OutOfRange: the range is empty, or `end` is above 16,777,216 (profile).
     /// - TooMany: there are more than 65,536 indices (profile).
     /// - MountFull, OutOfMemory or NoPages.
-    pub fn preallocate<D: PoolDoor<Share = Subpool<N>, Batch = PageBatch<N>>>(
+    pub fn preallocate<D: PoolDoor<N>>(
         &mut self,
         door: &mut D,
         name: &[u8],
         start: u64,
         end: u64,
     ) -> Result<(), Refusal>
-        requires shares { (s : ShareValue) → D.share_of s ≡ s }
-        requires batches { (b : BatchValue) → D.batch_of b ≡ b }
         requires ready { D.is_ready door.old }
         ensures done { (k : ℕ) → IsDone D.took D.is_full N.page_bytes k (Some self.old) door.old
             (Preallocate name.now start end) (done_reply result) (Some self.new) door.new }

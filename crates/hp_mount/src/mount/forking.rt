@@ -1,5 +1,5 @@
 //! A child gets maps on a mount.
-ghost use Rattle.std.specs.Prelude.{◌≡◌, ◌≢◌, ◌==◌, ◌||◌, nat_lt, length, false, ℕ, Err, Some, []};
+ghost use Rattle.std.specs.Prelude.{◌≡◌, ◌≢◌, ◌==◌, ◌||◌, nat_lt, length, false, ℕ, Err, Some};
 ghost use Rattle.hp_model.specs.declared.event.SlotEvent.TheVariants.{ForkMaps};
 ghost use Rattle.hp_model.specs.declared.refusal.Refusal.TheVariants as Refusal;
 ghost use Rattle.hp_model.specs.beside.Accesses.{done_reply};
@@ -7,8 +7,6 @@ ghost use Rattle.hp_model.specs.files.File.{maps_of};
 ghost use Rattle.hp_model.specs.files.Fork.{forked};
 ghost use Rattle.hp_model.specs.files.MakeMap.{tasks_of};
 ghost use Rattle.hp_model.specs.Profile.{most_maps, most_tasks};
-ghost use Rattle.hp_store.specs.Store.{Store as StoreValue};
-ghost use Rattle.hp_subpool.specs.Subpool.{Subpool as ShareValue};
 ghost use Rattle.hp_mount_laws.specs.Done.{IsDone};
 
 use super::Mount;
@@ -17,8 +15,6 @@ use hp_model::naming::Naming;
 use hp_model::profile::MOST_MAPS;
 use hp_model::refusal::Refusal;
 use hp_mount_door::PoolDoor;
-use hp_store::PageStore;
-use hp_subpool::Subpool;
 
 impl<N: Naming> Mount<N> {
     // Whether there would be more maps after a fork, or maps of more tasks, than a mount may have.
@@ -49,15 +45,12 @@ impl<N: Naming> Mount<N> {
     /// - OutOfMemory: memory for the child's maps is refused.
     ///
     /// It takes a step for each place of the parent's maps, and for each file and map.
-    pub fn fork_maps<D: PoolDoor<Share = Subpool<N>, Going = PageStore<N>>>(
+    pub fn fork_maps<D: PoolDoor<N>>(
         &mut self,
         door: &mut D,
         parent: u64,
         child: u64,
     ) -> Result<(), Refusal>
-        requires shares { (s : ShareValue) → D.share_of s ≡ s }
-        requires going { (s : StoreValue) → D.going_of s ≡ s.going }
-        requires emptied { (s : StoreValue) → D.emptied s ≡ record s { going = [] } }
         requires ready { D.is_ready door.old }
         requires apart { (parent == child) ≡ false }
         ensures done { (size k : ℕ) → IsDone D.took D.is_full size k (Some self.old) door.old

@@ -1,10 +1,8 @@
 //! Files that give back.
-ghost use Rattle.std.specs.Prelude.{◌≡◌, ◌≢◌, Err, ℕ, Some, []};
+ghost use Rattle.std.specs.Prelude.{◌≢◌, Err, ℕ, Some};
 ghost use Rattle.hp_model.specs.declared.refusal.Refusal.TheVariants as Refusal;
 ghost use Rattle.hp_model.specs.declared.event.SlotEvent.TheVariants.{Punch, Truncate, Unlink};
 ghost use Rattle.hp_model.specs.beside.Accesses.{done_reply};
-ghost use Rattle.hp_store.specs.Store.{Store as StoreValue};
-ghost use Rattle.hp_subpool.specs.Subpool.{Subpool as ShareValue};
 ghost use Rattle.hp_mount_laws.specs.Done.{IsDone};
 
 use super::Mount;
@@ -13,22 +11,13 @@ use hp_model::profile::MOST_FILE_PAGES;
 use hp_model::refusal::Refusal;
 use hp_mount_door::PoolDoor;
 use hp_mount_files::Lookup;
-use hp_store::PageStore;
-use hp_subpool::Subpool;
 
 impl<N: Naming> Mount<N> {
     /// Takes a file's name away. While maps of it are left it stays as it is. Without maps it goes, and its pages and the
     /// reservations of its entries go back to the pool, but for what the minimum keeps.
     ///
     /// Refused as NoSuchFile where no file has the name, and then nothing changes.
-    pub fn unlink<D: PoolDoor<Share = Subpool<N>, Going = PageStore<N>>>(
-        &mut self,
-        door: &mut D,
-        name: &[u8],
-    ) -> Result<(), Refusal>
-        requires shares { (s : ShareValue) → D.share_of s ≡ s }
-        requires going { (s : StoreValue) → D.going_of s ≡ s.going }
-        requires emptied { (s : StoreValue) → D.emptied s ≡ record s { going = [] } }
+    pub fn unlink<D: PoolDoor<N>>(&mut self, door: &mut D, name: &[u8]) -> Result<(), Refusal>
         requires ready { D.is_ready door.old }
         ensures done { (size k : ℕ) → IsDone D.took D.is_full size k (Some self.old) door.old
             (Unlink name.now) (done_reply result) (Some self.new) door.new }
@@ -50,15 +39,12 @@ impl<N: Naming> Mount<N> {
     /// Refused, and then nothing changes, by the first of these that holds:
     /// - NoSuchFile: no file has the name.
     /// - OutOfRange: `pages` is above 16,777,216 (profile).
-    pub fn truncate<D: PoolDoor<Share = Subpool<N>, Going = PageStore<N>>>(
+    pub fn truncate<D: PoolDoor<N>>(
         &mut self,
         door: &mut D,
         name: &[u8],
         pages: u64,
     ) -> Result<(), Refusal>
-        requires shares { (s : ShareValue) → D.share_of s ≡ s }
-        requires going { (s : StoreValue) → D.going_of s ≡ s.going }
-        requires emptied { (s : StoreValue) → D.emptied s ≡ record s { going = [] } }
         requires ready { D.is_ready door.old }
         ensures done { (size k : ℕ) → IsDone D.took D.is_full size k (Some self.old) door.old
             (Truncate name.now pages) (done_reply result) (Some self.new) door.new }
@@ -83,16 +69,13 @@ impl<N: Naming> Mount<N> {
     /// Refused, and then nothing changes, by the first of these that holds:
     /// - NoSuchFile: no file has the name.
     /// - OutOfRange: the range is empty, or `end` is above 16,777,216 (profile).
-    pub fn punch<D: PoolDoor<Share = Subpool<N>, Going = PageStore<N>>>(
+    pub fn punch<D: PoolDoor<N>>(
         &mut self,
         door: &mut D,
         name: &[u8],
         start: u64,
         end: u64,
     ) -> Result<(), Refusal>
-        requires shares { (s : ShareValue) → D.share_of s ≡ s }
-        requires going { (s : StoreValue) → D.going_of s ≡ s.going }
-        requires emptied { (s : StoreValue) → D.emptied s ≡ record s { going = [] } }
         requires ready { D.is_ready door.old }
         ensures done { (size k : ℕ) → IsDone D.took D.is_full size k (Some self.old) door.old
             (Punch name.now start end) (done_reply result) (Some self.new) door.new }

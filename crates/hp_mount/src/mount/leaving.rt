@@ -1,5 +1,5 @@
 //! Maps that leave a mount.
-ghost use Rattle.std.specs.Prelude.{◌≡◌, ◌≢◌, Err, ℕ, None, Ok, Some, [], length, true, ◌<◌, IfNone, IfSome};
+ghost use Rattle.std.specs.Prelude.{◌≡◌, ◌≢◌, Err, ℕ, Ok, Some, [], length, true, ◌<◌, IfNone, IfSome};
 ghost use Rattle.hp_model.specs.declared.answer.Answer.TheVariants.{Done};
 ghost use Rattle.hp_model.specs.declared.event.SlotEvent.TheVariants.{ExitMaps, Unmap};
 ghost use Rattle.hp_model.specs.declared.refusal.Refusal.TheVariants as Refusal;
@@ -7,8 +7,6 @@ ghost use Rattle.hp_model.specs.files.File.{maps_of};
 ghost use Rattle.hp_model.specs.files.GiveBack.{without_task};
 ghost use Rattle.hp_model.specs.machine.Event.{has_maps_of};
 ghost use Rattle.hp_model.specs.beside.Accesses.{done_reply};
-ghost use Rattle.hp_store.specs.Store.{Store as StoreValue};
-ghost use Rattle.hp_subpool.specs.Subpool.{Subpool as ShareValue};
 ghost use Rattle.hp_lookup.specs.Places.{IsFirstTask};
 ghost use Rattle.hp_mount_laws.specs.Done.{IsDone};
 
@@ -18,8 +16,6 @@ use hp_model::profile::MOST_FILE_PAGES;
 use hp_model::refusal::Refusal;
 use hp_mount_door::PoolDoor;
 use hp_mount_files::Lookup;
-use hp_store::PageStore;
-use hp_subpool::Subpool;
 
 impl<N: Naming> Mount<N> {
     /// The least number of a task that has a map, if there is a map. It takes a step for each file and map.
@@ -40,14 +36,7 @@ impl<N: Naming> Mount<N> {
     /// All maps of a task go, with their private copies and what their owners have reserved and not consumed; and files
     /// that are left without name and maps, with their pages and entries. All that goes back to the pool, but for what the
     /// minimum keeps. Never refused. It takes a step for each map of the task and each page that goes, and no memory.
-    pub fn exit_maps<D: PoolDoor<Share = Subpool<N>, Going = PageStore<N>>>(
-        &mut self,
-        door: &mut D,
-        task: u64,
-    )
-        requires shares { (s : ShareValue) → D.share_of s ≡ s }
-        requires going { (s : StoreValue) → D.going_of s ≡ s.going }
-        requires emptied { (s : StoreValue) → D.emptied s ≡ record s { going = [] } }
+    pub fn exit_maps<D: PoolDoor<N>>(&mut self, door: &mut D, task: u64)
         requires ready { D.is_ready door.old }
         ensures done { (size k : ℕ) → IsDone D.took D.is_full size k (Some self.old) door.old
             (ExitMaps task) (Ok Done) (Some self.new) door.new }
@@ -70,7 +59,7 @@ impl<N: Naming> Mount<N> {
     /// Refused, and then nothing changes, by the first of these that holds:
     /// - NoSuchMap: the task has no map of that number.
     /// - OutOfRange: the range is empty, or `end` is above 16,777,216 (profile).
-    pub fn unmap<D: PoolDoor<Share = Subpool<N>, Going = PageStore<N>>>(
+    pub fn unmap<D: PoolDoor<N>>(
         &mut self,
         door: &mut D,
         task: u64,
@@ -78,9 +67,6 @@ impl<N: Naming> Mount<N> {
         start: u64,
         end: u64,
     ) -> Result<(), Refusal>
-        requires shares { (s : ShareValue) → D.share_of s ≡ s }
-        requires going { (s : StoreValue) → D.going_of s ≡ s.going }
-        requires emptied { (s : StoreValue) → D.emptied s ≡ record s { going = [] } }
         requires ready { D.is_ready door.old }
         ensures done { (size k : ℕ) → IsDone D.took D.is_full size k (Some self.old) door.old
             (Unmap task map start end) (done_reply result) (Some self.new) door.new }

@@ -1,19 +1,15 @@
 //! Files and maps that are made.
-ghost use Rattle.std.specs.Prelude.{◌≡◌, ◌≢◌, Err, IfNone, IfSome, IsTrue, ℕ, ◌+◌, ◌<◌, ◌≤◌, length, not, is_some, true, false, IfErr, IfOk, OnOk, OnErr, Some, None};
-ghost use Rattle.hp_model.specs.declared.answer.Answer.TheVariants.{MapNo};
+ghost use Rattle.std.specs.Prelude.{◌≡◌, ◌≢◌, Err, IfNone, IfSome, IsTrue, ℕ, ◌+◌, ◌<◌, ◌≤◌, length, not, is_some, false, IfErr, IfOk, OnOk, Some, None};
 ghost use Rattle.hp_model.specs.declared.refusal.Refusal.TheVariants as Refusal;
 ghost use Rattle.hp_model.specs.declared.event.SlotEvent.TheVariants.{Anon, Create, Map};
-ghost use Rattle.hp_model.specs.files.File.{maps_of, with_file};
+ghost use Rattle.hp_model.specs.files.File.{maps_of};
 ghost use Rattle.hp_model.specs.pool.Grant.{is_over};
 ghost use Rattle.hp_model.specs.Lists.{is_among};
 ghost use Rattle.hp_model.specs.Profile.{most_file_pages, most_files, most_maps, most_name_bytes};
-ghost use Rattle.hp_model.specs.files.MakeMap.{asked, mapped, next_number, tasks_of};
+ghost use Rattle.hp_model.specs.files.MakeMap.{next_number, tasks_of};
 ghost use Rattle.hp_model.specs.beside.Accesses.{done_reply};
-ghost use Rattle.hp_model.specs.machine.Plan.{Answered, grant};
-ghost use Rattle.hp_model.specs.machine.Promises.{file_in};
 ghost use Rattle.hp_model.specs.machine.SlotEvent.{file_named, is_name, is_name_byte};
 ghost use Rattle.hp_model.specs.beside.Told.{map_reply};
-ghost use Rattle.hp_subpool.specs.Subpool.{Subpool as ShareValue};
 ghost use Rattle.hp_mount_laws.specs.Alone.{IsDoneAlone};
 ghost use Rattle.hp_mount_laws.specs.Done.{Tried, IsDone};
 ghost use Rattle.hp_mount_laws.specs.Reach.{first_of};
@@ -26,7 +22,6 @@ use hp_model::refusal::Refusal;
 use hp_model::step::{Reserving, Sharing};
 use hp_mount_door::PoolDoor;
 use hp_mount_files::{Lookup, MapRange, NextMap};
-use hp_subpool::Subpool;
 use std::alloc::AllocError;
 
 // Tasks with maps on a mount.
@@ -147,7 +142,7 @@ impl<N: Naming> Mount<N> {
     }
 
     // Adds the map to the file at a place, and reserves its pages through the door.
-    fn add_map<D: PoolDoor<Share = Subpool<N>>>(
+    fn add_map<D: PoolDoor<N>>(
         &mut self,
         door: &mut D,
         home: usize,
@@ -155,7 +150,6 @@ impl<N: Naming> Mount<N> {
         range: &MapRange,
         next: NextMap,
     ) -> Result<(), Refusal>
-        requires shares { (s : ShareValue) → D.share_of s ≡ s }
         requires ready { D.is_ready door.old }
         requires file { file < length self.old.files }
         requires reach { range.now.start + range.now.pages ≤ most_file_pages }
@@ -182,14 +176,13 @@ impl<N: Naming> Mount<N> {
     ///
     /// Refused as NoSuchFile, OutOfRange, TooMany, MountFull, OutOfMemory or NoPages, the first of these that holds, and
     /// as TraceFull where the door has no room to note the section; then nothing changes.
-    pub fn map<D: PoolDoor<Share = Subpool<N>>>(
+    pub fn map<D: PoolDoor<N>>(
         &mut self,
         door: &mut D,
         home: u64,
         name: &[u8],
         range: &MapRange,
     ) -> Result<u64, Refusal>
-        requires shares { (s : ShareValue) → D.share_of s ≡ s }
         requires ready { D.is_ready door.old }
         ensures done { (size k : ℕ) → IsDone D.took D.is_full size k (Some self.old) door.old
             (map_event home name.now range.now) (map_reply result) (Some self.new) door.new }
@@ -210,7 +203,7 @@ impl<N: Naming> Mount<N> {
 
     // The same by the range's parts.
     #[inline(always)]
-    pub(super) fn new_map<D: PoolDoor<Share = Subpool<N>>>(
+    pub(super) fn new_map<D: PoolDoor<N>>(
         &mut self,
         door: &mut D,
         home: u64,
@@ -221,7 +214,6 @@ impl<N: Naming> Mount<N> {
         sharing: Sharing,
         reserving: Reserving,
     ) -> Result<u64, Refusal>
-        requires shares { (s : ShareValue) → D.share_of s ≡ s }
         requires ready { D.is_ready door.old }
         ensures done { (size k : ℕ) → IsDone D.took D.is_full size k (Some self.old) door.old
             (Map task home name.now start pages sharing reserving) (map_reply result)
@@ -265,14 +257,13 @@ impl<N: Naming> Mount<N> {
     }
 
     // Adds a file without name with the map, and reserves its pages through the door.
-    fn add_anon<D: PoolDoor<Share = Subpool<N>>>(
+    fn add_anon<D: PoolDoor<N>>(
         &mut self,
         door: &mut D,
         home: usize,
         range: &MapRange,
         next: NextMap,
     ) -> Result<(), Refusal>
-        requires shares { (s : ShareValue) → D.share_of s ≡ s }
         requires ready { D.is_ready door.old }
         requires reach { range.now.start + range.now.pages ≤ most_file_pages }
         requires few { length (maps_of self.old) < most_maps }
@@ -298,7 +289,7 @@ impl<N: Naming> Mount<N> {
     ///
     /// Refused as OutOfRange, TooMany, NoInodes, MountFull, OutOfMemory or NoPages, the first of these that holds, and as
     /// TraceFull where the door has no room to note the section; then nothing changes.
-    pub fn anon<D: PoolDoor<Share = Subpool<N>>>(
+    pub fn anon<D: PoolDoor<N>>(
         &mut self,
         door: &mut D,
         home: u64,
@@ -307,7 +298,6 @@ impl<N: Naming> Mount<N> {
         sharing: Sharing,
         reserving: Reserving,
     ) -> Result<u64, Refusal>
-        requires shares { (s : ShareValue) → D.share_of s ≡ s }
         requires ready { D.is_ready door.old }
         ensures done { (size k : ℕ) → IsDone D.took D.is_full size k (Some self.old) door.old
             (Anon task home pages sharing reserving) (map_reply result) (Some self.new) door.new }

@@ -1,17 +1,15 @@
 //! Accesses through private maps: each sees to it that there is a copy, or a page to read.
-ghost use Rattle.std.specs.Prelude.{◌≡◌, ◌≢◌, ℕ, ◌+◌, ◌<◌, ◌≤◌, ◌^◌, length, Ok, Err, Some, None, true, false};
+ghost use Rattle.std.specs.Prelude.{◌≡◌, ◌≢◌, ◌+◌, ◌<◌, ◌^◌, length, Ok, Err, Some, None, true, false};
 ghost use Rattle.hp_model.specs.declared.refusal.Refusal.TheVariants as Refusal;
 ghost use Rattle.hp_model.specs.declared.step.Intent.TheVariants.{Read, Write};
 ghost use Rattle.hp_model.specs.files.File.{cell_at};
 ghost use Rattle.hp_model.specs.files.Mapping.{copy_of, is_live, is_shared, place_at};
 ghost use Rattle.hp_model.specs.files.MountCounts.{usage_of};
-ghost use Rattle.hp_model.specs.files.Page.{Page as PageValue};
 ghost use Rattle.hp_model.specs.machine.Promises.{file_in, is_backed, map_in};
 ghost use Rattle.hp_lookup.specs.declared.copy_state.CopyState.TheVariants as CopyState;
 ghost use Rattle.hp_lookup.specs.Files.{file_at};
 ghost use Rattle.hp_lookup.specs.Places.{shown_at};
 ghost use Rattle.hp_file.specs.States.{AreAgreed, IsCopyState};
-ghost use Rattle.hp_subpool.specs.Subpool.{Subpool as ShareValue};
 ghost use Rattle.hp_mount_laws.specs.Done.{IsAccessed};
 ghost use Rattle.hp_mount_laws.specs.Reach.{IsFileTouched, NeedsCopy, has_reserve, shows_page as is_shown, spot_at};
 
@@ -22,7 +20,6 @@ use hp_model::step::Intent;
 use hp_mount_door::PoolDoor;
 use hp_mount_files::{CellState, CopyState, FilePages, Files, MapPages, MapPlace};
 use hp_nodes::Page;
-use hp_subpool::Subpool;
 
 // Whether a reader finds a page of the file.
 fn shows_page<N: Naming>(files: &Files<N>, file: usize, index: u64, intent: Intent) -> bool
@@ -54,7 +51,7 @@ fn with_shown<N: Naming>(files: &Files<N>, at: MapPlace, index: u64, page: Page<
 
 impl<N: Naming> Mount<N> {
     // A copy of what the map shows, by the owner's reservation for the index, which is consumed.
-    fn copy_reserved<D: PoolDoor<Share = Subpool<N>, Page = Page<N>>>(
+    fn copy_reserved<D: PoolDoor<N>>(
         &mut self,
         door: &mut D,
         home: usize,
@@ -62,8 +59,6 @@ impl<N: Naming> Mount<N> {
         index: u64,
         intent: Intent,
     ) -> Result<(), Refusal>
-        requires shares { (s : ShareValue) → D.share_of s ≡ s }
-        requires pages { (p : PageValue) → D.page_of p ≡ p }
         requires ready { D.is_ready door.old }
         requires file { at.file < length self.old.files }
         requires map { at.map < length (file_in self.old at.file).maps }
@@ -84,7 +79,7 @@ impl<N: Naming> Mount<N> {
     }
 
     // A copy of what the map shows, by a grant of one.
-    fn copy_granted<D: PoolDoor<Share = Subpool<N>, Page = Page<N>>>(
+    fn copy_granted<D: PoolDoor<N>>(
         &mut self,
         door: &mut D,
         home: usize,
@@ -92,8 +87,6 @@ impl<N: Naming> Mount<N> {
         index: u64,
         intent: Intent,
     ) -> Result<(), Refusal>
-        requires shares { (s : ShareValue) → D.share_of s ≡ s }
-        requires pages { (p : PageValue) → D.page_of p ≡ p }
         requires ready { D.is_ready door.old }
         requires file { at.file < length self.old.files }
         requires map { at.map < length (file_in self.old at.file).maps }
@@ -125,7 +118,7 @@ impl<N: Naming> Mount<N> {
 
     // Sees to it that a map without a copy at an index shows a page there, or has a copy to write into.
     #[inline(never)]
-    fn reach_bare<D: PoolDoor<Share = Subpool<N>, Page = Page<N>>>(
+    fn reach_bare<D: PoolDoor<N>>(
         &mut self,
         door: &mut D,
         home: usize,
@@ -133,8 +126,6 @@ impl<N: Naming> Mount<N> {
         index: u64,
         intent: Intent,
     ) -> Result<(), Refusal>
-        requires shares { (s : ShareValue) → D.share_of s ≡ s }
-        requires pages { (p : PageValue) → D.page_of p ≡ p }
         requires ready { D.is_ready door.old }
         requires file { at.file < length self.old.files }
         requires map { at.map < length (file_in self.old at.file).maps }
@@ -167,15 +158,13 @@ impl<N: Naming> Mount<N> {
     // A page of its own for a map that writes into a copy that several hold, by a grant of one. Where that is refused for
     // want of a page, an owner takes the copy from all others.
     #[inline(never)]
-    fn reach_own<D: PoolDoor<Share = Subpool<N>, Page = Page<N>>>(
+    fn reach_own<D: PoolDoor<N>>(
         &mut self,
         door: &mut D,
         home: usize,
         at: MapPlace,
         index: u64,
     ) -> Result<(), Refusal>
-        requires shares { (s : ShareValue) → D.share_of s ≡ s }
-        requires pages { (p : PageValue) → D.page_of p ≡ p }
         requires ready { D.is_ready door.old }
         requires file { at.file < length self.old.files }
         requires map { at.map < length (file_in self.old at.file).maps }
@@ -223,7 +212,7 @@ impl<N: Naming> Mount<N> {
 
     // Sees to it that a private map shows a page at an index, or has a copy of its own to write into.
     #[inline(always)]
-    pub(super) fn reach_private<D: PoolDoor<Share = Subpool<N>, Page = Page<N>>>(
+    pub(super) fn reach_private<D: PoolDoor<N>>(
         &mut self,
         door: &mut D,
         home: usize,
@@ -231,8 +220,6 @@ impl<N: Naming> Mount<N> {
         index: u64,
         intent: Intent,
     ) -> Result<(), Refusal>
-        requires shares { (s : ShareValue) → D.share_of s ≡ s }
-        requires pages { (p : PageValue) → D.page_of p ≡ p }
         requires ready { D.is_ready door.old }
         requires file { at.file < length self.old.files }
         requires map { at.map < length (file_in self.old at.file).maps }

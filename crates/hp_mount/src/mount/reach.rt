@@ -6,13 +6,11 @@ ghost use Rattle.hp_model.specs.files.Mapping.{is_live, is_shared, place_at};
 ghost use Rattle.hp_model.specs.beside.Accesses.{bytes_reply, done_reply};
 ghost use Rattle.hp_model.specs.declared.refusal.Refusal.TheVariants as Refusal;
 ghost use Rattle.hp_model.specs.files.File.{cell_at, is_entered};
-ghost use Rattle.hp_model.specs.files.Page.{Page as PageValue};
 ghost use Rattle.hp_model.specs.machine.Promises.{file_in, is_backed, map_in};
 ghost use Rattle.hp_model.specs.declared.step.Intent.TheVariants.{Read, Write};
 ghost use Rattle.hp_model.specs.Profile.{most_bytes};
 ghost use Rattle.hp_lookup.specs.declared.copy_state.CopyState.TheVariants as CopyState;
 ghost use Rattle.hp_file.specs.States.{IsCopyState};
-ghost use Rattle.hp_subpool.specs.Subpool.{Subpool as ShareValue};
 ghost use Rattle.hp_mount_laws.specs.Done.{IsAccessed, IsDone, IsReached};
 ghost use Rattle.hp_mount_laws.specs.Reach.{IsFileTouched, spot_at};
 ghost use Rattle.hp_mount.specs.Found.{spot_of};
@@ -24,7 +22,6 @@ use hp_model::step::Intent;
 use hp_mount_door::PoolDoor;
 use hp_mount_files::{CellState, FilePages, MapPlace};
 use hp_nodes::Page;
-use hp_subpool::Subpool;
 
 /// An access by a task through one of its maps, at an index of the file.
 #[derive(Clone, Copy, Debug, PartialEq, Eq)]
@@ -44,15 +41,13 @@ pub enum Asked {
 impl<N: Naming> Mount<N> {
     // The page of an entered index, by the reservation that its entry holds.
     #[inline(never)]
-    fn fill_entry<D: PoolDoor<Share = Subpool<N>, Page = Page<N>>>(
+    fn fill_entry<D: PoolDoor<N>>(
         &mut self,
         door: &mut D,
         home: usize,
         file: usize,
         index: u64,
     ) -> Result<(), Refusal>
-        requires shares { (s : ShareValue) → D.share_of s ≡ s }
-        requires pages { (p : PageValue) → D.page_of p ≡ p }
         requires ready { D.is_ready door.old }
         requires file { file < length self.old.files }
         requires below { index < length (file_in self.old file).cells }
@@ -71,15 +66,13 @@ impl<N: Naming> Mount<N> {
 
     // The page of an index without an entry, by a grant of one.
     #[inline(never)]
-    fn fill_hole<D: PoolDoor<Share = Subpool<N>, Page = Page<N>>>(
+    fn fill_hole<D: PoolDoor<N>>(
         &mut self,
         door: &mut D,
         home: usize,
         file: usize,
         index: u64,
     ) -> Result<(), Refusal>
-        requires shares { (s : ShareValue) → D.share_of s ≡ s }
-        requires pages { (p : PageValue) → D.page_of p ≡ p }
         requires ready { D.is_ready door.old }
         requires file { file < length self.old.files }
         requires below { index < length (file_in self.old file).cells }
@@ -112,15 +105,13 @@ impl<N: Naming> Mount<N> {
 
     // Sees to it that the index of a shared map has a page: by its entry, else by a grant of one.
     #[inline(always)]
-    fn reach_shared<D: PoolDoor<Share = Subpool<N>, Page = Page<N>>>(
+    fn reach_shared<D: PoolDoor<N>>(
         &mut self,
         door: &mut D,
         home: usize,
         file: usize,
         index: u64,
     ) -> Result<(), Refusal>
-        requires shares { (s : ShareValue) → D.share_of s ≡ s }
-        requires pages { (p : PageValue) → D.page_of p ≡ p }
         requires ready { D.is_ready door.old }
         requires file { file < length self.old.files }
         requires below { index < length (file_in self.old file).cells }
@@ -140,7 +131,7 @@ impl<N: Naming> Mount<N> {
 
     // Sees to it that the map shows a page at an index, or for a write that it has one to write into.
     #[inline(always)]
-    fn reach<D: PoolDoor<Share = Subpool<N>, Page = Page<N>>>(
+    fn reach<D: PoolDoor<N>>(
         &mut self,
         door: &mut D,
         home: usize,
@@ -148,8 +139,6 @@ impl<N: Naming> Mount<N> {
         index: u64,
         intent: Intent,
     ) -> Result<(), Refusal>
-        requires shares { (s : ShareValue) → D.share_of s ≡ s }
-        requires pages { (p : PageValue) → D.page_of p ≡ p }
         requires ready { D.is_ready door.old }
         requires file { at.file < length self.old.files }
         requires map { at.map < length (file_in self.old at.file).maps }
@@ -175,15 +164,13 @@ impl<N: Naming> Mount<N> {
 
     /// Sees to it that a map shows a page at an index, or for a write that it has one to write into.
     #[inline(never)]
-    pub fn fault<D: PoolDoor<Share = Subpool<N>, Page = Page<N>>>(
+    pub fn fault<D: PoolDoor<N>>(
         &mut self,
         door: &mut D,
         home: u64,
         access: &MapAccess,
         intent: Intent,
     ) -> Result<(), Refusal>
-        requires shares { (s : ShareValue) → D.share_of s ≡ s }
-        requires pages { (p : PageValue) → D.page_of p ≡ p }
         requires ready { D.is_ready door.old }
         ensures done { (k : ℕ) → IsDone D.took D.is_full N.page_bytes k (Some self.old) door.old
             (Fault access.now.task home access.now.map access.now.index intent)
@@ -201,7 +188,7 @@ impl<N: Naming> Mount<N> {
 
     /// Answers `count` bytes that a map shows at an index, from byte `offset` of the page on, in the front of the room.
     #[inline(always)]
-    pub fn load<'a, D: PoolDoor<Share = Subpool<N>, Page = Page<N>>>(
+    pub fn load<'a, D: PoolDoor<N>>(
         &mut self,
         door: &mut D,
         page_bytes: u64,
@@ -211,8 +198,6 @@ impl<N: Naming> Mount<N> {
         count: u64,
         room: &'a mut [u8],
     ) -> Result<&'a [u8], Refusal>
-        requires shares { (s : ShareValue) → D.share_of s ≡ s }
-        requires pages { (p : PageValue) → D.page_of p ≡ p }
         requires ready { D.is_ready door.old }
         requires page_bytes { page_bytes ≡ N.page_bytes }
         requires room { most_bytes ≤ length room.old }
@@ -238,7 +223,7 @@ impl<N: Naming> Mount<N> {
 
     /// Writes bytes through a map at an index, from byte `offset` of the page on.
     #[inline(always)]
-    pub fn store<D: PoolDoor<Share = Subpool<N>, Page = Page<N>>>(
+    pub fn store<D: PoolDoor<N>>(
         &mut self,
         door: &mut D,
         page_bytes: u64,
@@ -247,8 +232,6 @@ impl<N: Naming> Mount<N> {
         offset: u64,
         bytes: &[u8],
     ) -> Result<(), Refusal>
-        requires shares { (s : ShareValue) → D.share_of s ≡ s }
-        requires pages { (p : PageValue) → D.page_of p ≡ p }
         requires ready { D.is_ready door.old }
         requires page_bytes { page_bytes ≡ N.page_bytes }
         ensures done { (k : ℕ) → IsDone D.took D.is_full N.page_bytes k (Some self.old) door.old

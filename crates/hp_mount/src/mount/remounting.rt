@@ -3,14 +3,12 @@ ghost use Rattle.std.specs.Prelude.{◌≡◌, ◌≢◌, ◌<◌, ◌==◌, ℕ
 ghost use Rattle.hp_model.specs.declared.event.SlotEvent.TheVariants.{Remount};
 ghost use Rattle.hp_model.specs.declared.refusal.Refusal.TheVariants as Refusal;
 ghost use Rattle.hp_model.specs.beside.Accesses.{done_reply};
-ghost use Rattle.hp_subpool.specs.Subpool.{Subpool as ShareValue};
 ghost use Rattle.hp_mount_laws.specs.Done.{IsDone};
 
 use super::Mount;
 use hp_model::naming::Naming;
 use hp_model::refusal::Refusal;
 use hp_mount_door::PoolDoor;
-use hp_subpool::Subpool;
 
 impl<N: Naming> Mount<N> {
     /// Sets all three limits anew, to what the options mean at the pool's nr. Files and maps stay as they are: a limit
@@ -23,13 +21,12 @@ impl<N: Naming> Mount<N> {
     /// - NoPages: the pool can't commit what the minimum adds.
     ///
     /// As TraceFull where the door has no room to note the section. It takes a few words, whatever files there are.
-    pub fn remount<D: PoolDoor<Share = Subpool<N>>>(
+    pub fn remount<D: PoolDoor<N>>(
         &mut self,
         door: &mut D,
         page_bytes: u64,
         options: &[u8],
     ) -> Result<(), Refusal>
-        requires shares { (s : ShareValue) → D.share_of s ≡ s }
         requires ready { D.is_ready door.old }
         requires bytes { 0 < page_bytes }
         ensures done { (k : ℕ) → (k == 0) ≡ false

@@ -13,8 +13,7 @@ ghost use Rattle.hp_mount_door.specs.Door.{by_node};
 ghost use Rattle.hp_mount_door.specs.Filling.{AreRising};
 ghost use Rattle.hp_lookup.specs.Files.{file_at, filled_at};
 ghost use Rattle.hp_file.specs.Filling.{IsTaking, entered_at, pages_put, reply_of, zeros_at};
-ghost use Rattle.hp_store.specs.Batch.{Batch as BatchValue};
-ghost use Rattle.hp_subpool.specs.Subpool.{Subpool as ShareValue, is_full, used};
+ghost use Rattle.hp_subpool.specs.Subpool.{is_full};
 
 use super::Files;
 use crate::file_pages::FilePages;
@@ -41,7 +40,7 @@ impl<N: Naming> Files<N> {
     }
 
     // Enters indices of a file, and takes `count` pages for them at once. Refused as `preallocate` is.
-    fn take_pages<D: PoolDoor<Share = Subpool<N>, Batch = PageBatch<N>>>(
+    fn take_pages<D: PoolDoor<N>>(
         &mut self,
         door: &mut D,
         share: &mut Subpool<N>,
@@ -51,8 +50,6 @@ impl<N: Naming> Files<N> {
         k: u64,
         count: u64,
     ) -> Result<PageBatch<N>, Refusal>
-        requires shares { (s : ShareValue) → D.share_of s ≡ s }
-        requires batches { (b : BatchValue) → D.batch_of b ≡ b }
         requires ready { D.is_ready door.old }
         requires file { file < length self.old.files }
         requires reach { to ≤ most_file_pages }
@@ -156,7 +153,7 @@ impl<N: Naming> Files<N> {
     }
 
     // As `preallocate`, with the room that was made left after a refusal.
-    fn fill_range<D: PoolDoor<Share = Subpool<N>, Batch = PageBatch<N>>>(
+    fn fill_range<D: PoolDoor<N>>(
         &mut self,
         door: &mut D,
         share: &mut Subpool<N>,
@@ -166,8 +163,6 @@ impl<N: Naming> Files<N> {
         k: u64,
         count: u64,
     ) -> Result<(), Refusal>
-        requires shares { (s : ShareValue) → D.share_of s ≡ s }
-        requires batches { (b : BatchValue) → D.batch_of b ≡ b }
         requires ready { D.is_ready door.old }
         requires file { file < length self.old.files }
         requires order { from ≤ to }
@@ -203,7 +198,7 @@ impl<N: Naming> Files<N> {
     /// one section.
     ///
     /// Refused as OutOfMemory before the door, or as the door refuses; then only the room may be more.
-    pub fn preallocate<D: PoolDoor<Share = Subpool<N>, Batch = PageBatch<N>>>(
+    pub fn preallocate<D: PoolDoor<N>>(
         &mut self,
         door: &mut D,
         share: &mut Subpool<N>,
@@ -213,8 +208,6 @@ impl<N: Naming> Files<N> {
         k: u64,
         count: u64,
     ) -> Result<(), Refusal>
-        requires shares { (s : ShareValue) → D.share_of s ≡ s }
-        requires batches { (b : BatchValue) → D.batch_of b ≡ b }
         requires ready { D.is_ready door.old }
         requires file { file < length self.old.files }
         requires order { from ≤ to }

@@ -4,7 +4,7 @@ ghost use Rattle.hp_lookup.specs.Files.{file_at, with_anon, with_file_at, mapped
 ghost use Rattle.hp_lookup.specs.Hints.{AreSame};
 ghost use Rattle.hp_lookup.specs.Tally.{count_of};
 ghost use Rattle.hp_lookup.specs.Asking.{IsAsked, is_first_of, next_of, wants, with_range};
-ghost use Rattle.hp_subpool.specs.Subpool.{Subpool as ShareValue, is_full, used};
+ghost use Rattle.hp_subpool.specs.Subpool.{is_full, used};
 ghost use Rattle.std.specs.List.{sum_by};
 ghost use Rattle.hp_model.specs.Profile.{most_file_pages, most_maps, most_name_bytes};
 ghost use Rattle.hp_model.specs.files.MountCounts.{file_pages};
@@ -72,7 +72,7 @@ impl<N: Naming> Files<N> {
     }
 
     // Adds a map of a file, as `add_map` does when its room is made.
-    fn put_map<D: PoolDoor<Share = Subpool<N>>>(
+    fn put_map<D: PoolDoor<N>>(
         &mut self,
         door: &mut D,
         share: &mut Subpool<N>,
@@ -81,7 +81,6 @@ impl<N: Naming> Files<N> {
         range: &MapRange,
         next: NextMap,
     ) -> Result<(), Refusal>
-        requires shares { (s : ShareValue) → D.share_of s ≡ s }
         requires ready { D.is_ready door.old }
         requires file { file < length self.old.files }
         requires reach { range.now.start + range.now.pages ≤ most_file_pages }
@@ -127,7 +126,7 @@ impl<N: Naming> Files<N> {
     }
 
     // As `add_map`, with the room that was made left after a refusal.
-    fn map_range<D: PoolDoor<Share = Subpool<N>>>(
+    fn map_range<D: PoolDoor<N>>(
         &mut self,
         door: &mut D,
         share: &mut Subpool<N>,
@@ -136,7 +135,6 @@ impl<N: Naming> Files<N> {
         range: &MapRange,
         next: NextMap,
     ) -> Result<(), Refusal>
-        requires shares { (s : ShareValue) → D.share_of s ≡ s }
         requires ready { D.is_ready door.old }
         requires file { file < length self.old.files }
         requires reach { range.now.start + range.now.pages ≤ most_file_pages }
@@ -171,7 +169,7 @@ impl<N: Naming> Files<N> {
     /// reservation.
     ///
     /// Refused as OutOfMemory before the door, or as the door refuses; then only the room may be more.
-    pub fn add_map<D: PoolDoor<Share = Subpool<N>>>(
+    pub fn add_map<D: PoolDoor<N>>(
         &mut self,
         door: &mut D,
         share: &mut Subpool<N>,
@@ -180,7 +178,6 @@ impl<N: Naming> Files<N> {
         range: &MapRange,
         next: NextMap,
     ) -> Result<(), Refusal>
-        requires shares { (s : ShareValue) → D.share_of s ≡ s }
         requires ready { D.is_ready door.old }
         requires file { file < length self.old.files }
         requires reach { range.now.start + range.now.pages ≤ most_file_pages }
@@ -210,7 +207,7 @@ impl<N: Naming> Files<N> {
     }
 
     // Adds a file with a map, as `add_anon` does when its room is made.
-    fn put_anon<D: PoolDoor<Share = Subpool<N>>>(
+    fn put_anon<D: PoolDoor<N>>(
         &mut self,
         door: &mut D,
         share: &mut Subpool<N>,
@@ -218,7 +215,6 @@ impl<N: Naming> Files<N> {
         range: &MapRange,
         next: NextMap,
     ) -> Result<(), Refusal>
-        requires shares { (s : ShareValue) → D.share_of s ≡ s }
         requires ready { D.is_ready door.old }
         requires reach { range.now.start + range.now.pages ≤ most_file_pages }
         requires maps { length (all_maps self.old.files) < most_maps }
@@ -254,7 +250,7 @@ impl<N: Naming> Files<N> {
     }
 
     // As `add_anon`, with the room that was made left after a refusal.
-    fn map_anon<D: PoolDoor<Share = Subpool<N>>>(
+    fn map_anon<D: PoolDoor<N>>(
         &mut self,
         door: &mut D,
         share: &mut Subpool<N>,
@@ -262,7 +258,6 @@ impl<N: Naming> Files<N> {
         range: &MapRange,
         next: NextMap,
     ) -> Result<(), Refusal>
-        requires shares { (s : ShareValue) → D.share_of s ≡ s }
         requires ready { D.is_ready door.old }
         requires reach { range.now.start + range.now.pages ≤ most_file_pages }
         requires maps { length (all_maps self.old.files) < most_maps }
@@ -292,7 +287,7 @@ impl<N: Naming> Files<N> {
     /// reservations a page for each index is reserved through the door, and there is room for each reservation.
     ///
     /// Refused as OutOfMemory before the door, or as the door refuses; then only the room may be more.
-    pub fn add_anon<D: PoolDoor<Share = Subpool<N>>>(
+    pub fn add_anon<D: PoolDoor<N>>(
         &mut self,
         door: &mut D,
         share: &mut Subpool<N>,
@@ -300,7 +295,6 @@ impl<N: Naming> Files<N> {
         range: &MapRange,
         next: NextMap,
     ) -> Result<(), Refusal>
-        requires shares { (s : ShareValue) → D.share_of s ≡ s }
         requires ready { D.is_ready door.old }
         requires reach { range.now.start + range.now.pages ≤ most_file_pages }
         requires maps { length (all_maps self.old.files) < most_maps }

@@ -4,8 +4,9 @@ use Rattle.hp_model.specs.declared.answer.Answer.TheVariants.{Done}
 use Rattle.hp_model.specs.declared.event.SlotEvent.TheVariants.{Mount as Mounting}
 use Rattle.hp_model.specs.declared.refusal.Refusal.TheVariants.{SlotTaken}
 use Rattle.hp_model.specs.machine.Plan.{Slot}
+use Rattle.hp_locked.specs.Opened.{IsOpenedAt}
 use Rattle.hp_shared.specs.Slots.{IsActedOr}
-use Rattle.hp_shared.proofs.Unmounting.{mounted, none_mount, some_mount, opened_held, opened_pages, shown_err, shown_ok, taken, open_entered}
+use Rattle.hp_shared.proofs.Unmounting.{mounted, none_mount, some_mount, opened_held, opened_pages, taken, open_entered}
 use Rattle.hp_shared.proofs.mounting.mount.Goals as goal
 
 pub returns-then-is_some-clause-done : goal.returns-then-is_some-clause-done
@@ -16,13 +17,13 @@ returns-then-is_some-clause-done g c = λ k.
 
 pub new-open-requires-clause-pages : goal.new-open-requires-clause-pages
 new-open-requires-clause-pages g c =
-    opened_pages g.D.PoolDoor.took g.D.PoolDoor.is_full g.D.PoolDoor.share_of c.args.page_bytes c.args.options.now c.args.door.now c.open.new.self
-    c.open.result c.in-Ok.share c.in-Ok.limits c.in-Ok.is c.requires.shares c.open.ensures
+    opened_pages g.D.PoolDoor.took g.D.PoolDoor.is_full c.args.page_bytes c.args.options.now c.args.door.now c.open.new.self
+    c.open.result c.in-Ok.share c.in-Ok.limits c.in-Ok.is c.open.ensures
 
 pub new-open-requires-clause-held : goal.new-open-requires-clause-held
 new-open-requires-clause-held g c =
-    opened_held g.D.PoolDoor.took g.D.PoolDoor.is_full g.D.PoolDoor.share_of c.args.page_bytes c.args.options.now c.args.door.now c.open.new.self
-    c.open.result c.in-Ok.share c.in-Ok.limits c.in-Ok.is c.requires.shares c.open.ensures
+    opened_held g.D.PoolDoor.took g.D.PoolDoor.is_full c.args.page_bytes c.args.options.now c.args.door.now c.open.new.self
+    c.open.result c.in-Ok.share c.in-Ok.limits c.in-Ok.is c.open.ensures
 
 pub returns-in-Err-clause-done : goal.returns-in-Err-clause-done
 returns-in-Err-clause-done g c = λ k.
@@ -30,8 +31,8 @@ returns-in-Err-clause-done g c = λ k.
     (g.D.SessionDoor.asked c.open.new.self) s) (sym (none_mount c.args.mount.now (sym c.is_some.ensures ∙ c.if-is_some.false)))
     (mounted g.D.SessionDoor.keeps g.D.SessionDoor.asked g.D.SessionDoor.mine g.D.PoolDoor.took g.D.PoolDoor.is_full g.met.D.SessionDoor.tells c.args.door.now c.open.new.self
     (g.met.D.SessionDoor.begins c.args.door.now c.requires.ready) c.args.page_bytes k c.args.options.now (Err c.in-Err.refusal)
-    (shown_err g.D.PoolDoor.took g.D.PoolDoor.is_full g.D.PoolDoor.share_of c.args.page_bytes c.args.options.now c.args.door.now c.open.new.self
-    c.open.result c.in-Err.refusal c.in-Err.is c.open.ensures))
+    (subst (λ got. IsOpenedAt g.D.PoolDoor.took g.D.PoolDoor.is_full c.args.page_bytes c.args.options.now c.args.door.now c.open.new.self got)
+    c.in-Err.is c.open.ensures))
 
 pub returns-in-None-clause-done : goal.returns-in-None-clause-done
 returns-in-None-clause-done g c = λ k.
@@ -41,8 +42,8 @@ returns-in-None-clause-done g c = λ k.
     (g.D.SessionDoor.asked c.open.new.self) s) (sym (c.replace.ensures.after ∙ ap Some c.new-open.ensures))
     (mounted g.D.SessionDoor.keeps g.D.SessionDoor.asked g.D.SessionDoor.mine g.D.PoolDoor.took g.D.PoolDoor.is_full g.met.D.SessionDoor.tells c.args.door.now c.open.new.self
     (g.met.D.SessionDoor.begins c.args.door.now c.requires.ready) c.args.page_bytes k c.args.options.now (Ok (c.in-Ok.share, c.in-Ok.limits))
-    (shown_ok g.D.PoolDoor.took g.D.PoolDoor.is_full g.D.PoolDoor.share_of c.args.page_bytes c.args.options.now c.args.door.now c.open.new.self
-    c.open.result c.in-Ok.share c.in-Ok.limits c.in-Ok.is c.requires.shares c.open.ensures)))
+    (subst (λ got. IsOpenedAt g.D.PoolDoor.took g.D.PoolDoor.is_full c.args.page_bytes c.args.options.now c.args.door.now c.open.new.self got)
+    c.in-Ok.is c.open.ensures)))
 
 pub returns-then-is_some-clause-entered : goal.returns-then-is_some-clause-entered
 returns-then-is_some-clause-entered g c = unused g.D.SessionDoor.keeps g.D.SessionDoor.asked g.D.SessionDoor.mine c.args.door.now (g.met.D.SessionDoor.begins c.args.door.now c.requires.ready)

@@ -1,10 +1,8 @@
-use Rattle.std.proofs.Common.{List, Ok, None, Some, ap, subst, arith}
+use Rattle.std.proofs.Common.{Ok, None, Some, subst, arith}
 use Rattle.hp_model.specs.declared.answer.Answer.TheVariants.{Done}
 use Rattle.hp_model.specs.files.File.{Mount}
 use Rattle.hp_model.specs.threads.LocalRun.{ThroughDoor}
-use Rattle.hp_model.specs.files.Page.{Page}
 use Rattle.hp_model.specs.machine.Plan.{gives}
-use Rattle.hp_mount_door.specs.Door.{GivesBack}
 use Rattle.hp_mount_laws.specs.Kept.{mount_from}
 use Rattle.hp_mount_laws.proofs.Ending.{ended}
 use Rattle.hp_subpool.specs.Subpool.{committed_of}
@@ -18,10 +16,8 @@ returns-clause-done g c =
     let door = c.args.door.now in
     let going = c.close-going.result in
     let inv = c.self.invariant in
-    let committed = ap committed_of (c.requires.shares o.share) in
-    let given = subst (λ (pages : List Page). GivesBack took pages (committed_of (g.D.PoolDoor.share_of o.share)) door c.close.new.self) (c.requires.going going) c.close.ensures.given in
-    subst (λ (x : Mount). ThroughDoor took (gives Done (Some x) None) (Some x) door (Ok Done) None c.close.new.self) c.self.view_is
-    (ended took m going.going (committed_of (g.D.PoolDoor.share_of o.share)) door c.close.new.self c.close-going.ensures.nodes (omega (arith, committed, inv.used)) given)
+    subst (λ (x : Mount). ThroughDoor took (gives Done (Some x) None) (Some x) door (Ok Done) None c.empty.new.self) c.self.view_is
+    (ended took m going.going (committed_of o.share) door c.empty.new.self c.close-going.ensures.nodes (omega (arith, inv.used)) c.empty.ensures.given)
 
 pub returns-then-map_count-gt0-clause-left : goal.returns-then-map_count-gt0-clause-left
 returns-then-map_count-gt0-clause-left g c = g.D.PoolDoor.stays c.args.door.now c.requires.ready

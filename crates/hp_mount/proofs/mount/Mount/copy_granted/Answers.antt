@@ -16,7 +16,7 @@ use Rattle.hp_mount_laws.specs.Kept.{IsKept, mount_from}
 use Rattle.hp_mount.proofs.Copying as keeps
 use Rattle.hp_mount_laws.proofs.Keeping.{full_as, mount_left, rise_as}
 use Rattle.hp_mount_laws.proofs.Private as private
-use Rattle.hp_mount_laws.proofs.Private.{back_touched, place_touched, stamped_fresh}
+use Rattle.hp_mount_laws.proofs.Private.{place_touched, stamped_fresh}
 use Rattle.hp_subpool.specs.Subpool as share
 use Rattle.hp_mount.proofs.mount.Mount.copy_granted.Given.{Over}
 use Rattle.hp_mount.proofs.Here.{file_here, map_here, place_here}
@@ -29,8 +29,8 @@ module _ (g : Over) (c : After-is_full g) where
   full : {b : Bool} → c.is_full.result ≡ b → grant.is_full c.args.self.now 1 ≡ b
   full e = full_as c.self.inside.share c.self.inside.files c.self.inside.inodes c.args.self.now c.self.invariant c.self.view_is 1 1 c.is_full.result refl c.is_full.ensures ∙ e
 
-  rise : share.rise (g.D.PoolDoor.share_of c.self.inside.share) 1 ≡ grant.rise c.args.self.now 1
-  rise = ap (λ x. share.rise x 1) (c.requires.shares c.self.inside.share) ∙ rise_as c.self.inside.share c.self.inside.files c.self.inside.inodes c.args.self.now c.self.invariant c.self.view_is 1
+  rise : share.rise c.self.inside.share 1 ≡ grant.rise c.args.self.now 1
+  rise = rise_as c.self.inside.share c.self.inside.files c.self.inside.inodes c.args.self.now c.self.invariant c.self.view_is 1
 
 -- the copy that was put in, after room was made for it
 module _ (g : Over) (c : After-put_copy g) where
@@ -62,7 +62,7 @@ module _ (g : Over) (c : After-put_copy g) where
   none = ap (λ (x : Mount). has_reserve (map_in (file_in x k) j) i) c.self.view_is ∙ c.requires.unreserved
 
   new_is : c.get_page.new.share ≡ with_granted c.self.inside.share
-  new_is = sym (c.requires.shares c.get_page.new.share) ∙ c.in-Ok-get_page.ensures.share ∙ ap with_granted (c.requires.shares c.self.inside.share)
+  new_is = c.in-Ok-get_page.ensures.share
 
   copied : c.put_copy.new.self ≡ copied_at k j i ((map_in (file_at c.self.inside.files.files k) j).owner || consumed) stamp page
       (record c.self.inside.files { room = max c.self.inside.files.room c.saturating_add-spare.result })
@@ -81,8 +81,8 @@ module _ (g : Over) (c : After-put_copy g) where
   left = keeps.granted_left c.self.inside.share c.self.inside.files c.self.inside.inodes c.args.self.now c.self.invariant c.self.view_is k j i c.requires.file c.requires.map
       stamp page fresh consumed place c.get_page.new.share c.put_copy.new.self c.saturating_add-spare.result none new_is copied
 
-  node : (g.D.PoolDoor.page_of c.in-Ok-get_page.got).node ≡ page.node
-  node = ap (λ (p : Page). p.node) (c.requires.pages c.in-Ok-get_page.got) ∙ sym (ap (λ (p : Page). p.node) c.with_shown-page.ensures)
+  node : c.in-Ok-get_page.got.node ≡ page.node
+  node = sym (ap (λ (p : Page). p.node) c.with_shown-page.ensures)
 
   bytes : page.bytes ≡ value g.N.Naming.page_bytes (file_in c.args.self.now k) (map_in (file_in c.args.self.now k) j) i
   bytes = ap (λ (p : Page). p.bytes) c.with_shown-page.ensures ∙ ap (λ (w : Files). value g.N.Naming.page_bytes (file_at w.files k) (map_in (file_at w.files k) j) i) room_is

@@ -1,4 +1,4 @@
-use Rattle.std.proofs.Common.{◌≡◌, ℕ, ◌<◌, ◌||◌, Bool, true, false, None, Some, sym, ap, subst, ◌∙◌, arith}
+use Rattle.std.proofs.Common.{◌≡◌, ℕ, ◌||◌, Bool, true, false, None, Some, sym, ap, subst, ◌∙◌, arith}
 use Rattle.hp_model.specs.declared.place.Place.TheVariants.{Live}
 use Rattle.hp_model.specs.declared.section.Section.TheVariants.{TakePage}
 use Rattle.hp_model.specs.files.File.{Mount}
@@ -13,7 +13,7 @@ use Rattle.std.proofs.lemmas.Result.{err_from_is_err_and}
 use Rattle.hp_mount_laws.specs.Reach.{has_reserve, with_place_at}
 use Rattle.hp_mount.proofs.Copying as keeps
 use Rattle.hp_mount_laws.proofs.Private as private
-use Rattle.hp_mount_laws.proofs.Private.{back_touched, place_touched, stamped_fresh}
+use Rattle.hp_mount_laws.proofs.Private.{place_touched, stamped_fresh}
 use Rattle.hp_subpool.specs.Subpool as share
 use Rattle.std.specs.List.{flat_map}
 use Rattle.hp_model.specs.files.MountCounts.{stamps_of}
@@ -35,11 +35,11 @@ module _ (g : Over) (c : After-self g) where
 
   -- the copy that is put in
   module _ (stamp : ℕ) (page : Page) (new : share.Subpool) (w : Files) (fresh : is_among stamp (flat_map stamps_of c.self.inside.files.files) ≡ false)
-      (taken : g.D.PoolDoor.share_of new ≡ with_page (g.D.PoolDoor.share_of c.self.inside.share))
+      (taken : new ≡ with_page c.self.inside.share)
       (copied : (consumed : Bool) → place_at (map_in (file_at c.self.inside.files.files c.args.at.file) c.args.at.map) c.args.index ≡ Live consumed None
       → w ≡ copied_at c.args.at.file c.args.at.map c.args.index ((map_in (file_at c.self.inside.files.files c.args.at.file) c.args.at.map).owner || consumed) stamp page c.self.inside.files) where
     new_is : new ≡ with_page c.self.inside.share
-    new_is = sym (c.requires.shares new) ∙ taken ∙ ap with_page (c.requires.shares c.self.inside.share)
+    new_is = taken
 
     kept : IsKept new w (mount_from new c.self.inside.inodes w.files)
     kept = keeps.reserved_kept c.self.inside.share c.self.inside.files c.self.inside.inodes c.args.self.now c.self.invariant c.self.view_is
@@ -72,9 +72,8 @@ put_copy-requires-clause-bare g c = ap copy_of (place_here c.self.view_is c.args
 pub take_page-requires-clause-held : goal.take_page-requires-clause-held
 take_page-requires-clause-held g c =
     let a = (goal.at.take_page-requires-clause-held g c).After-self in
-    subst (λ (x : share.Subpool). 0 < x.held) (sym (c.requires.shares c.self.inside.share))
-    (keeps.owner_held c.self.inside.share c.self.inside.files c.self.inside.inodes c.args.self.now c.self.invariant c.self.view_is c.args.at.file
-    c.args.at.map c.args.index c.requires.file c.requires.map c.requires.needs.consumed (place g a) (reserved g a))
+    keeps.owner_held c.self.inside.share c.self.inside.files c.self.inside.inodes c.args.self.now c.self.invariant c.self.view_is c.args.at.file
+    c.args.at.map c.args.index c.requires.file c.requires.map c.requires.needs.consumed (place g a) (reserved g a)
 
 pub put_copy-requires-clause-room : goal.put_copy-requires-clause-room
 put_copy-requires-clause-room g c =
@@ -92,7 +91,7 @@ invariant_of-self-2 g c = kept g (goal.at.invariant_of-self-2 g c).After-self c.
 pub returns-clause-done : goal.returns-clause-done
 returns-clause-done g c =
     let a = (goal.at.returns-clause-done g c).After-self in
-    let node = ap (λ (p : Page). p.node) (c.requires.pages c.in_ok-got.got) ∙ sym (ap (λ (p : Page). p.node) c.with_shown-page.ensures) in
+    let node = sym (ap (λ (p : Page). p.node) c.with_shown-page.ensures) in
     private.copy_reserved g.D.PoolDoor.took g.D.PoolDoor.is_full g.N.Naming.page_bytes c.args.self.now c.args.home c.args.at.file c.args.at.map
     c.args.index c.args.intent c.args.door.now c.requires.needs
     c.put_copy.result c.take_page.new.self c.with_shown-page.result _ c.requires.reserved

@@ -1,6 +1,6 @@
 use Rattle.std.proofs.Common.{◌≡◌, ◌<◌, Some, length, sym, ap, subst, ◌∙◌}
 use Rattle.std.proofs.lemmas.Result.{err_from_is_err_and}
-use Rattle.hp_mount_door.specs.Door.{IsDoorRefusal, with_page}
+use Rattle.hp_mount_door.specs.Door.{IsDoorRefusal}
 use Rattle.hp_model.specs.files.Access.{shared_access}
 use Rattle.hp_mount_laws.specs.Done.{Tried, done}
 use Rattle.hp_mount_laws.specs.Kept.{mount_from}
@@ -22,7 +22,7 @@ invariant_of-self-2 g c =
     let i = c.args.index in
     entry_kept s.share s.files s.inodes c.self.invariant k (subst (λ m. k < length m.files) (sym c.self.view_is) c.requires.file) i c.zero.new.self c.take_page.new.share c.fill.new.self
     (subst (λ m. i < length (file_in m k).cells) (sym c.self.view_is) c.requires.below) (subst (λ m. cell_at (file_in m k) i ≡ Entered) (sym c.self.view_is) c.requires.entered)
-    (sym (c.requires.shares c.take_page.new.share) ∙ c.in_ok-page.ensures.share ∙ ap with_page (c.requires.shares s.share)) c.fill.ensures
+    c.in_ok-page.ensures.share c.fill.ensures
 
 pub returns-clause-done : goal.returns-clause-done
 returns-clause-done g c s at file =
@@ -32,12 +32,12 @@ returns-clause-done g c s at file =
     let m = c.args.self.now in
     let page = c.zero.new.self in
     let got = c.in_ok-page.page in
-    let node = ap (λ (p : Page). p.node) (c.requires.pages got) ∙ sym (ap (λ (p : Page). p.node) c.zero.ensures) in
+    let node = sym (ap (λ (p : Page). p.node) c.zero.ensures) in
     shared_entered g.D.PoolDoor.took g.D.PoolDoor.is_full g.N.Naming.page_bytes m c.args.home k i s at file c.args.door.now c.take_page.new.self page _ c.requires.entered
     (subst (λ n. g.D.PoolDoor.took c.args.door.now (TakePage c.args.home) (granted_at n) c.take_page.new.self) node c.in_ok-page.ensures.ok)
     (ap (λ (p : Page). p.bytes) c.zero.ensures)
     (entry_left o.share o.files o.inodes c.self.invariant k (subst (λ m. k < length m.files) (sym c.self.view_is) c.requires.file) i page c.take_page.new.share c.fill.new.self
-    (sym (c.requires.shares c.take_page.new.share) ∙ c.in_ok-page.ensures.share ∙ ap with_page (c.requires.shares o.share)) c.fill.ensures
+    c.in_ok-page.ensures.share c.fill.ensures
     ∙ ap (λ (x : Mount). with_file x k (with_cell (file_in x k) i (Present page))) c.self.view_is)
 
 pub returns-in_err-page-clause-done : goal.returns-in_err-page-clause-done

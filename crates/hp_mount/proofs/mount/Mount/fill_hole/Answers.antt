@@ -1,5 +1,5 @@
 use Rattle.std.proofs.Common.{◌≡◌, ◌<◌, length, refl, sym, ap, subst, ◌∙◌, arith}
-use Rattle.hp_mount_door.specs.Door.{with_granted, IsDoorRefusal}
+use Rattle.hp_mount_door.specs.Door.{IsDoorRefusal}
 use Rattle.hp_model.specs.files.File.{Mount, cell_at, with_cell, with_file}
 use Rattle.hp_model.specs.declared.cell.Cell.TheVariants.{Hole, Present}
 use Rattle.hp_model.specs.pool.Grant as grant
@@ -50,7 +50,7 @@ invariant_of-self-in-Ok-get_page g c =
     (subst (λ (x : Mount). i < length (file_in x k).cells) (sym c.self.view_is) c.requires.below)
     (subst (λ (x : Mount). cell_at (file_in x k) i ≡ Hole) (sym c.self.view_is) c.requires.hole)
     (omega (arith, c.held.ensures, c.saturating_add-spare.ensures, c.in-Ok.ensures.few))
-    (sym (c.requires.shares c.get_page.new.share) ∙ c.in-Ok-get_page.ensures.share ∙ ap with_granted (c.requires.shares o.share))
+    c.in-Ok-get_page.ensures.share
     (c.fill.ensures ∙ ap (λ v. filled_at k i c.zero.new.self v) c.in-Ok.ensures.ok)
 
 pub invariant_of-self-in-Err : goal.invariant_of-self-in-Err
@@ -72,18 +72,18 @@ returns-in-Ok-get_page-clause-done g c s at file =
     let m = c.args.self.now in
     let inv = c.self.invariant in
     let got = c.in-Ok-get_page.got in
-    let node = ap (λ (p : Page). p.node) (c.requires.pages got) ∙ sym (ap (λ (p : Page). p.node) c.zero.ensures) in
+    let node = sym (ap (λ (p : Page). p.node) c.zero.ensures) in
     shared_granted g.D.PoolDoor.took g.D.PoolDoor.is_full g.N.Naming.page_bytes m c.args.home k i s at file c.args.door.now c.requires.hole
     c.get_page.new.self c.zero.new.self _ (sym (ap (λ (x : Mount). grant.is_full x 1) c.self.view_is)
     ∙ sym (full_is o.share o.files (mount_from o.share o.inodes o.files.files) inv refl refl 1) ∙ sym c.is_full.ensures ∙ c.if-is_full.false)
     (subst (λ n. g.D.PoolDoor.took c.args.door.now (GrantPage c.args.home (grant.rise m 1)) (granted_at n) c.get_page.new.self) node
-    (subst (λ n. g.D.PoolDoor.took c.args.door.now (GrantPage c.args.home n) (granted_at (g.D.PoolDoor.page_of got).node) c.get_page.new.self)
-    (ap (λ x. share.rise x 1) (c.requires.shares o.share) ∙ rise_is o.share o.files (mount_from o.share o.inodes o.files.files) inv refl refl 1
+    (subst (λ n. g.D.PoolDoor.took c.args.door.now (GrantPage c.args.home n) (granted_at got.node) c.get_page.new.self)
+    (rise_is o.share o.files (mount_from o.share o.inodes o.files.files) inv refl refl 1
     ∙ ap (λ (x : Mount). grant.rise x 1) c.self.view_is) c.in-Ok-get_page.ensures.ok))
     (ap (λ (p : Page). p.bytes) c.zero.ensures)
     (granted_left o.share o.files o.inodes inv k (subst (λ (x : Mount). k < length x.files) (sym c.self.view_is) c.requires.file) i
     c.saturating_add-spare.result c.zero.new.self c.get_page.new.share c.fill.new.self
-    (sym (c.requires.shares c.get_page.new.share) ∙ c.in-Ok-get_page.ensures.share ∙ ap with_granted (c.requires.shares o.share))
+    c.in-Ok-get_page.ensures.share
     (c.fill.ensures ∙ ap (λ v. filled_at k i c.zero.new.self v) c.in-Ok.ensures.ok)
     ∙ ap (λ (x : Mount). with_file x k (with_cell (file_in x k) i (Present c.zero.new.self))) c.self.view_is)
 
@@ -99,7 +99,7 @@ returns-in-Err-clause-done g c s at file =
     ∙ sym (full_is o.share o.files (mount_from o.share o.inodes o.files.files) inv refl refl 1) ∙ sym c.is_full.ensures ∙ c.if-is_full.false)
     (subst (λ n. IsDoorRefusal c.in-Err.refusal (g.D.PoolDoor.took c.args.door.now (GrantPage c.args.home n) no_pages c.get_page.new.self)
     ((c.get_page.new.self ≡ c.args.door.now) × g.D.PoolDoor.is_full c.get_page.new.self))
-    (ap (λ x. share.rise x 1) (c.requires.shares o.share) ∙ rise_is o.share o.files (mount_from o.share o.inodes o.files.files) inv refl refl 1
+    (rise_is o.share o.files (mount_from o.share o.inodes o.files.files) inv refl refl 1
     ∙ ap (λ (x : Mount). grant.rise x 1) c.self.view_is) c.in-Err.ensures.err)
     (hole_stays o.share o.files o.inodes inv k (subst (λ (x : Mount). k < length x.files) (sym c.self.view_is) c.requires.file) i
     c.saturating_add-spare.result c.get_page.new.share c.leave.new.self (subst (λ (x : Mount). cell_at (file_in x k) i ≡ Hole)
@@ -154,5 +154,4 @@ pub get_page-requires-clause-few : goal.get_page-requires-clause-few
 get_page-requires-clause-few g c =
     let o = c.self.inside in
     let inv = c.self.invariant in
-    let same = ap share.used (c.requires.shares o.share) in
-    omega (arith, same, inv.pages, c.in-Ok.ensures.few, c.held.ensures, c.saturating_add-spare.ensures)
+    omega (arith, inv.pages, c.in-Ok.ensures.few, c.held.ensures, c.saturating_add-spare.ensures)

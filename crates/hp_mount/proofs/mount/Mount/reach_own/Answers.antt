@@ -64,16 +64,16 @@ module _ (g : Over) (c : After-is_full g) where
   full : {b : Bool} → c.is_full.result ≡ b → grant.is_full m 1 ≡ b
   full e = full_as c.self.inside.share c.self.inside.files c.self.inside.inodes m c.self.invariant c.self.view_is 1 1 c.is_full.result refl c.is_full.ensures ∙ e
 
-  rise : share.rise (g.D.PoolDoor.share_of c.self.inside.share) 1 ≡ grant.rise m 1
-  rise = ap (λ x. share.rise x 1) (c.requires.shares c.self.inside.share) ∙ rise_as c.self.inside.share c.self.inside.files c.self.inside.inodes m c.self.invariant c.self.view_is 1
+  rise : share.rise c.self.inside.share 1 ≡ grant.rise m 1
+  rise = rise_as c.self.inside.share c.self.inside.files c.self.inside.inodes m c.self.invariant c.self.view_is 1
 
   -- a page of its own
   module _ (stamp : ℕ) (page : Page) (new : share.Subpool) (w : Files) (fresh : is_among stamp (flat_map stamps_of c.self.inside.files.files) ≡ false)
-      (share : g.D.PoolDoor.share_of new ≡ with_granted (g.D.PoolDoor.share_of c.self.inside.share))
+      (share : new ≡ with_granted c.self.inside.share)
       (parted : (consumed : Bool) (x : Copy) → place_at (map_in shown c.args.at.map) c.args.index ≡ Live consumed (Some x) →
       w ≡ parted_at c.args.at.file c.args.at.map c.args.index consumed stamp page c.self.inside.files) where
     new_is : new ≡ with_granted c.self.inside.share
-    new_is = sym (c.requires.shares new) ∙ share ∙ ap with_granted (c.requires.shares c.self.inside.share)
+    new_is = share
 
     several : is_held_once shown old.stamp ≡ false
     several = ap (λ (x : Mount). is_held_once (file_in x c.args.at.file) old.stamp) c.self.view_is ∙ c.requires.several.2
@@ -160,7 +160,7 @@ invariant_of-self-in-Ok g c = own_kept g (goal.at.invariant_of-self-in-Ok g c).A
 pub returns-in-Ok-clause-done : goal.returns-in-Ok-clause-done
 returns-in-Ok-clause-done g c =
     let a = (goal.at.returns-in-Ok-clause-done g c).After-is_full in
-    let node = ap (λ (p : Page). p.node) (c.requires.pages c.in-Ok.got) ∙ sym (ap (λ (p : Page). p.node) c.with_shown-page.ensures) in
+    let node = sym (ap (λ (p : Page). p.node) c.with_shown-page.ensures) in
     private.own_granted g.D.PoolDoor.took g.D.PoolDoor.is_full g.N.Naming.page_bytes c.args.self.now c.args.home c.args.at.file c.args.at.map
     c.args.index Write c.args.door.now c.requires.private (live g a).0 (old g a) (live g a).1 refl c.requires.several.2
     c.part.result c.get_page.new.self c.with_shown-page.result _ (full g a c.if-is_full.false)
@@ -182,7 +182,7 @@ invariant_of-self-in-NoPages g c = back_kept g (goal.at.invariant_of-self-in-NoP
 pub returns-in-NoPages-clause-done : goal.returns-in-NoPages-clause-done
 returns-in-NoPages-clause-done g c =
     let a = (goal.at.returns-in-NoPages-clause-done g c).After-is_full in
-    let was = g.D.PoolDoor.took c.args.door.now (GrantPage c.args.home (share.rise (g.D.PoolDoor.share_of c.self.inside.share) 1)) no_pages c.get_page.new.self in
+    let was = g.D.PoolDoor.took c.args.door.now (GrantPage c.args.home (share.rise c.self.inside.share 1)) no_pages c.get_page.new.self in
     private.owner_denied g.D.PoolDoor.took g.D.PoolDoor.is_full g.N.Naming.page_bytes c.args.self.now c.args.home c.args.at.file c.args.at.map
     c.args.index Write c.args.door.now c.requires.private (live g a).0 (old g a) (live g a).1 refl c.requires.several.2
     (owner g a c.if-not-is_owner-2.false) c.get_page.new.self _ (full g a c.if-is_full.false)
