@@ -4,9 +4,9 @@ A test must pass all the same, or stop and name the want of memory. The program 
 line: each reply is the row's own, or `error 1 OutOfMemory`, and then the counts, what each mount uses and what its files hold are as
 before and the same line, given again, gets the row's reply. Or memory was refused before the first line was read,
 and the program ends with status 1. With words that are wrong or ask for help it says what it says else, or that memory is
-out, with status 1 and no output. A server tells no port then; or one session of its three has no reply, or a line is answered OutOfMemory, and the others
-are served by the one worker; or the audit is refused, with status 1. With a trace a session whose receipts have no room gets `error 1 OutOfMemory` alone. Nothing
-may be left held at the end.
+out, with status 1 and no output. A server tells no port then; or one session of its three gets `error 1 OutOfMemory` alone, as its buffers or, with a trace, its
+receipts have no room, or a line of it is answered so, or it has no reply where its connection could not be held; and the others are served by the one worker. Or the audit is
+refused, with status 1. Nothing may be left held at the end.
 """
 import os
 import re
@@ -26,7 +26,7 @@ NAMES_IT = re.compile(r"AllocError|AllocFailed|OutOfMemory|\bMemory\b|out of mem
 # program tries the others.
 OUTER = ("hp_wire_tests", "hp_serving_tests", "hp_server_tests")
 # In these several threads meet: where one is refused memory the others have other replies. They are run once, too.
-TOGETHER = ("rows::", "stress::", "many::", "filling::")
+TOGETHER = ("rows::", "stress::", "many::", "filling::", "making::")
 WORDS = [["--help"], ["--version"], ["script", "--help"], ["--page", "3"], ["--frames", "4,4,4,4,4"], ["--slots", "4", "script"], ["serve"], ["serve", "--help"],
          ["serve", "--port", "0", "--sessions", "1", "--workers", "1", "--trace", "x"], ["a", "b"]]
 # The commands that ask for no memory, neither as their line is read nor as their step is done.
@@ -140,7 +140,7 @@ REPLIES = [b"ok 4\n", b"ok\n", b"ok\n", b"ok 1\n", b"ok\n", b"ok\n", b"text 1\na
 
 
 def run_server(trace, memory, refused):
-    """A server of three sessions with this call refused: how many calls it made, and whether a session was told that it had no memory."""
+    """A server of three sessions with this call refused: how many calls it made, whether a session was told that it had no memory, and whether one was told nothing."""
     where = f"call {refused} refused"
     words = ["serve", "--port", "0", "--sessions", "3", "--workers", "1", "--trace", str(trace)]
     with subprocess.Popen([PROGRAM, *words], stdin=subprocess.DEVNULL, stdout=subprocess.PIPE, stderr=subprocess.PIPE, env=memory.environment(refused)) as server:
@@ -160,13 +160,15 @@ def run_server(trace, memory, refused):
         assert server.returncode or output.startswith(b"audit ok\n" if trace else b"HugePages_Total:"), where
     calls, held, _ = memory.told()
     assert held == 0, f"{where}: blocks are still held at the end"
-    return calls, bool(port) and [OUT_OF_MEMORY] in sessions
+    return calls, [OUT_OF_MEMORY] in sessions, [] in sessions
 
 
 def try_server(memory, trace):
-    calls, _ = run_server(trace, memory, 0)
-    told = sum(run_server(trace, memory, refused)[1] for refused in range(1, calls + 1))
-    assert told == (3 if trace else 0), "sessions that were told that their receipts had no room"
+    calls = run_server(trace, memory, 0)[0]
+    tries = [run_server(trace, memory, refused) for refused in range(1, calls + 1)]
+    told, untold = sum(it[1] for it in tries), sum(it[2] for it in tries)
+    assert told == (9 if trace else 6), "sessions that were told that their two buffers, or their receipts, had no room"
+    assert untold == 3, "sessions whose connection could not be held"
 
 
 def is_built(_, program):

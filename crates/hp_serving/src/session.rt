@@ -4,12 +4,13 @@ ghost use Rattle.hp_serving.specs.Session.{IsServed};
 
 use crate::host::Host;
 use hp_wire::ends::{Sink, Source};
-use hp_wire::running::run_lines;
+use hp_wire::running::{Rooms, run_lines_in};
 use std::alloc::{AllocError, Global};
 
 /// Answers the lines of a connection on a session of its own, up to the connection's end or its first fault, and gives
 /// what the session was told. What was written are the lines of the replies that its calls gave, or, after a failed
-/// write, a front of them. It is refused only where the session is, and then nothing is read or written.
+/// write, a front of them. It is refused only where the memory for its lines is, which is asked for first, or the session;
+/// then nothing is read or written.
 pub fn serve_session<H: Host, A: Source, B: Sink>(
     alloc: Global,
     host: &H,
@@ -22,7 +23,8 @@ pub fn serve_session<H: Host, A: Source, B: Sink>(
     ensures unread { OnErr result (reader.new ≡ reader.old) }
     ensures unwritten { OnErr result (writer.new ≡ writer.old) }
 {
+    let rooms = Rooms::new(alloc)?;
     let mut session = host.open(alloc)?;
-    let _ended = run_lines(alloc, reader, writer, &mut session);
+    let _ended = run_lines_in(rooms, reader, writer, &mut session);
     Ok(H::finish(session))
 }

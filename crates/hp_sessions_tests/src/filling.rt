@@ -1,15 +1,15 @@
-//! Pages of a range, which are filled when their node's lock is let go.
-ghost use Rattle.std.specs.Prelude.{◌≡◌, ◌∷◌, [], false};
+//! Pages of a range, which are filled when their node's lock is let go, with a trace and without one.
+ghost use Rattle.std.specs.Prelude.{◌≡◌, ◌==◌, ◌∷◌, [], false, not, true};
 ghost use Rattle.hp_nodes.specs.Ledgers.{AreFrames};
 ghost use Rattle.hp_pool.specs.Ledgers.{AreLedgers};
 
+use crate::draws::Draws;
 use crate::gates::Free;
 use crate::rows::{ROOM, call, history_of, opened};
 use crate::same::same;
 use crate::whole::close_whole;
 use hp_events::Parts;
 use hp_history::{Opened, Places};
-use hp_locked::Gate;
 use hp_model::answer::Answer;
 use hp_model::lent::Lent;
 use hp_model::naming::Naming;
@@ -21,42 +21,14 @@ use std::alloc::Global;
 use std::marker::Brand;
 use std::process::Abort;
 use std::sync::Wait;
-use std::sync::atomic::{AtomicU64, Ordering};
 use std::thread;
 use std::thread::Threads;
-use std::time::{Clock, Duration};
+use std::time::Clock;
 
 // 256 MiB, of pages as large as there are: to fill them takes a hundred times as long as to store into one.
 const PAGES: u64 = 128;
 
-const PAGE_BYTES: usize = 2_097_152;
-
-const MOST_TURNS: u64 = 10_000;
-
-/// Notes that a node's lock was taken, and that all pages were filled.
-#[derive(Drop)]
-pub struct Filling {
-    drawn: AtomicU64,
-    filled: AtomicU64,
-}
-
-impl Gate for Filling {
-    fn frame(&self, _node: u64) {
-        self.drawn.store(1, Ordering::SeqCst);
-    }
-}
-
-impl Filling {
-    // Waits until the pages are being drawn, but no longer than 10,000 turns of a millisecond.
-    fn wait<R: Clock>(&self, rt: &R) {
-        for _turn in 0..MOST_TURNS {
-            if self.drawn.load(Ordering::SeqCst) != 0 {
-                return;
-            }
-            thread::sleep(rt, Duration::from_millis(1));
-        }
-    }
-}
+pub(crate) const PAGE_BYTES: usize = 2_097_152;
 
 // A file to be filled, and a map of a page on another slot.
 fn start<R: Abort, P: Parts>(rt: &R, session: &mut Session<P>) {
@@ -81,32 +53,43 @@ fn start<R: Abort, P: Parts>(rt: &R, session: &mut Session<P>) {
     same!(rt; call(session, &map), Ok(Answer::MapNo(1)));
 }
 
-fn fills<N: Naming + Places, R: Wait + Abort, const K: usize>(
+fn begun<N: Naming + Places, R: Wait + Abort, const K: usize>(
     rt: &R,
     shared: &Shared<N, K>,
-    filling: &Filling,
 ) -> Finished<N, K> {
-    let mut session = opened(rt, shared, filling, ROOM);
+    let free = Free {};
+    let mut session = opened(rt, shared, &free, ROOM);
+    start(rt, &mut session);
+    session.finish().into_finished()
+}
+
+// Fills the file: how many nanoseconds that took.
+fn fills<N: Naming + Places, R: Wait + Abort + Clock, const K: usize>(
+    rt: &R,
+    shared: &Shared<N, K>,
+    draws: &Draws<'_, R>,
+) -> (u64, Finished<N, K>) {
+    let mut session = opened(rt, shared, draws, ROOM);
     let all = Step::Preallocate {
         slot: 1,
         name: Lent::new(b"a"),
         from: 0,
         to: PAGES,
     };
+    let begun = draws.now();
     same!(rt; call(&mut session, &all), Ok(Answer::Done));
-    filling.filled.store(1, Ordering::SeqCst);
-    session.finish().into_finished()
+    let time = draws.now().saturating_sub(begun);
+    (time, session.finish().into_finished())
 }
 
-// Stores into a page of the same node, once the others are being drawn: whether these were filled by then.
+// Stores into a page of the same node, once the others are being drawn.
 fn stores<N: Naming + Places, R: Wait + Abort + Clock, const K: usize>(
     rt: &R,
     shared: &Shared<N, K>,
-    filling: &Filling,
-) -> (u64, Finished<N, K>) {
-    filling.wait(rt);
-    let free = Free {};
-    let mut session = opened(rt, shared, &free, ROOM);
+    draws: &Draws<'_, R>,
+) -> Finished<N, K> {
+    let _drawn = draws.waits(0, 0);
+    let mut session = opened(rt, shared, draws, ROOM);
     let store = Step::Store {
         task: 2,
         slot: 2,
@@ -116,28 +99,56 @@ fn stores<N: Naming + Places, R: Wait + Abort + Clock, const K: usize>(
         bytes: Lent::new(&[0x22]),
     };
     same!(rt; call(&mut session, &store), Ok(Answer::Done));
-    let filled = filling.filled.load(Ordering::SeqCst);
-    (filled, session.finish().into_finished())
+    session.finish().into_finished()
 }
 
 fn beside<
     N: Naming + Places + Send + Sync,
     R: Threads + Wait + Abort + Clock + Sync,
     const K: usize,
->(rt: &R, shared: &Shared<N, K>, filling: &Filling) -> (Finished<N, K>, (u64, Finished<N, K>)) {
+>(rt: &R, shared: &Shared<N, K>, draws: &Draws<'_, R>) -> ((u64, Finished<N, K>), Finished<N, K>) {
     thread::join(
         rt,
-        move || fills(rt, shared, filling),
-        move || stores(rt, shared, filling),
+        move || fills(rt, shared, draws),
+        move || stores(rt, shared, draws),
     )
 }
 
-fn row<N: Naming + Places + Send + Sync, R: Threads + Wait + Abort + Clock + Sync>(
+fn row<N: Naming + Places + Send + Sync, R: Threads + Wait + Abort + Clock + Sync, const K: usize>(
     rt: &R,
     alloc: Global,
     blanks: Blanks,
     history: Opened,
-)
+) -> Option<bool>
+    requires ledgers { AreLedgers N.Naming blanks }
+    requires history { history.table.shared.table_id ≡ N.history }
+    requires shaped { history.shape ≡ N.shape }
+    requires shape { N.shape ≡ record { slots = 4; nodes = 1; looks = not (K == 1) } }
+    requires frames { AreFrames N.frames (129 ∷ []) }
+    requires bytes { N.page_bytes ≡ 2097152 }
+{
+    let shared = Shared::<N, K>::new(alloc, &[129], PAGE_BYTES, 4, ROOM, blanks, history).expect(
+        rt, "memory",
+    );
+    let told = begun(rt, &shared);
+    let draws = Draws::new(rt);
+    let ((time, one), two) = beside(rt, &shared, &draws);
+    assert!(rt; draws.least() < time / 2, "the pages were filled first");
+    let mut all = Vec::with_capacity(alloc, 3).expect(rt, "memory");
+    all.push_reserved(told);
+    all.push_reserved(one);
+    all.push_reserved(two);
+    let closed = close_whole(rt, alloc, shared, all);
+    same!(rt; [closed.counts.total, closed.counts.free, closed.counts.rsvd], [129, 129, 0]);
+    closed.audit
+}
+
+fn row_traced<N: Naming + Places + Send + Sync, R: Threads + Wait + Abort + Clock + Sync>(
+    rt: &R,
+    alloc: Global,
+    blanks: Blanks,
+    history: Opened,
+) -> Option<bool>
     requires ledgers { AreLedgers N.Naming blanks }
     requires history { history.table.shared.table_id ≡ N.history }
     requires shaped { history.shape ≡ N.shape }
@@ -145,31 +156,37 @@ fn row<N: Naming + Places + Send + Sync, R: Threads + Wait + Abort + Clock + Syn
     requires frames { AreFrames N.frames (129 ∷ []) }
     requires bytes { N.page_bytes ≡ 2097152 }
 {
-    let shared = Shared::<N, 1>::new(alloc, &[129], PAGE_BYTES, 4, ROOM, blanks, history).expect(
-        rt, "memory",
-    );
-    let free = Free {};
-    let mut first = opened(rt, &shared, &free, ROOM);
-    start(rt, &mut first);
-    let told = first.finish().into_finished();
-    let filling = Filling {
-        drawn: AtomicU64::new(0),
-        filled: AtomicU64::new(0),
-    };
-    let (one, (filled, two)) = beside(rt, &shared, &filling);
-    same!(rt; filled, 0);
-    let mut all = Vec::with_capacity(alloc, 3).expect(rt, "memory");
-    all.push_reserved(told);
-    all.push_reserved(one);
-    all.push_reserved(two);
-    let closed = close_whole(rt, alloc, shared, all);
-    same!(rt; closed.audit, Some(true));
-    same!(rt; [closed.counts.total, closed.counts.free, closed.counts.rsvd], [129, 129, 0]);
+    row::<N, R, 1>(rt, alloc, blanks, history)
+}
+
+fn row_untraced<N: Naming + Places + Send + Sync, R: Threads + Wait + Abort + Clock + Sync>(
+    rt: &R,
+    alloc: Global,
+    blanks: Blanks,
+    history: Opened,
+) -> Option<bool>
+    requires ledgers { AreLedgers N.Naming blanks }
+    requires history { history.table.shared.table_id ≡ N.history }
+    requires shaped { history.shape ≡ N.shape }
+    requires shape { N.shape ≡ record { slots = 4; nodes = 1; looks = true } }
+    requires frames { AreFrames N.frames (129 ∷ []) }
+    requires bytes { N.page_bytes ≡ 2097152 }
+{
+    row::<N, R, 0>(rt, alloc, blanks, history)
 }
 
 #[test]
 fn a_range_is_filled_with_no_node_held(rt: HostRuntime) {
     let blanks = Blanks::new(rt.alloc(), &[129], PAGE_BYTES).expect(&rt, "memory");
     let history = history_of(&rt, rt.alloc(), 4, 1, false);
-    row::<Brand, HostRuntime>(&rt, rt.alloc(), blanks, history);
+    let audit = row_traced::<Brand, HostRuntime>(&rt, rt.alloc(), blanks, history);
+    same!(rt; audit, Some(true));
+}
+
+#[test]
+fn a_range_is_filled_with_no_node_held_and_no_trace(rt: HostRuntime) {
+    let blanks = Blanks::new(rt.alloc(), &[129], PAGE_BYTES).expect(&rt, "memory");
+    let history = history_of(&rt, rt.alloc(), 4, 1, true);
+    let audit = row_untraced::<Brand, HostRuntime>(&rt, rt.alloc(), blanks, history);
+    same!(rt; audit, None);
 }

@@ -2,13 +2,19 @@
 #![tactic(auto)]
 
 #[cfg(test)]
+mod acts;
+#[cfg(test)]
 mod closing;
+#[cfg(test)]
+mod draws;
 #[cfg(test)]
 mod filling;
 #[cfg(test)]
 mod full;
 #[cfg(test)]
 mod gates;
+#[cfg(test)]
+mod making;
 #[cfg(test)]
 mod many;
 #[cfg(test)]

@@ -147,16 +147,16 @@ module _ {X : Type 0} (took : X → Section → PoolAnswer → X → Type 0) (fu
   is_opened (Err x) nr s l sec a h = (let same = h.0 in cc)
   is_opened (Ok n) nr s l sec a h = (n, ap (λ (y : Subpool × Limits). y.0) h.0)
 
-  opens : (s : Subpool) (l : Limits) → got ≡ Ok (s, l) → IsOpenedAt took full size text d e got → (n : Limits) × (s ≡ opened n.max n.min)
-  opens s l is o =
+  share_is : (s : Subpool) (l : Limits) → got ≡ Ok (s, l) → IsOpenedAt took full size text d e got → (n : Limits) × (s ≡ opened n.max n.min)
+  share_is s l is o =
       let t = subst (λ (y : Result (Subpool × Limits) Refusal). IsOpenedAt took full size text d e y) is o in
       is_opened (limits t.0 size (wanted_of text)) t.0 s l t.1 t.2 t.3
 
   pub opened_pages : (s : Subpool) (l : Limits) → got ≡ Ok (s, l) → IsOpenedAt took full size text d e got → s.pages ≡ 0
-  opened_pages s l is o = ap (λ (y : Subpool). y.pages) (opens s l is o).1
+  opened_pages s l is o = ap (λ (y : Subpool). y.pages) (share_is s l is o).1
 
   pub opened_held : (s : Subpool) (l : Limits) → got ≡ Ok (s, l) → IsOpenedAt took full size text d e got → s.held ≡ 0
-  opened_held s l is o = ap (λ (y : Subpool). y.held) (opens s l is o).1
+  opened_held s l is o = ap (λ (y : Subpool). y.held) (share_is s l is o).1
 
 pub none_mount : (x : Slot) → is_some x ≡ false → x ≡ None
 none_mount None e = refl

@@ -12,7 +12,7 @@ mod sequences;
 mod threads;
 
 // Total, Free, Rsvd and Surp, and of each node total, free and surplus.
-fn shows<N: Naming, R: Abort>(rt: &R, pool: &Pool<N>, counts: [u64; 4], nodes: [[u64; 3]; 2])
+fn shows<N: Naming, R: Abort>(rt: &R, pool: &Pool<N>, counts: [u64; 4], nodes: [[u32; 3]; 2])
     requires { IsSettled pool.now }
 {
     let now = pool.counts();

@@ -49,6 +49,14 @@ impl Replies {
         Ok(Replies { page, waiting })
     }
 
+    /// From here on a page has so many bytes.
+    pub fn set_page(&mut self, page: u64)
+        requires { page ≤ most_page_bytes }
+        ensures { self.new ≡ record self.old { page = page } }
+    {
+        self.page = page;
+    }
+
     /// Adds the text of a reply.
     #[inline(always)]
     pub fn add(&mut self, reply: &Result<Told<'_>, Refusal>)

@@ -1,5 +1,5 @@
 //! Runs over the lines of an input.
-ghost use Rattle.std.specs.Prelude.{◌≡◌, ◌≢◌, ◌≤◌, [], IfErr, IfOk, OnOk};
+ghost use Rattle.std.specs.Prelude.{◌≡◌, ◌≢◌, ◌≤◌, [], IfErr, OnOk};
 ghost use Rattle.std.specs.Io.KnownBytes.{IsAtEnd};
 ghost use Rattle.hp_model.specs.Profile.{most_page_bytes};
 ghost use Rattle.hp_model.specs.run.Served.{ServesInput};
@@ -12,6 +12,27 @@ use crate::unanswered::Unanswered;
 use hp_model::profile::MOST_INPUT_BYTES;
 use hp_model::service::Service;
 use std::alloc::{AllocError, Global};
+
+/// The memory of a run over lines: for what is read, and for the text of the replies.
+#[derive(Drop)]
+pub struct Rooms {
+    unanswered: Unanswered,
+    replies: Replies,
+    ghost unread: { unanswered ≡ [] },
+    ghost none: { replies.text ≡ [] },
+}
+
+impl Rooms {
+    /// All memory that a run wants but the service's.
+    pub fn new(alloc: Global) -> Result<Rooms, AllocError> {
+        let unanswered = Unanswered::new(alloc)?;
+        let replies = Replies::new(alloc, 0)?;
+        Ok(Rooms {
+            unanswered,
+            replies,
+        })
+    }
+}
 
 /// Answers the lines of the reader on the writer, one reply for each, and says how many lines there were.
 ///
@@ -37,9 +58,34 @@ pub fn run_lines<R: Source, W: Sink, S: Service>(
     ensures lent { W.lent writer.new ≡ W.lent writer.old }
     ensures ready { S.is_ready service.new }
 {
-    let Ok((mut unanswered, mut replies)) = rooms(alloc, service.page_bytes()) else {
-        return Err(RunFault::Memory);
-    };
+    match Rooms::new(alloc) {
+        Ok(rooms) => run_lines_in(rooms, reader, writer, service),
+        Err(AllocError) => Err(RunFault::Memory),
+    }
+}
+
+/// Answers the lines as `run_lines` does, in memory that was asked for before. It asks for none but the service's.
+pub fn run_lines_in<R: Source, W: Sink, S: Service>(
+    rooms: Rooms,
+    reader: &mut R,
+    writer: &mut W,
+    service: &mut S,
+) -> Result<u64, RunFault>
+    requires page { S.page service.old ≤ most_page_bytes }
+    requires ready { S.is_ready service.old }
+    ensures served { ServesInput S.may_answer S.page R.remaining W.contents
+        service.old service.new reader.old reader.new writer.old writer.new result }
+    ensures whole { OnOk result (IsAtEnd (R.remaining reader.new)) }
+    ensures sure_reader { R.is_sure reader.old → IfErr result (λ e. e ≢ RunFault.Read) }
+    ensures sure_writer { W.is_sure writer.old → IfErr result (λ e. e ≢ RunFault.Write) }
+    ensures lent { W.lent writer.new ≡ W.lent writer.old }
+    ensures ready { S.is_ready service.new }
+{
+    let Rooms {
+        mut unanswered,
+        mut replies,
+    } = rooms;
+    replies.set_page(service.page_bytes());
     let mut queue = Queue::new();
     serve(
         reader,
@@ -49,16 +95,6 @@ pub fn run_lines<R: Source, W: Sink, S: Service>(
         &mut replies,
         &mut queue,
     )
-}
-
-// The room for what is read and for the replies.
-fn rooms(alloc: Global, page: u64) -> Result<(Unanswered, Replies), AllocError>
-    requires { page ≤ most_page_bytes }
-    ensures { IfOk result (λ x. (x.0 ≡ []) × (x.1.page ≡ page) × (x.1.text ≡ [])) }
-{
-    let unanswered = Unanswered::new(alloc)?;
-    let replies = Replies::new(alloc, page)?;
-    Ok((unanswered, replies))
 }
 
 fn serve<R: Source, W: Sink, S: Service>(

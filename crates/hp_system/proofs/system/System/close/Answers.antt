@@ -3,7 +3,7 @@ use Rattle.std.proofs.lemmas.List.{nil_from_length}
 use Rattle.hp_model.specs.machine.Settled.{IsSettledPool}
 use Rattle.hp_model.specs.pool.PoolCounts.{IsSettled, Pool, counts_of}
 use Rattle.hp_mount_door.specs.Door.{IsReady as IsReadyPool}
-use Rattle.hp_system.proofs.Ending.{all_are_free, counts_few, going_begins, going_ends, going_goes}
+use Rattle.hp_system.proofs.Ending.{all_are_free, going_begins, going_ends, going_goes}
 use Rattle.hp_system.specs.Event.{AllGo, SlotGoes}
 use Rattle.hp_model.specs.machine.Ready.{Machine}
 use Rattle.hp_system.proofs.system.System.close.Goals as goal
@@ -16,8 +16,8 @@ loop-slot-init g c =
 pub exit_all-requires : goal.exit_all-requires
 exit_all-requires g c = c.loop-slot.invariant.ready
 
-pub close-requires-clause-ready : goal.close-requires-clause-ready
-close-requires-clause-ready g c = c.exit_all.ensures.ready
+pub close-requires : goal.close-requires
+close-requires g c = record { ready = c.exit_all.ensures.ready }
 
 pub loop-slot-preserved-in-Ok : goal.loop-slot-preserved-in-Ok
 loop-slot-preserved-in-Ok g c =

@@ -11,9 +11,10 @@ use Rattle.hp_system.proofs.MachineSteps.{leaves_there, read_slot, slot_went}
 use Rattle.hp_model.specs.machine.Ready.{Machine, state_of}
 use Rattle.hp_system.proofs.system.System.exit_slot.Goals as goal
 
-pub exit_maps-requires-clause-ready : goal.exit_maps-requires-clause-ready
-exit_maps-requires-clause-ready g c = (let s = c.self.inside in ready s.page_bytes g.N.Naming.page_bytes s.table s.slots.items s.pool
-    (kept_by c.args.self.now c.self.invariant c.self.view_is c.requires.ready))
+pub exit_maps-requires : goal.exit_maps-requires
+exit_maps-requires g c =
+    let s = c.self.inside in
+    record { ready = ready s.page_bytes g.N.Naming.page_bytes s.table s.slots.items s.pool (kept_by c.args.self.now c.self.invariant c.self.view_is c.requires.ready) }
 
 pub returns-then-has_maps-clause-ready : goal.returns-then-has_maps-clause-ready
 returns-then-has_maps-clause-ready g c =

@@ -35,9 +35,10 @@ returns-then-at-eq0-clause-done g c =
     (ap (λ (x : Machine). x.state) c.self.view_is) c.args.slot within (Some some.0) here Umount refl (Err Busy)
     (umount_first s.page_bytes c.args.slot s.pool some.0 (omega (arith, c.if-at-eq0.true)))
 
-pub close-requires-clause-ready : goal.close-requires-clause-ready
-close-requires-clause-ready g c = (let s = c.self.inside in ready s.page_bytes g.N.Naming.page_bytes s.table s.slots.items s.pool
-    (kept_by c.args.self.now c.self.invariant c.self.view_is c.requires.ready))
+pub close-requires : goal.close-requires
+close-requires g c =
+    let s = c.self.inside in
+    record { ready = ready s.page_bytes g.N.Naming.page_bytes s.table s.slots.items s.pool (kept_by c.args.self.now c.self.invariant c.self.view_is c.requires.ready) }
 
 pub returns-in-Ok-clause-ready : goal.returns-in-Ok-clause-ready
 returns-in-Ok-clause-ready g c =
