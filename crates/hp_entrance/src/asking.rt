@@ -33,6 +33,23 @@ fn hold<'b, T, R: Wait>(lock: &'b Mutex<T>, rt: &R) -> MutexGuard<'b, T> {
     }
 }
 
+// The lock of the slot of this number, where nobody holds it.
+#[inline(always)]
+fn free_slot<'b, N: Naming + Places, const K: usize>(
+    shared: &'b Shared<N, K>,
+    at: usize,
+) -> Option<MutexGuard<'b, SeatedSlot<N, Trace<SlotEntry, K>>>>
+    requires { at < shared.now.slots }
+    ensures { IfSome result (λ slot. (mutex_guard_value slot).slot.number ≡ at) }
+{
+    let slot = shared.slot(at).try_lock()?;
+    if slot.number() == at as u64 {
+        Some(slot)
+    } else {
+        None
+    }
+}
+
 // Takes the lock of the slot of this number. A lock tells nothing of its value: the slot is asked its number, and waited for until
 // it is there. At each place stands the slot of that number, so it always is.
 #[inline(always)]
@@ -44,8 +61,23 @@ fn hold_slot<'b, N: Naming + Places, R: Wait, const K: usize>(
     requires { at < shared.now.slots }
     ensures { (mutex_guard_value result).slot.number ≡ at }
 {
+    match free_slot(shared, at) {
+        Some(slot) => slot,
+        None => wait_for_slot(shared, rt, at),
+    }
+}
+
+#[inline(never)]
+fn wait_for_slot<'b, N: Naming + Places, R: Wait, const K: usize>(
+    shared: &'b Shared<N, K>,
+    rt: &R,
+    at: usize,
+) -> MutexGuard<'b, SeatedSlot<N, Trace<SlotEntry, K>>>
+    requires { at < shared.now.slots }
+    ensures { (mutex_guard_value result).slot.number ≡ at }
+{
     for _ in rt.forever() {
-        let slot = hold(shared.slot(at), rt);
+        let slot = shared.slot(at).lock(rt);
         if slot.number() == at as u64 {
             return slot;
         }

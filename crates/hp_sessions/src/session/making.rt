@@ -54,7 +54,7 @@ impl<P: Parts> Session<P> {
             Carries P.keeps P.page self.old (finding task f) (Err refusal) self.new) }
         ensures grows { Grows 1 self.old self.new }
     {
-        match self.make_table(TableEvent::Find { task }) {
+        match self.parts.table(TableEvent::Find { task }) {
             TableTold::Home(home) => Ok(home),
             TableTold::Refused(refusal) => Err(refusal),
             TableTold::Done => unreachable!(),

@@ -179,6 +179,7 @@ impl<P: Parts> Session<P> {
     }
 
     // Looks a task up.
+    #[inline(always)]
     fn attach(&mut self, task: u64) -> Result<Told<'static>, Refusal>
         ensures worked { IsWorked P.keeps P.page self.old (AttachATask task)
             (told_reply result) self.new }

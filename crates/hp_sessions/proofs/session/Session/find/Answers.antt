@@ -1,9 +1,35 @@
-use Rattle.hp_sessions.proofs.Carrying.{found, not_found}
+use Rattle.std.proofs.Common.{IfErr, IfOk, Err, Ok, ℕ, subst, sym}
+use Rattle.hp_model.specs.declared.answer.Answer.TheVariants.{Home}
+use Rattle.hp_model.specs.declared.event.Event.TheVariants.{Tasks as OnTasks}
+use Rattle.hp_model.specs.declared.event.TableEvent.TheVariants.{Find}
+use Rattle.hp_model.specs.machine.Step.{Script, finding}
+use Rattle.hp_sessions.specs.Calls.{Carries, Leads, SessionView}
+use Rattle.hp_sessions.proofs.Carrying.{found, made_by, not_found}
 use Rattle.hp_sessions.proofs.session.Session.find.Goals as goal
+use Rattle.hp_sessions.proofs.session.Session.find.Goals.{in-Home, in-Refused}
 
-pub returns-in-Home-clause-found : goal.returns-in-Home-clause-found
-returns-in-Home-clause-found g c = found g.P.Parts.keeps g.P.Parts.page c.args.self.now c.make_table.new.self c.args.task c.in-Home.home c.in-Home.ensures.made
+pub returns-clause-found : goal.returns-clause-found
+returns-clause-found g c =
+    let keeps = g.P.Parts.keeps in
+    let page = g.P.Parts.page in
+    let s = c.args.self.now in
+    let t : SessionView = record { slots = g.P.Parts.slots c.table.new.self; receipts = g.P.Parts.told c.table.new.self; room = g.P.Parts.places c.table.new.self } in
+    elim c.match-table.branch [
+      | in-Home w ↦ subst (λ r. IfOk r (λ home. (f : ℕ → Script) → Leads keeps page s (finding c.args.task f) t (f home))) (sym w.result-is)
+          (found keeps page s t c.args.task w.in-Home.home
+          (made_by s t c.self.view_is c.table.ensures.slots c.table.ensures.places keeps page (OnTasks (Find c.args.task)) (Ok (Home w.in-Home.home)) w.in-Home.ensures.handed))
+      | in-Refused w ↦ subst (λ r. IfOk r (λ home. (f : ℕ → Script) → Leads keeps page s (finding c.args.task f) t (f home))) (sym w.result-is) tt
+    ]
 
-pub returns-in-Refused-clause-refused : goal.returns-in-Refused-clause-refused
-returns-in-Refused-clause-refused g c =
-    not_found g.P.Parts.keeps g.P.Parts.page c.args.self.now c.make_table.new.self c.args.task c.in-Refused.refusal c.in-Refused.ensures.made
+pub returns-clause-refused : goal.returns-clause-refused
+returns-clause-refused g c =
+    let keeps = g.P.Parts.keeps in
+    let page = g.P.Parts.page in
+    let s = c.args.self.now in
+    let t : SessionView = record { slots = g.P.Parts.slots c.table.new.self; receipts = g.P.Parts.told c.table.new.self; room = g.P.Parts.places c.table.new.self } in
+    elim c.match-table.branch [
+      | in-Home w ↦ subst (λ r. IfErr r (λ refusal. (f : ℕ → Script) → Carries keeps page s (finding c.args.task f) (Err refusal) t)) (sym w.result-is) tt
+      | in-Refused w ↦ subst (λ r. IfErr r (λ refusal. (f : ℕ → Script) → Carries keeps page s (finding c.args.task f) (Err refusal) t)) (sym w.result-is)
+          (not_found keeps page s t c.args.task w.in-Refused.refusal
+          (made_by s t c.self.view_is c.table.ensures.slots c.table.ensures.places keeps page (OnTasks (Find c.args.task)) (Err w.in-Refused.refusal) w.in-Refused.ensures.handed))
+    ]
