@@ -1,5 +1,5 @@
 //! The pages of files.
-ghost use Rattle.std.specs.Prelude.{ℕ, ◌≡◌, ◌^◌, ◌+◌, ◌<◌, ◌≤◌, max, length, OnOk, OnErr, IfSome, IfNone};
+ghost use Rattle.std.specs.Prelude.{ℕ, ◌≡◌, ◌^◌, ◌+◌, ◌<◌, ◌≤◌, max, length, false, OnOk, OnErr, IfSome, IfNone, IsTrue};
 ghost use Rattle.hp_model.specs.declared.cell.Cell.TheVariants.{Hole, Entered};
 ghost use Rattle.hp_model.specs.files.File.{cell_at};
 ghost use Rattle.hp_model.specs.files.Spot.{cell_written};
@@ -8,6 +8,7 @@ ghost use Rattle.hp_model.specs.files.Value.{shown};
 ghost use Rattle.hp_lookup.specs.Files.{file_at, with_cell_at, filled_at};
 ghost use Rattle.std.specs.List.{sum_by};
 ghost use Rattle.hp_model.specs.files.MountCounts.{file_pages};
+ghost use Rattle.hp_file.specs.declared.file.CellState.TheVariants as CellState;
 ghost use Rattle.hp_file.specs.States.{IsState};
 ghost use Rattle.hp_lookup.specs.Files.{Files as TheFiles};
 ghost use Rattle.hp_model.specs.files.Page.{Page as ThePage};
@@ -79,11 +80,14 @@ pub trait FilePages<P> {
         requires room { 0 < (seen self.old).room }
         ensures { seen self.new ≡ filled_at file index (page_of page) (seen self.old) };
 
-    /// Writes bytes into the page at an index, from an offset on, if there is one.
-    fn write(&mut self, file: usize, index: u64, offset: usize, bytes: &[u8])
+    /// Writes bytes into the page at an index, from an offset on, if there is one: whether there is.
+    fn write(&mut self, file: usize, index: u64, offset: usize, bytes: &[u8]) -> bool
         requires file { file < length (seen self.old).files }
         requires fits { offset + length bytes.now ≤ page_bytes }
-        ensures { seen self.new ≡ with_cell_at file index
+        ensures there { IsTrue result
+            → IsState CellState.Present (cell_at (file_at (seen self.old).files file) index) }
+        ensures none { result ≡ false → seen self.new ≡ seen self.old }
+        ensures written { seen self.new ≡ with_cell_at file index
             (cell_written offset bytes.now (cell_at (file_at (seen self.old).files file) index))
             (seen self.old) };
 }

@@ -1,5 +1,5 @@
 //! Accesses through maps: each sees to it that there is a page.
-ghost use Rattle.std.specs.Prelude.{◌≡◌, ◌≢◌, ℕ, ◌<◌, ◌≤◌, length, Ok, Err, IfOk, Some, true, false};
+ghost use Rattle.std.specs.Prelude.{◌≡◌, ◌≢◌, ℕ, ◌+◌, ◌<◌, ◌≤◌, length, Ok, Err, IfOk, Some, true, false};
 ghost use Rattle.hp_model.specs.declared.cell.Cell.TheVariants.{Entered, Hole};
 ghost use Rattle.hp_model.specs.declared.event.SlotEvent.TheVariants.{Load, Store, Fault};
 ghost use Rattle.hp_model.specs.files.Mapping.{is_live, is_shared, place_at};
@@ -13,7 +13,8 @@ ghost use Rattle.hp_lookup.specs.declared.copy_state.CopyState.TheVariants as Co
 ghost use Rattle.hp_file.specs.States.{IsCopyState};
 ghost use Rattle.hp_mount_laws.specs.Done.{IsAccessed, IsDone, IsReached};
 ghost use Rattle.hp_mount_laws.specs.Reach.{IsFileTouched, spot_at};
-ghost use Rattle.hp_mount.specs.Found.{spot_of};
+ghost use Rattle.hp_mount.specs.declared.mount.reach.Asked.TheVariants.{Bytes};
+ghost use Rattle.hp_mount.specs.Found.{IsPlaced, spot_of};
 
 use super::Mount;
 use hp_model::naming::Naming;
@@ -221,6 +222,70 @@ impl<N: Naming> Mount<N> {
         }
     }
 
+    // Writes bytes through a shared map that is there. A page that is there is looked for once.
+    #[inline(always)]
+    fn store_shared<D: PoolDoor<N>>(
+        &mut self,
+        door: &mut D,
+        home: u64,
+        access: &MapAccess,
+        at: MapPlace,
+        offset: u64,
+        bytes: &[u8],
+    ) -> Result<(), Refusal>
+        requires ready { D.is_ready door.old }
+        requires placed { IsPlaced self.old access.now (Bytes offset (length bytes.now))
+            N.page_bytes at }
+        requires fits { offset + length bytes.now ≤ N.page_bytes }
+        requires shared { is_shared (map_in (file_in self.old at.file) at.map).sharing ≡ true }
+        ensures done { (k : ℕ) → IsDone D.took D.is_full N.page_bytes k (Some self.old) door.old
+            (Store access.now.task home access.now.map access.now.index offset bytes.now)
+            (done_reply result) (Some self.new) door.new }
+        ensures left { D.is_left door.new }
+        ensures memory { is_backed Write (spot_of access.now self.old) access.now.index ≡ true
+            → result ≢ Err Refusal.OutOfMemory }
+    {
+        if self.write(at.file, access.index, offset as usize, bytes) {
+            return Ok(());
+        }
+        if let Err(refusal) = self.reach(door, home as usize, at, access.index, Intent::Write) {
+            return Err(refusal);
+        }
+        let _there = self.write(at.file, access.index, offset as usize, bytes);
+        Ok(())
+    }
+
+    // Writes bytes through a private map that is there.
+    #[inline(always)]
+    fn store_private<D: PoolDoor<N>>(
+        &mut self,
+        door: &mut D,
+        home: u64,
+        access: &MapAccess,
+        at: MapPlace,
+        offset: u64,
+        bytes: &[u8],
+    ) -> Result<(), Refusal>
+        requires ready { D.is_ready door.old }
+        requires placed { IsPlaced self.old access.now (Bytes offset (length bytes.now))
+            N.page_bytes at }
+        requires fits { offset + length bytes.now ≤ N.page_bytes }
+        requires private { is_shared (map_in (file_in self.old at.file) at.map).sharing ≡ false }
+        ensures done { (k : ℕ) → IsDone D.took D.is_full N.page_bytes k (Some self.old) door.old
+            (Store access.now.task home access.now.map access.now.index offset bytes.now)
+            (done_reply result) (Some self.new) door.new }
+        ensures left { D.is_left door.new }
+        ensures memory { is_backed Write (spot_of access.now self.old) access.now.index ≡ true
+            → result ≢ Err Refusal.OutOfMemory }
+    {
+        let reached = self.reach_private(door, home as usize, at, access.index, Intent::Write);
+        if let Err(refusal) = reached {
+            return Err(refusal);
+        }
+        self.write_copy(at, access.index, offset as usize, bytes);
+        Ok(())
+    }
+
     /// Writes bytes through a map at an index, from byte `offset` of the page on.
     #[inline(always)]
     pub fn store<D: PoolDoor<N>>(
@@ -247,14 +312,10 @@ impl<N: Naming> Mount<N> {
             Err(refusal) => return Err(refusal),
         };
         let is_shared = self.files.map(at).is_shared();
-        if let Err(refusal) = self.reach(door, home as usize, at, access.index, Intent::Write) {
-            return Err(refusal);
+        if is_shared {
+            self.store_shared(door, home, access, at, offset, bytes)
+        } else {
+            self.store_private(door, home, access, at, offset, bytes)
         }
-        if !is_shared {
-            self.write_copy(at, access.index, offset as usize, bytes);
-            return Ok(());
-        }
-        self.write(at.file, access.index, offset as usize, bytes);
-        Ok(())
     }
 }

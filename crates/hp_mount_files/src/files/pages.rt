@@ -97,10 +97,15 @@ impl<N: Naming> FilePages<Page<N>> for Files<N> {
         at.fill(index, number);
     }
 
-    fn write(&mut self, file: usize, index: u64, offset: usize, bytes: &[u8]) {
+    #[inline(always)]
+    fn write(&mut self, file: usize, index: u64, offset: usize, bytes: &[u8]) -> bool {
         let at = &self.list[file];
-        if let Some(number) = at.page_at(index) {
-            self.store.write(number, offset, bytes);
+        match at.page_at(index) {
+            Some(number) => {
+                self.store.write(number, offset, bytes);
+                true
+            }
+            None => false,
         }
     }
 }
