@@ -1,4 +1,5 @@
 """The processor time of a line, which no client can make long by what it picks."""
+import random
 import resource
 
 import pytest
@@ -30,15 +31,17 @@ def must_take_less(run):
 BACK = pow(0x9E37_79B9_7F4A_7C15, -1, 1 << 64)
 
 
-@pytest.mark.parametrize("numbers, absent", [
-    pytest.param(range(4000), 4000, id="in a row"), pytest.param(range(4000, 0, -1), 4001, id="falling"),
-    pytest.param(range(0, 4000 << 14, 1 << 14), 1, id="16,384 apart"), pytest.param(range(0, 4000 << 16, 1 << 16), 1, id="65,536 apart"),
-    pytest.param([BACK * at % (1 << 64) for at in range(1, 4001)], BACK * 5000 % (1 << 64), id="of one rest")])
-def test_finds_tasks_of_any_numbers(must_take_less, numbers, absent):
-    """Tasks are found, ended and begun, and others known not to be there, in some hundred steps, whichever numbers a client picks: in a row, with the same
-    lower bits, or such that their products with the odd number by which tasks are told apart have the same upper bits."""
-    turn = [line for it in numbers for line in (f"exit {it}", f"attach {absent}", f"connect {it} 0", f"attach {it}")]
-    must_take_less(2.5, [f"connect {it} 0" for it in numbers], 5 * turn)
+@pytest.mark.parametrize("most, numbers, absent", [
+    pytest.param(0.5, range(4000), 4000, id="in a row"), pytest.param(0.5, range(4000, 0, -1), 4001, id="falling"),
+    pytest.param(0.5, range(0, 4000 << 14, 1 << 14), 1, id="16,384 apart"), pytest.param(0.5, range(0, 4000 << 16, 1 << 16), 1, id="65,536 apart"),
+    pytest.param(0.5, random.Random(1).sample(range(1 << 32), 4000), 1 << 32, id="anyhow"),
+    pytest.param(4, [BACK * at % (1 << 64) for at in range(1, 4001)], BACK * 5000 % (1 << 64), id="of one rest")])
+def test_finds_tasks_of_any_numbers(must_take_less, most, numbers, absent):
+    """Tasks come and go, and are found or known not to be there, whichever numbers a client picks: in a row, with the same lower bits, or anyhow, without a
+    move of all others; such that their products with the odd number by which tasks are told apart have the same upper bits, in some hundred steps."""
+    tasks, lowest = [f"connect {it} 0" for it in numbers], sorted(numbers)[:400]
+    must_take_less(most, tasks, 200 * [line for it in lowest for line in (f"exit {it}", f"connect {it} 0")])
+    must_take_less(1, tasks, 5 * [line for it in numbers for line in (f"attach {it}", f"attach {absent}")])
 
 
 WIDE, TWO = "preallocate 0 a 0 65536", "preallocate 0 a 30000 95536"

@@ -1,10 +1,10 @@
-//! Sessions over TCP, of which one is held under a lock while another goes on.
-ghost use Rattle.std.specs.Prelude.{◌≡◌, ◌∷◌, [], false};
+//! Sessions over TCP, of which one is held under a lock while another goes on, with a trace and without one.
+ghost use Rattle.std.specs.Prelude.{◌≡◌, ◌==◌, ◌∷◌, [], false, not, true};
 ghost use Rattle.hp_nodes.specs.Ledgers.{AreFrames};
 ghost use Rattle.hp_pool.specs.Ledgers.{AreLedgers};
 
 use crate::gate::{Held, Hold, Place};
-use crate::histories::history;
+use crate::histories::history_of;
 use crate::same::same;
 use hp_history::{Opened, Places};
 use hp_model::naming::Naming;
@@ -32,19 +32,23 @@ const STARTED: &[u8] = b"ok 4\nok\nok\nok\nok\nok\nok\nok 1\nok 1\n";
 // Of a page on each of the two slots, what the other session is told once it stored: of the first either nothing was done
 // yet, or its section was.
 const HELD_AT_THE_SLOT: &[u8] =
-    b"ok\ntext 6\nHugePages_Total:       4\nHugePages_Free:        3\nHugePages_Rsvd:        1\n\
+    b"ok\nok\ntext 6\nHugePages_Total:       4\nHugePages_Free:        3\nHugePages_Rsvd:        1\n\
 HugePages_Surp:        0\nHugepagesize:          1 kB\nHugetlb:               4 kB\n";
 
 const HELD_AT_THE_NODE: &[u8] =
-    b"ok\ntext 6\nHugePages_Total:       4\nHugePages_Free:        2\nHugePages_Rsvd:        0\n\
+    b"ok\nok\ntext 6\nHugePages_Total:       4\nHugePages_Free:        2\nHugePages_Rsvd:        0\n\
 HugePages_Surp:        0\nHugepagesize:          1 kB\nHugetlb:               4 kB\n";
 
 const BOTH_STORED: &[u8] =
     b"text 6\nHugePages_Total:       4\nHugePages_Free:        2\nHugePages_Rsvd:        0\n\
 HugePages_Surp:        0\nHugepagesize:          1 kB\nHugetlb:               4 kB\n";
 
-const AT_THE_END: &[u8] =
+// What is printed at the end, with a trace and without one.
+const AUDITED: &[u8] =
     b"audit ok\nHugePages_Total:       4\nHugePages_Free:        4\nHugePages_Rsvd:        0\n";
+
+const UNTRACED: &[u8] =
+    b"HugePages_Total:       4\nHugePages_Free:        4\nHugePages_Rsvd:        0\n";
 
 // Whether these are the next replies.
 fn tells<R: Abort>(rt: &R, stream: &TcpStream, replies: &[u8]) -> io::Result<()> {
@@ -85,7 +89,12 @@ fn clients<R: Net<Stream = TcpStream> + Abort + Clock>(
     held.shutdown(Shutdown::Write)?;
     hold.await_one();
     let free = TcpStream::connect(rt, at)?;
-    asks(rt, &free, b"store 2 2 1 0 0 22\nmeminfo\n", meanwhile)?;
+    asks(
+        rt,
+        &free,
+        b"store 2 2 1 0 0 22\nconnect 3 1\nmeminfo\n",
+        meanwhile,
+    )?;
     hold.open();
     tells(rt, &held, b"ok\n")?;
     asks(rt, &free, b"meminfo\n", BOTH_STORED)
@@ -96,6 +105,7 @@ fn serves<
     N: Naming + Places + Send + Sync,
     R: Threads + Wait + Abort + Clock + Sync,
     C: Connections,
+    const K: usize,
 >(
     rt: &R,
     alloc: Global,
@@ -108,12 +118,12 @@ fn serves<
     requires ledgers { AreLedgers N.Naming blanks }
     requires history { history.table.shared.table_id ≡ N.history }
     requires shaped { history.shape ≡ N.shape }
-    requires shape { N.shape ≡ record { slots = 4; nodes = 2; looks = false } }
+    requires shape { N.shape ≡ record { slots = 4; nodes = 2; looks = not (K == 1) } }
     requires frames { AreFrames N.frames (4 ∷ 4 ∷ []) }
     requires bytes { N.page_bytes ≡ 1024 }
 {
     let machine = Served {
-        shared: Shared::<N, 1>::new(alloc, &[4, 4], 1024, 4, ROOM, blanks, history).expect(
+        shared: Shared::<N, K>::new(alloc, &[4, 4], 1024, 4, ROOM, blanks, history).expect(
             rt, "memory",
         ),
         gate: Held { hold },
@@ -127,10 +137,11 @@ fn serves_on<
     N: Naming + Places + Send + Sync,
     R: Threads + Wait + Abort + Clock + Sync,
     C: Connections,
+    const K: usize,
 >(
     rt: &R,
     alloc: Global,
-    machine: Served<N, Held<'_, R>, 1>,
+    machine: Served<N, Held<'_, R>, K>,
     connections: &mut C,
     output: &mut Vec<u8>,
 ) -> u8 {
@@ -138,15 +149,16 @@ fn serves_on<
     serve_sessions(rt, alloc, machine, connections, 3, 2, output, &mut faults)
 }
 
-// One session is held at a place while another finishes, which is told this.
+// One session is held at a place while another finishes, which is told this: what is printed at the end.
 fn row<
     N: Naming + Places + Send + Sync,
     R: Threads + Wait + Abort + Clock + Net<Stream = TcpStream, Listener = TcpListener> + Sync,
->(rt: &R, alloc: Global, blanks: Blanks, history: Opened, place: Place, meanwhile: &[u8])
+    const K: usize,
+>(rt: &R, alloc: Global, blanks: Blanks, history: Opened, place: Place, meanwhile: &[u8]) -> Vec<u8>
     requires ledgers { AreLedgers N.Naming blanks }
     requires history { history.table.shared.table_id ≡ N.history }
     requires shaped { history.shape ≡ N.shape }
-    requires shape { N.shape ≡ record { slots = 4; nodes = 2; looks = false } }
+    requires shape { N.shape ≡ record { slots = 4; nodes = 2; looks = not (K == 1) } }
     requires frames { AreFrames N.frames (4 ∷ 4 ∷ []) }
     requires bytes { N.page_bytes ≡ 1024 }
 {
@@ -159,11 +171,11 @@ fn row<
         requires ledgers { AreLedgers N.Naming blanks }
         requires history { history.table.shared.table_id ≡ N.history }
         requires shaped { history.shape ≡ N.shape }
-        requires shape { N.shape ≡ record { slots = 4; nodes = 2; looks = false } }
+        requires shape { N.shape ≡ record { slots = 4; nodes = 2; looks = not (K == 1) } }
         requires frames { AreFrames N.frames (4 ∷ 4 ∷ []) }
         requires bytes { N.page_bytes ≡ 1024 }
     {
-        serves::<N, R, Listening<'_, R, Vec<u8>>>(
+        serves::<N, R, Listening<'_, R, Vec<u8>>, K>(
             rt,
             alloc,
             blanks,
@@ -177,33 +189,73 @@ fn row<
     told.expect(rt, "clients that are served");
     same!(rt; status, 0);
     assert!(rt; hold.left() > 0, "the other session was held too");
-    assert!(rt; output.as_slice().starts_with(AT_THE_END), "another end");
+    output
+}
+
+fn row_traced<
+    N: Naming + Places + Send + Sync,
+    R: Threads + Wait + Abort + Clock + Net<Stream = TcpStream, Listener = TcpListener> + Sync,
+>(rt: &R, alloc: Global, blanks: Blanks, history: Opened, place: Place, meanwhile: &[u8]) -> Vec<u8>
+    requires ledgers { AreLedgers N.Naming blanks }
+    requires history { history.table.shared.table_id ≡ N.history }
+    requires shaped { history.shape ≡ N.shape }
+    requires shape { N.shape ≡ record { slots = 4; nodes = 2; looks = false } }
+    requires frames { AreFrames N.frames (4 ∷ 4 ∷ []) }
+    requires bytes { N.page_bytes ≡ 1024 }
+{
+    row::<N, R, 1>(rt, alloc, blanks, history, place, meanwhile)
+}
+
+fn traced<
+    R: Threads + Wait + Abort + Clock + Net<Stream = TcpStream, Listener = TcpListener> + Sync,
+>(rt: &R, alloc: Global, place: Place, meanwhile: &[u8]) -> Vec<u8> {
+    let blanks = Blanks::new(alloc, &[4, 4], 1024).expect(rt, "memory");
+    let history = history_of(rt, alloc, false);
+    row_traced::<Brand, R>(rt, alloc, blanks, history, place, meanwhile)
+}
+
+fn row_untraced<
+    N: Naming + Places + Send + Sync,
+    R: Threads + Wait + Abort + Clock + Net<Stream = TcpStream, Listener = TcpListener> + Sync,
+>(rt: &R, alloc: Global, blanks: Blanks, history: Opened, place: Place, meanwhile: &[u8]) -> Vec<u8>
+    requires ledgers { AreLedgers N.Naming blanks }
+    requires history { history.table.shared.table_id ≡ N.history }
+    requires shaped { history.shape ≡ N.shape }
+    requires shape { N.shape ≡ record { slots = 4; nodes = 2; looks = true } }
+    requires frames { AreFrames N.frames (4 ∷ 4 ∷ []) }
+    requires bytes { N.page_bytes ≡ 1024 }
+{
+    row::<N, R, 0>(rt, alloc, blanks, history, place, meanwhile)
+}
+
+fn untraced<
+    R: Threads + Wait + Abort + Clock + Net<Stream = TcpStream, Listener = TcpListener> + Sync,
+>(rt: &R, alloc: Global, place: Place, meanwhile: &[u8]) -> Vec<u8> {
+    let blanks = Blanks::new(alloc, &[4, 4], 1024).expect(rt, "memory");
+    let history = history_of(rt, alloc, true);
+    row_untraced::<Brand, R>(rt, alloc, blanks, history, place, meanwhile)
 }
 
 #[test]
 fn a_session_held_at_a_slot_holds_no_other(rt: HostRuntime) {
-    let blanks = Blanks::new(rt.alloc(), &[4, 4], 1024).expect(&rt, "memory");
-    let history = history(&rt, rt.alloc());
-    row::<Brand, HostRuntime>(
-        &rt,
-        rt.alloc(),
-        blanks,
-        history,
-        Place::Slot(1),
-        HELD_AT_THE_SLOT,
-    );
+    let output = traced(&rt, rt.alloc(), Place::Slot(1), HELD_AT_THE_SLOT);
+    assert!(rt; output.as_slice().starts_with(AUDITED), "another end");
+}
+
+#[test]
+fn a_session_held_at_a_slot_holds_no_other_with_no_trace(rt: HostRuntime) {
+    let output = untraced(&rt, rt.alloc(), Place::Slot(1), HELD_AT_THE_SLOT);
+    assert!(rt; output.as_slice().starts_with(UNTRACED), "another end");
 }
 
 #[test]
 fn a_session_held_at_a_node_holds_no_other(rt: HostRuntime) {
-    let blanks = Blanks::new(rt.alloc(), &[4, 4], 1024).expect(&rt, "memory");
-    let history = history(&rt, rt.alloc());
-    row::<Brand, HostRuntime>(
-        &rt,
-        rt.alloc(),
-        blanks,
-        history,
-        Place::Node(0),
-        HELD_AT_THE_NODE,
-    );
+    let output = traced(&rt, rt.alloc(), Place::Node(0), HELD_AT_THE_NODE);
+    assert!(rt; output.as_slice().starts_with(AUDITED), "another end");
+}
+
+#[test]
+fn a_session_held_at_a_node_holds_no_other_with_no_trace(rt: HostRuntime) {
+    let output = untraced(&rt, rt.alloc(), Place::Node(0), HELD_AT_THE_NODE);
+    assert!(rt; output.as_slice().starts_with(UNTRACED), "another end");
 }

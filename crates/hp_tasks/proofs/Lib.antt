@@ -1,3 +1,4 @@
+mod Noted
 mod Ordered
 mod Slots
 mod Tasks

@@ -1,12 +1,11 @@
 -- Numbers in order: what a search finds, and what stays in order.
 use Rattle.std.proofs.Common.{◌≡◌, ◌≢◌, ℕ, suc, ◌+◌, ◌<◌, ◌≤◌, ◌==◌, eqb-true, List, [], ◌∷◌, length, get_or, inl, inr, Ok, Err, refl, ap, arith}
-use Rattle.std.specs.List.{count_by, insert, remove}
+use Rattle.std.specs.List.{count_by, remove}
 use Rattle.std.specs.List.Sorted.{IsBinarySearchResult, IsNonDecreasing}
 use Rattle.std.specs.Ordering.{nat_cmp}
 use Rattle.std.proofs.lemmas.Bool.{false_from_ne_true}
-use Rattle.std.proofs.lemmas.List.{get_or_default}
 use Rattle.std.proofs.lemmas.List.Edits.{length-remove, get_or-remove_below, get_or-remove_above}
-use Rattle.std.proofs.lemmas.List.Sorted.{IsNonDecreasingBy-insert, searched}
+use Rattle.std.proofs.lemmas.List.Sorted.{searched}
 use Rattle.std.proofs.lemmas.Bool.{cases_lt}
 use Rattle.hp_laws.proofs.lists.AtMostOne.{bit}
 use Rattle.hp_model.proofs.Counting.{count_cons}

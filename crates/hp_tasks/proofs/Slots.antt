@@ -1,28 +1,17 @@
 -- Tasks in slots with gaps between them.
 use Rattle.std.proofs.Common.{◌≡◌, ℕ, zero, suc, ◌+◌, ◌≤◌, ◌==◌, Bool, true, false, not, eqb-true, eq-eqb}
-use Rattle.std.proofs.Common.{Option, None, Some, IfSome, List, [], ◌∷◌, ◌++◌, length, set, cond, arith, refl, ap, sym, ◌∙◌}
+use Rattle.std.proofs.Common.{Option, None, Some, IfSome, List, [], ◌∷◌, length, set, cond, arith, refl, ap, sym, ◌∙◌}
 use Rattle.std.specs.List.{count_by, filter, find, position, position_from}
 use Rattle.std.specs.Option.{is_some, option_map}
 use Rattle.std.proofs.lemmas.Bool.{false≢true, false_from_ne_true}
-use Rattle.std.specs.List.Sorted.{IsPermutation}
-use Rattle.std.proofs.lemmas.List.Sorted.{sum_by-IsPermutation}
-use Rattle.std.proofs.lemmas.List.Sums.{sum_by-append}
 use Rattle.std.proofs.lemmas.Iterator.Adapters.{position_from-zero}
 use Rattle.std.proofs.lemmas.List.Quantifiers.{position-Some}
 use Rattle.hp_laws.proofs.lists.AtMostOne.{bit}
 use Rattle.hp_model.proofs.Counting.{count_cons}
 use Rattle.hp_model.specs.machine.Table.{Table, home_of, removed}
-use Rattle.hp_tasks.specs.Table.{AreListed, TaskRow, has_task, task_row_at, tasks_in}
+use Rattle.hp_tasks.specs.Table.{TaskRow, has_task, task_row_at, tasks_in}
 
 -- ---- a task that is not there
-
--- none of the tasks is it
-none_of_count : (task : ℕ) (tasks : Table) → count_by (λ e. e.0 == task) tasks ≡ 0 → home_of tasks task ≡ None
-none_of_count task [] none = refl
-none_of_count task (e ∷ tasks) none =
-    let all = count_cons (λ (x : ℕ × ℕ). x.0 == task) e tasks in
-    let other = false_from_ne_true (e.0 == task) (λ t. (let one = ap bit t in absurd (omega (arith, all, one, none)))) in
-    ap (λ b. option_map (λ (x : ℕ × ℕ). x.1) (cond b (Some e) (find (λ (x : ℕ × ℕ). x.0 == task) tasks))) other ∙ none_of_count task tasks (omega (arith, all, none))
 
 -- no slot has it
 none_from : (slots : List TaskRow) (task at : ℕ) → position_from (has_task task) at slots ≡ None → home_of (tasks_in slots) task ≡ None
@@ -142,7 +131,7 @@ entry_in (Some e) task has = (e, refl, eqb-true e.0 task has)
 pub entry_at : (slots : List TaskRow) (task at : ℕ) → has_task task (task_row_at slots at) ≡ true → (e : ℕ × ℕ) × (task_row_at slots at ≡ Some e) × (e.0 ≡ task)
 entry_at slots task at has = entry_in (task_row_at slots at) task has
 
--- ---- a task more, and one less
+-- ---- one task less
 
 pub one_fewer : (slots : List TaskRow) (at : ℕ) (e : ℕ × ℕ) → task_row_at slots at ≡ Some e → length (tasks_in slots) ≡ suc (length (tasks_in (set slots at None)))
 one_fewer [] at e here = cc
@@ -150,26 +139,3 @@ one_fewer (None ∷ slots) zero e here = cc
 one_fewer (None ∷ slots) (suc at) e here = one_fewer slots at e here
 one_fewer (Some x ∷ slots) zero e here = refl
 one_fewer (Some x ∷ slots) (suc at) e here = ap suc (one_fewer slots at e here)
-
-module _ (slots : List TaskRow) (order : List ℕ) (listed : AreListed slots order) where
-  pub none_listed : (task : ℕ) → count_by (λ t. t == task) order ≡ 0 → home_of (tasks_in slots) task ≡ None
-  none_listed task none = none_of_count task (tasks_in slots) (omega (arith, listed task, none))
-
-  module _ (at : ℕ) (e : ℕ × ℕ) (here : task_row_at slots at ≡ Some e) where
-    pub one_listed : 1 ≤ count_by (λ t. t == e.0) order
-    one_listed =
-        let one = ap bit (eq-eqb e.0 e.0 refl) in
-        omega (arith, listed e.0, counted_at (λ (x : ℕ × ℕ). x.0 == e.0) slots at e here, one)
-
-    pub listed_less : (left : List ℕ) → IsPermutation order (e.0 ∷ left) → AreListed (set slots at None) left
-    listed_less left same task =
-        let p = λ (t : ℕ). t == task in
-        omega (arith, listed task, counted_at (λ (x : ℕ × ℕ). x.0 == task) slots at e here, count_cons p e.0 left, sum_by-IsPermutation (λ (t : ℕ). cond (t == task) 1 0) order (e.0 ∷ left) same)
-
-  -- one task more, behind the others
-  pub listed_more : (new : List TaskRow) (task home : ℕ) (more : List ℕ) → tasks_in new ≡ tasks_in slots ++ (task, home) ∷ [] → IsPermutation (task ∷ order) more
-      → AreListed new more
-  listed_more new task home more is same t =
-      let all = ap (count_by (λ (x : ℕ × ℕ). x.0 == t)) is ∙ sum_by-append (λ (x : ℕ × ℕ). cond (x.0 == t) 1 0) (tasks_in slots) ((task, home) ∷ []) in
-      let last = count_cons (λ (x : ℕ × ℕ). x.0 == t) (task, home) [] in
-      omega (arith, listed t, all, last, count_cons (λ (x : ℕ). x == t) task order, sum_by-IsPermutation (λ (x : ℕ). cond (x == t) 1 0) (task ∷ order) more same)

@@ -1,11 +1,11 @@
 -- A task that is in the table once.
-use Rattle.std.proofs.Common.{◌≡◌, ℕ, ◌+◌, ◌≤◌, ◌==◌, Bool, true, false, not, eqb-true, None, Some, List, [], ◌∷◌, cond, arith, refl, ap, subst}
+use Rattle.std.proofs.Common.{◌≡◌, ℕ, ◌+◌, ◌≤◌, ◌==◌, Bool, true, false, not, eq-eqb, eqb-true, None, Some, List, [], ◌∷◌, length, cond, arith, refl, ap, subst, ◌∙◌}
 use Rattle.std.specs.List.{count_by, find}
 use Rattle.std.specs.Option.{option_map}
-use Rattle.std.proofs.lemmas.List.Sums.{sum_by-append}
+use Rattle.std.proofs.lemmas.List.Sums.{length-filter, sum_by-append}
 use Rattle.hp_laws.proofs.lists.Places.{sum_by-filter_le}
 use Rattle.hp_laws.proofs.lists.AtMostOne.{bit}
-use Rattle.hp_model.proofs.Counting.{count_cons}
+use Rattle.hp_model.proofs.Counting.{count_cons, count_not}
 use Rattle.hp_model.specs.machine.Table.{Table, added, home_of, removed}
 use Rattle.hp_tasks.specs.Table.{HasEachOnce}
 
@@ -41,3 +41,38 @@ once_removed table task once t =
     let less = sum_by-filter_le (λ e. cond (e.0 == t) 1 0) (λ e. not (e.0 == task)) table in
     let few = once t in
     omega (arith, less, few)
+
+-- ---- numbers of tasks that are there
+
+kept : (tasks : Table) (task t : ℕ) → (task == t) ≡ false → count_by (λ e. e.0 == t) (removed tasks task) ≡ count_by (λ e. e.0 == t) tasks
+kept [] task t apart = refl
+kept (e ∷ tasks) task t apart =
+    elim (e.0 == task) as (λ b. (e.0 == task) ≡ b → count_by {X = ℕ × ℕ} (λ x. x.0 == t) (cond (not b) (e ∷ removed tasks task) (removed tasks task)) ≡ count_by (λ x. x.0 == t) (e ∷ tasks)) [
+      | true ↦ λ is. (let other = ap bit (ap (λ n. n == t) (eqb-true e.0 task is) ∙ apart) in omega (arith, kept tasks task t apart, count_cons (λ (x : ℕ × ℕ). x.0 == t) e tasks, other))
+      | false ↦ λ is. omega (arith, kept tasks task t apart, count_cons (λ (x : ℕ × ℕ). x.0 == t) e tasks, count_cons (λ (x : ℕ × ℕ). x.0 == t) e (removed tasks task))
+    ] refl
+
+-- there are no more numbers than tasks
+pub no_more : (order : List ℕ) (tasks : Table) → HasEachOnce tasks → ((t : ℕ) → count_by (λ n. n == t) order ≤ count_by (λ e. e.0 == t) tasks) → length order ≤ length tasks
+no_more [] tasks once listed = omega arith
+no_more (task ∷ order) tasks once listed =
+    let one = ap bit (eq-eqb task task refl) in
+    let here = count_cons (λ (n : ℕ). n == task) task order in
+    let all = count_not (λ (e : ℕ × ℕ). e.0 == task) tasks in
+    let left = length-filter (λ (e : ℕ × ℕ). not (e.0 == task)) tasks in
+    omega (arith, no_more order (removed tasks task) (once_removed tasks task once) fewer, one, here, all, left, listed task)
+  where
+    fewer : (t : ℕ) → count_by (λ n. n == t) order ≤ count_by (λ e. e.0 == t) (removed tasks task)
+    fewer t =
+        elim (task == t) as (λ b. (task == t) ≡ b → count_by (λ n. n == t) order ≤ count_by (λ e. e.0 == t) (removed tasks task)) [
+          | true ↦ λ is. (let one = ap bit is in omega (arith, listed t, once t, one, count_cons (λ (n : ℕ). n == t) task order))
+          | false ↦ λ is. (let none = ap bit is in omega (arith, listed t, none, kept tasks task t is, count_cons (λ (n : ℕ). n == t) task order))
+        ] refl
+
+-- a task more in the table, and its number perhaps among those in order
+pub listed_more : (order more : List ℕ) (tasks : Table) (task home : ℕ) → ((t : ℕ) → count_by (λ n. n == t) order ≤ count_by (λ e. e.0 == t) tasks)
+    → ((t : ℕ) → count_by (λ n. n == t) more ≤ count_by (λ n. n == t) order + cond (task == t) 1 0)
+    → (t : ℕ) → count_by (λ n. n == t) more ≤ count_by (λ e. e.0 == t) (added tasks task home)
+listed_more order more tasks task home listed few t =
+    let all = sum_by-append (λ (e : ℕ × ℕ). cond (e.0 == t) 1 0) tasks ((task, home) ∷ []) in
+    omega (arith, listed t, few t, all, count_cons {X = ℕ × ℕ} (λ e. e.0 == t) (task, home) [])

@@ -1,5 +1,5 @@
 -- The task table as it is kept.
-use Rattle.std.specs.Prelude.{◌≡◌, ℕ, ◌*◌, ◌<◌, ◌≤◌, ◌==◌, Bool, false, List, length, Option, None, Some}
+use Rattle.std.specs.Prelude.{◌≡◌, ℕ, ◌*◌, ◌%◌, ◌/◌, ◌^◌, ◌<◌, ◌≤◌, ◌==◌, Bool, false, List, length, Option, None, Some}
 use Rattle.std.specs.List.{count_by, filter_map, slice_index_or}
 use Rattle.std.specs.List.Sorted.{IsNonDecreasing}
 use Rattle.hp_model.specs.machine.Table.{Table}
@@ -45,13 +45,30 @@ pub record IsPlaceFor (tasks : List ℕ) (task at : ℕ) : Type 0 where
   pub before : (k : ℕ) → k < at → slice_index_or tasks k 0 ≤ task
   pub behind : (k : ℕ) → at ≤ k → k < length tasks → task ≤ slice_index_or tasks k 0
 
--- the numbers are those of the tasks
-abbrev pub AreListed : List TaskRow → (order : List ℕ) → Type 0
-AreListed slots order = (task : ℕ) → count_by (λ t. t == task) order ≡ count_by (λ e. e.0 == task) (tasks_in slots)
+-- which number stands for a task's: the upper bits of its product with an odd constant
+unfoldable pub task_rest : ℕ → ℕ
+task_rest task = task * 11400714819323198485 % 2 ^ 64 / 2 ^ 50
 
--- each task once, in room for twice as many slots as there may be tasks
-pub record IsTaskTable (slots : List TaskRow) (capacity : ℕ) (order : List ℕ) : Type 0 where
+abbrev pub has_rest : ℕ → TaskRow → Bool
+has_rest rest None = false
+has_rest rest (Some e) = task_rest e.0 == rest
+
+-- a task that is not among these numbers stands at the place of its rest
+abbrev pub AreNoted : List TaskRow → (places order : List ℕ) → Type 0
+AreNoted slots places order =
+    (at : ℕ) (e : ℕ × ℕ) → task_row_at slots at ≡ Some e → count_by (λ n. n == e.0) order ≡ 0 → slice_index_or places (task_rest e.0) 0 ≡ at
+
+-- of those that are not among these numbers no two have one rest
+abbrev pub IsAlone : List TaskRow → (order : List ℕ) → Type 0
+IsAlone slots order =
+    (at : ℕ) (e : ℕ × ℕ) → task_row_at slots at ≡ Some e → count_by (λ n. n == e.0) order ≡ 0
+    → (beside : ℕ) (f : ℕ × ℕ) → task_row_at slots beside ≡ Some f → count_by (λ n. n == f.0) order ≡ 0
+    → task_rest e.0 ≡ task_rest f.0 → at ≡ beside
+
+-- each task once, in room for twice as many slots as there may be tasks; numbers in order are of tasks that are there
+pub record IsTaskTable (slots : List TaskRow) (capacity tasks : ℕ) (places order : List ℕ) : Type 0 where
   pub once : HasEachOnce (tasks_in slots)
   pub room : 2 * most_tasks ≤ capacity
-  pub count : length order ≡ length (tasks_in slots)
-  pub listed : AreListed slots order
+  pub count : tasks ≡ length (tasks_in slots)
+  pub listed : (task : ℕ) → count_by (λ n. n == task) order ≤ count_by (λ e. e.0 == task) (tasks_in slots)
+  pub noted : AreNoted slots places order

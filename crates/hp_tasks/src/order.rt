@@ -1,5 +1,5 @@
 //! Tasks' numbers in order.
-ghost use Rattle.std.specs.Prelude.{◌≡◌, ◌<◌, ◌≤◌, ◌==◌, [], ◌∷◌, length, IfOk, IfSome, None};
+ghost use Rattle.std.specs.Prelude.{◌≡◌, ◌<◌, ◌≤◌, ◌==◌, ◌-◌, ℕ, [], ◌∷◌, cond, false, true, length, IfOk, IfSome, None};
 ghost use Rattle.std.specs.List.{count_by};
 ghost use Rattle.std.specs.List.Sorted.{IsNonDecreasing, IsPermutation};
 ghost use Rattle.hp_model.specs.Profile.{most_tasks};
@@ -9,7 +9,7 @@ use hp_model::profile::MOST_TASKS;
 use std::alloc::{AllocError, Global};
 use std::marker::Model;
 
-/// The numbers of tasks in order, with where each task stands, which is never trusted. There is room for all tasks.
+/// Numbers of tasks in order, with where each task stands, which is never trusted. There is room for all tasks.
 ///
 /// A number is found in some twelve steps, and put in or taken out with a move of those above it, whichever numbers are there.
 #[derive(Drop)]
@@ -34,7 +34,7 @@ impl Model for Order {
 fn find(tasks: &[u64], task: u64) -> Option<usize>
     requires { IsNonDecreasing tasks.now }
     ensures some { IfSome result (IsPlaceOf tasks.now task) }
-    ensures none { result ≡ None → count_by (λ t. t == task) tasks.now ≡ 0 }
+    ensures none { result ≡ None → count_by (λ n. n == task) tasks.now ≡ 0 }
 {
     match tasks.binary_search(&task) {
         Ok(at) => Some(at),
@@ -64,16 +64,9 @@ impl Order {
         })
     }
 
-    /// How many numbers there are.
-    pub(crate) fn len(&self) -> usize
-        ensures { result ≡ length self.now }
-    {
-        self.tasks.len()
-    }
-
     /// Where a task was noted to stand.
     pub(crate) fn stand(&self, task: u64) -> Option<usize>
-        ensures { result ≡ None → count_by (λ t. t == task) self.now ≡ 0 }
+        ensures { result ≡ None → count_by (λ n. n == task) self.now ≡ 0 }
     {
         let at = find(&self.tasks, task)?;
         Some(self.stands[at] as usize)
@@ -89,26 +82,30 @@ impl Order {
         let _ = self.stands.insert(at, stand);
     }
 
-    /// Takes a number out.
+    /// Takes a number out, if it is there.
     pub(crate) fn remove(&mut self, task: u64)
-        requires { 1 ≤ count_by (λ t. t == task) self.old }
-        ensures { IsPermutation self.old (task ∷ self.new) }
+        ensures { (t : ℕ) → count_by (λ n. n == t) self.new
+            ≡ count_by (λ n. n == t) self.old - cond (task == t) 1 0 }
     {
         let Some(at) = find(&self.tasks, task) else {
-            unreachable!();
+            return;
         };
         self.tasks.remove(at);
         self.stands.remove(at);
     }
 
-    /// Notes where each task stands that has been moved.
-    pub(crate) fn move_to(&mut self, places: &[u16])
-        ensures { self.new ≡ self.old }
+    /// Notes where a task stands, if its number is there, and tells whether it is.
+    pub(crate) fn move_to(&mut self, task: u64, stand: u16) -> bool
+        ensures order { self.new ≡ self.old }
+        ensures there { result ≡ true → 1 ≤ count_by (λ n. n == task) self.old }
+        ensures absent { result ≡ false → count_by (λ n. n == task) self.old ≡ 0 }
     {
-        for stand in self.stands.iter_mut() {
-            if let Some(place) = places.get(*stand as usize) {
-                *stand = *place;
+        match find(&self.tasks, task) {
+            Some(at) => {
+                self.stands[at] = stand;
+                true
             }
+            None => false,
         }
     }
 }

@@ -19,15 +19,14 @@ type Slot = Option<(u64, u64)>;
 
 /// The tasks with their home nodes, in order of adding, each once. There is room for all of them.
 ///
-/// By the rest of a task's number it is noted where the task stood, which is looked at first and never trusted. Where another
-/// stands there, as numbers of one rest do, the order of all numbers tells whether the task is there, and where.
+/// By the rest of a task's number it is noted where the task stands. One that comes while another of its rest stands there is
+/// among the numbers in order instead, which tell whether it is there, and where.
 #[derive(Drop)]
 pub struct TaskTable {
     slots: Vec<Slot>,
-    order: Order,
+    tasks: usize,
     places: Box<[u16; RESTS]>,
-    // where the tasks stand once the gaps are closed
-    moved: Box<[u16; MOST_SLOTS]>,
+    order: Order,
 }
 
 impl Model for TaskTable {
@@ -39,21 +38,23 @@ impl Model for TaskTable {
 
     ghost view = { λ a. tasks_in a.slots.items };
 
-    ghost invariant = { λ a. IsTaskTable a.slots.items (vec_capacity a.slots) a.order };
+    ghost invariant = { λ a.
+        IsTaskTable a.slots.items (vec_capacity a.slots) a.tasks a.places.value a.order };
 }
 
-ghost use Rattle.std.specs.Prelude.{◌≡◌, ◌≢◌, ◌<◌, ◌*◌, ◌%◌, ℕ, length, true, vec_capacity, [], IfOk, IfSome, Ok, Err, IsTrue, is_some, None, Some};
-ghost use Rattle.std.specs.List.{position};
+ghost use Rattle.std.specs.Prelude.{◌≡◌, ◌≢◌, ◌<◌, ◌≤◌, ◌==◌, ◌+◌, ◌*◌, ◌++◌, ◌∷◌, ℕ, cond, length, true, vec_capacity, [], IfOk, IfSome, Ok, Err, IsTrue, is_some, None, Some};
+ghost use Rattle.std.specs.List.{count_by, position};
 ghost use Rattle.hp_model.specs.declared.event.TableEvent.TheVariants.{Add, FindAndAdd, Remove};
 ghost use Rattle.hp_model.specs.declared.refusal.Refusal.TheVariants as Refusal;
 ghost use Rattle.hp_model.specs.beside.Accesses.{done_reply};
 ghost use Rattle.hp_model.specs.Profile.{most_tasks};
 ghost use Rattle.hp_model.specs.machine.Table.{home_of, added, removed, is_known, is_crowded, table_event};
-ghost use Rattle.hp_tasks.specs.Table.{AreListed, has_task, task_row_at, tasks_in, rests};
+ghost use Rattle.hp_tasks.specs.Table.{AreNoted, HasEachOnce, IsAlone, has_rest, has_task, task_rest, task_row_at, tasks_in, rests};
 
 // Which number stands for a task's.
 fn rest_of(task: u64) -> usize
-    ensures { result < rests }
+    ensures rest { result ≡ task_rest task }
+    ensures few { result < rests }
 {
     (task.wrapping_mul(SPREAD) >> 50) as usize
 }
@@ -78,16 +79,26 @@ fn place_among_all(slots: &[Slot], task: u64) -> Option<usize>
     })
 }
 
-// Where a task stands. What was noted is right, so that all slots are never gone over.
+// Whether a task of this rest stands there.
+fn is_of_rest(slots: &[Slot], rest: usize, at: usize) -> bool
+    ensures { result ≡ has_rest rest (task_row_at slots.now at) }
+{
+    match slots.get(at) {
+        Some(Some(entry)) => rest_of(entry.0) == rest,
+        _ => false,
+    }
+}
+
+// Where a task stands. What the order notes is right, so that all slots are never gone over.
 fn place_in(slots: &[Slot], places: &[u16; RESTS], order: &Order, task: u64) -> Option<usize>
-    requires { AreListed slots.now order.now }
+    requires { AreNoted slots.now places.now order.now }
     ensures some { IfSome result (λ at. has_task task (task_row_at slots.now at) ≡ true) }
     ensures below { IfSome result (λ at. at < length slots.now) }
     ensures none { result ≡ None → home_of (tasks_in slots.now) task ≡ None }
 {
-    let hint = places[rest_of(task)] as usize;
-    if stands_at(slots, task, hint) {
-        return Some(hint);
+    let place = places[rest_of(task)] as usize;
+    if stands_at(slots, task, place) {
+        return Some(place);
     }
     let noted = order.stand(task)?;
     if stands_at(slots, task, noted) {
@@ -96,39 +107,58 @@ fn place_in(slots: &[Slot], places: &[u16; RESTS], order: &Order, task: u64) -> 
     place_among_all(slots, task)
 }
 
-// Notes where each task stands, and where it is moved to once the gaps are closed.
-fn note_all(places: &mut [u16; RESTS], moved: &mut [u16; MOST_SLOTS], slots: &[Slot]) {
-    let mut next: u16 = 0;
+// Notes where a new task stands, behind all others: at the place of its rest, or else, where one of this rest is, in the order.
+fn note(slots: &[Slot], places: &mut [u16; RESTS], order: &mut Order, task: u64)
+    requires few { length slots.now < 2 * most_tasks }
+    requires room { length order.old < most_tasks }
+    requires noted { AreNoted slots.now places.old order.old }
+    ensures noted { (home : ℕ) → AreNoted (slots.now ++ Some (task, home) ∷ [])
+        places.new order.new }
+    ensures listed { (t : ℕ) → count_by (λ n. n == t) order.new
+        ≤ count_by (λ n. n == t) order.old + cond (task == t) 1 0 }
+{
+    let rest = rest_of(task);
+    let stand = slots.len() as u16;
+    if is_of_rest(slots, rest, places[rest] as usize) {
+        order.add(task, stand);
+    } else {
+        places[rest] = stand;
+    }
+}
+
+// Notes where each task stands.
+fn note_all(slots: &[Slot], places: &mut [u16; RESTS], order: &mut Order)
+    requires few { length slots.now ≤ 2 * most_tasks }
+    requires alone { IsAlone slots.now order.old }
+    ensures noted { AreNoted slots.now places.new order.new }
+    ensures order { order.new ≡ order.old }
+{
     for (at, slot) in slots.iter().enumerate() {
         if let Some(entry) = slot {
-            places[rest_of(entry.0)] = next;
-            if let Some(place) = moved.get_mut(at) {
-                *place = next;
+            let stand = at as u16;
+            if !order.move_to(entry.0, stand) {
+                places[rest_of(entry.0)] = stand;
             }
-            next = next.wrapping_add(1);
         }
     }
 }
 
 // So that there is a slot for one task more. Where there is none, the gaps are closed.
-fn make_slot(
-    slots: &mut Vec<Slot>,
-    order: &mut Order,
-    places: &mut [u16; RESTS],
-    moved: &mut [u16; MOST_SLOTS],
-)
+fn make_slot(slots: &mut Vec<Slot>, places: &mut [u16; RESTS], order: &mut Order)
     requires few { length (tasks_in slots.old.items) < most_tasks }
+    requires once { HasEachOnce (tasks_in slots.old.items) }
+    requires noted { AreNoted slots.old.items places.old order.old }
     ensures tasks { tasks_in slots.new.items ≡ tasks_in slots.old.items }
     ensures room { length slots.new.items < 2 * most_tasks }
     ensures capacity { vec_capacity slots.new ≡ vec_capacity slots.old }
+    ensures noted { AreNoted slots.new.items places.new order.new }
     ensures order { order.new ≡ order.old }
 {
     if slots.len() < MOST_SLOTS {
         return;
     }
-    note_all(places, moved, slots);
-    order.move_to(&*moved);
     slots.retain(|slot| slot.is_some());
+    note_all(slots, places, order);
 }
 
 impl TaskTable {
@@ -138,9 +168,9 @@ impl TaskTable {
     {
         Ok(TaskTable {
             slots: Vec::with_capacity(alloc, MOST_SLOTS)?,
-            order: Order::new(alloc)?,
+            tasks: 0,
             places: Box::new(alloc, [0; RESTS])?,
-            moved: Box::new(alloc, [0; MOST_SLOTS])?,
+            order: Order::new(alloc)?,
         })
     }
 
@@ -158,7 +188,7 @@ impl TaskTable {
     fn is_full(&self) -> bool
         ensures { result ≡ is_crowded self.now }
     {
-        self.order.len() >= MOST_TASKS
+        self.tasks >= MOST_TASKS
     }
 
     fn add(&mut self, task: u64, home: u64)
@@ -166,16 +196,10 @@ impl TaskTable {
         requires absent { home_of self.old task ≡ None }
         ensures { self.new ≡ added self.old task home }
     {
-        make_slot(
-            &mut self.slots,
-            &mut self.order,
-            &mut self.places,
-            &mut self.moved,
-        );
-        let at = (self.slots.len() % 65_536) as u16;
-        self.places[rest_of(task)] = at;
-        self.order.add(task, at);
+        make_slot(&mut self.slots, &mut self.places, &mut self.order);
+        note(&self.slots, &mut self.places, &mut self.order, task);
         self.slots.push_reserved(Some((task, home)));
+        self.tasks += 1;
     }
 
     /// Adds a child of a task, with its home node. Refused as NoSuchTask, TaskExists or TooMany; then nothing changes.
@@ -205,6 +229,7 @@ impl TaskTable {
         };
         self.slots[at] = None;
         self.order.remove(task);
+        self.tasks -= 1;
     }
 
     /// Adds a task with its home, which is one of so many nodes. Refused as NoSuchNode, TaskExists or TooMany; then nothing

@@ -1,4 +1,4 @@
-use Rattle.std.proofs.Common.{◌≡◌, ℕ, List, get_or, sym, subst, ◌∙◌, ◌∷◌, arith}
+use Rattle.std.proofs.Common.{◌≡◌, ℕ, List, ◌∷◌, get_or, sym, subst, ◌∙◌, arith}
 use Rattle.std.specs.List.Sorted.{IsNonDecreasing, IsPermutation}
 use Rattle.std.proofs.lemmas.List.{get_or_default}
 use Rattle.std.proofs.lemmas.List.Sorted.{IsPermutation-remove}
@@ -14,19 +14,15 @@ module _ (c : After-remove-2) where
   place : IsPlaceOf tasks c.args.task c.in-Some.at
   place = subst (λ xs. IsPlaceOf xs c.args.task c.in-Some.at) c.deref.ensures.value c.in-Some.ensures.some
 
-pub invariant_of-self : goal.invariant_of-self
-invariant_of-self c =
-    let there = place c in
-    record {
-      rise = subst IsNonDecreasing (sym c.remove.ensures.items) (rise_removed c.self.inside.tasks.items c.args.task c.self.invariant.rise c.in-Some.at there.within);
-      each = omega (arith, c.self.invariant.each, c.remove.ensures.len, c.remove-2.ensures.len);
-      room = omega (arith, c.self.invariant.room, c.remove.ensures.capacity);
-      stands_room = omega (arith, c.self.invariant.stands_room, c.remove-2.ensures.capacity);
-    }
+  parted : IsPermutation tasks (c.args.task ∷ c.remove.new.self.items)
+  parted =
+      let read : c.args.task ≡ get_or tasks c.in-Some.at c.args.task = sym (get_or_default tasks c.in-Some.at c.args.task 0 place.within ∙ place.there) in
+      subst (λ xs. IsPermutation tasks (c.args.task ∷ xs)) (sym c.remove.ensures.items) (IsPermutation-remove tasks c.in-Some.at c.args.task place.within read)
 
-pub returns : goal.returns
-returns c =
-    let there = place c in
-    let read : c.args.task ≡ get_or (tasks c) c.in-Some.at c.args.task = sym (get_or_default (tasks c) c.in-Some.at c.args.task 0 there.within ∙ there.there) in
-    subst (λ xs. IsPermutation xs (c.args.task ∷ c.remove.new.self.items)) c.self.view_is
-    (subst (λ xs. IsPermutation (tasks c) (c.args.task ∷ xs)) (sym c.remove.ensures.items) (IsPermutation-remove (tasks c) c.in-Some.at c.args.task there.within read))
+pub invariant_of-self : goal.invariant_of-self
+invariant_of-self c = record {
+  rise = subst IsNonDecreasing (sym c.remove.ensures.items) (rise_removed c.self.inside.tasks.items c.args.task c.self.invariant.rise c.in-Some.at (place c).within);
+  each = omega (arith, c.self.invariant.each, c.remove.ensures.len, c.remove-2.ensures.len);
+  room = omega (arith, c.self.invariant.room, c.remove.ensures.capacity);
+  stands_room = omega (arith, c.self.invariant.stands_room, c.remove-2.ensures.capacity);
+}

@@ -1,7 +1,7 @@
-use Rattle.std.proofs.Common.{◌≡◌, ◌<◌, true, Some, None, List, length, sym, subst, ◌∙◌}
+use Rattle.std.proofs.Common.{◌≡◌, ◌<◌, true, Some, None, length, sym, subst, ◌∙◌}
 use Rattle.std.proofs.lemmas.List.{get_or_read}
 use Rattle.hp_model.specs.machine.Table.{home_of}
-use Rattle.hp_tasks.specs.Table.{AreListed, TaskRow, has_task, task_row_at}
+use Rattle.hp_tasks.specs.Table.{has_task, task_row_at}
 use Rattle.hp_tasks.proofs.Slots.{home_there, task_of}
 use Rattle.hp_tasks.proofs.table.TaskTable.home.Goals as goal
 
@@ -15,6 +15,3 @@ returns-in-Some c =
     let here : task_row_at slots at ≡ Some e = sym (get_or_read slots at c.index.result.now below c.index.ensures None) ∙ c.in-Some.is in
     sym (subst (λ t. home_of t c.args.task ≡ Some e.1) c.self.view_is
     (home_there c.args.task slots at e (c.self.invariant.once c.args.task) here (task_of slots c.args.task at e has here)))
-
-pub place_in-requires : goal.place_in-requires
-place_in-requires c = subst (λ (xs : List TaskRow). AreListed xs c.self.inside.order) (sym c.deref.ensures.value) c.self.invariant.listed
