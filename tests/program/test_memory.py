@@ -1,6 +1,8 @@
 """The memory that the program asks for and holds: no more than what is there needs."""
+import subprocess
+
 import pytest
-from built import text_of
+from built import SECONDS, text_of
 
 
 @pytest.fixture
@@ -125,3 +127,23 @@ def test_gives_room_for_pages_back(held):
     most, _, replies = held(lines, ["--slots", "64", "--frames", "2048"])
     assert [it for it in replies if it.startswith("error")] == []
     assert most < 16 << 20, "for 64 children at a time"
+
+
+def test_has_room_for_no_more_pages_than_frames(held):
+    """Each child of a map that was touched may copy all of it, but no more pages than frames are ever in use: a child takes 8 bytes for each
+    place of its map, and room for no page beyond the frames."""
+    touched = ["nr 4096", "connect 1 0", "anon 1 4096 private", *(f"fault 1 0 1 {at} write" for at in range(4096))]
+    few, many = (held([*touched, *(f"fork 1 {child}" for child in range(2, 2 + forks))], ["--frames", "4096"])[0] for forks in (1, 65))
+    assert many - few < 64 * 4096 * 9
+    refused = ["nr 8", "connect 1 0", *(f"anon 1 {pages} private" for pages in (1024, 65536))]
+    few, many = (held(lines, ["--frames", "8"])[0] for lines in (refused[:-1], refused))
+    assert many - few < 65536 * 9, "of a map that is refused, its places alone"
+
+
+def test_forks_a_wide_map_in_little_address_space(program):
+    """500 children of a map of 65,536 pages that were all touched fit into 400,000 kB of addresses, of which their places take 256,000."""
+    lines = ["nr 65536", "connect 1 0", "anon 1 65536 private", *(f"fault 1 0 1 {at} write" for at in range(65536)), *(f"fork 1 {child}" for child in range(2, 502))]
+    limited = ["sh", "-c", 'ulimit -v 400000; exec "$0" "$@"', program, "--frames", "65536"]
+    ran = subprocess.run(limited, input=text_of(lines), capture_output=True, timeout=SECONDS)
+    assert (ran.returncode, ran.stderr) == (0, b"")
+    assert [it for it in ran.stdout.decode().split("\n") if it.startswith("error")] == []

@@ -74,6 +74,11 @@ impl Frame {
         vacate(bytes, lease)
     }
 
+    /// Spends it. Its memory can't be used any more.
+    pub fn close(self) {
+        let _spent = self.into_block().into_raw_parts();
+    }
+
     /// The order in which the block's frames were cut.
     pub(crate) fn number(&self) -> u32 {
         self.number

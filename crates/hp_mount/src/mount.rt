@@ -79,10 +79,11 @@ impl<N: Naming> Mount<N> {
         requires held { share.held ≡ 0 }
         ensures { result ≡ mount_from share inodes [] }
     {
+        let frames = share.frames() as usize;
         Mount {
             share,
             inodes,
-            files: Files::new(alloc),
+            files: Files::new(alloc, frames),
         }
     }
 

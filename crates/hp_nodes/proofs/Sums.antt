@@ -1,9 +1,10 @@
 -- How the sums over the nodes change where so many moves are made at one.
-use Rattle.std.proofs.Common.{ℕ, ◌≡◌, ◌+◌, ◌<◌, ◌≤◌, List, length, arith}
+use Rattle.std.proofs.Common.{ℕ, ◌≡◌, ◌+◌, ◌<◌, ◌≤◌, List, [], ◌∷◌, length, arith}
 use Rattle.std.specs.Prelude.{slice_set}
 use Rattle.std.proofs.lemmas.List.Sums.{sum_by-set, get_or-le-sum_by}
 use Rattle.hp_model.specs.declared.node.NodeRow.{NodeRow}
 use Rattle.hp_model.specs.pool.NodeRows.{row_at, no_row, sum_row, frames_of, total_of, free_of, surp_of}
+use Rattle.hp_nodes.specs.Ledgers.{all_frames}
 use Rattle.hp_nodes.specs.Moves.{take_by, put_by, grow_by, shrink_by, add_surplus_by, give_back_by, promote_by, demote_by}
 
 abbrev pub row : ℕ → ℕ → ℕ → ℕ → NodeRow
@@ -64,3 +65,12 @@ promote_sums rows i k y h e surp =
 
 pub demote_sums : (rows : List NodeRow) (i k : ℕ) (y : NodeRow) → i < length rows → y ≡ demote_by k (row_at rows i) → sum_row (slice_set rows i y) ≡ demote_by k (sum_row rows)
 demote_sums rows i k y h e = rw e (sums_as rows i (demote_by k (row_at rows i)) (demote_by k (sum_row rows)) h (omega arith) (omega arith) (omega arith) (omega arith))
+
+-- the frames of one to four nodes are all that there are
+pub in_all : (rows : List NodeRow) (frames : ℕ → ℕ) → length rows ≤ 4 → ((k : ℕ) → k < 4 → (row_at rows k).frames ≡ frames k) → frames_of rows ≡ all_frames frames
+in_all [] frames few each = omega (arith, each 0 (omega arith), each 1 (omega arith), each 2 (omega arith), each 3 (omega arith))
+in_all (a ∷ []) frames few each = omega (arith, each 0 (omega arith), each 1 (omega arith), each 2 (omega arith), each 3 (omega arith))
+in_all (a ∷ b ∷ []) frames few each = omega (arith, each 0 (omega arith), each 1 (omega arith), each 2 (omega arith), each 3 (omega arith))
+in_all (a ∷ b ∷ c ∷ []) frames few each = omega (arith, each 0 (omega arith), each 1 (omega arith), each 2 (omega arith), each 3 (omega arith))
+in_all (a ∷ b ∷ c ∷ d ∷ []) frames few each = omega (arith, each 0 (omega arith), each 1 (omega arith), each 2 (omega arith), each 3 (omega arith))
+in_all (a ∷ b ∷ c ∷ d ∷ e ∷ rows) frames few each = absurd (omega (arith, few))

@@ -1,9 +1,13 @@
 -- What the pages of a machine begin with.
-use Rattle.std.specs.Prelude.{◌≡◌, ℕ, ◌<◌, ◌≤◌, ◌==◌, List, [], ◌∷◌, if◌then◌else◌, slice_index}
+use Rattle.std.specs.Prelude.{◌≡◌, ℕ, ◌+◌, ◌<◌, ◌≤◌, ◌==◌, List, [], ◌∷◌, if◌then◌else◌, slice_index}
 use Rattle.hp_model.specs.declared.naming.Naming.{Ghosts}
 use Rattle.hp_model.specs.Profile.{most_frames}
 use Rattle.hp_nodes.specs.declared.blanks.Blanks.{Blanks}
 use Rattle.hp_nodes.specs.declared.blanks.NodeBlanks.{NodeBlanks}
+
+-- how many frames the nodes have in all
+abbrev pub all_frames : (ℕ → ℕ) → ℕ
+all_frames frames = frames 0 + frames 1 + frames 2 + frames 3
 
 -- claims on all frames of each node
 abbrev pub AreAll : (ℕ → ℕ) → List ℕ → Type 0

@@ -9,9 +9,11 @@ mod node;
 mod page;
 mod rounds;
 mod search;
+mod tally;
 
 pub use blanks::{Blanks, NodeBlanks};
 pub use draft::PageDraft;
 pub use frames::{Frames, NodeFrames};
 pub use lists::NodeLists;
 pub use page::Page;
+pub use tally::PageTally;

@@ -3,7 +3,7 @@ ghost use Rattle.std.specs.Prelude.{◌≡◌, ◌+◌, ◌<◌, ◌≤◌, ◌^
 ghost use Rattle.hp_model.specs.pool.Resize.{node_count};
 ghost use Rattle.hp_model.specs.Profile.{most_frames, most_frames_in_all};
 ghost use Rattle.hp_nodes.specs.Kept.{idle_nodes};
-ghost use Rattle.hp_nodes.specs.Ledgers.{AreAll, AreFrames};
+ghost use Rattle.hp_nodes.specs.Ledgers.{AreAll, AreFrames, all_frames};
 ghost use Rattle.hp_nodes.specs.Moves.{take_by, put_by, puts_at, grow_by, shrink_by};
 ghost use Rattle.std.specs.Fn.{iterate};
 ghost use Rattle.hp_model.specs.pool.NodeRows.{IsRow, used, next_node, near, some_has, row_at, taken, taken_times, grown, shrunk, sum_row, free_of, total_of, take_row};
@@ -106,6 +106,7 @@ impl<N: Naming> NodeLists<N> {
         ensures surp { result.surp ≤ result.total }
         ensures total { result.total ≤ result.frames }
         ensures few { result.frames ≤ most_frames_in_all }
+        ensures all { result.frames ≡ all_frames N.frames }
     {
         let mut sums = NodeRow {
             frames: 0,

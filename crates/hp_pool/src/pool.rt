@@ -7,7 +7,7 @@ ghost use Rattle.hp_model.specs.pool.Pool.{take_node, page_taken, pages_taken, k
 ghost use Rattle.hp_model.specs.pool.PoolCounts.{IsSettled, counts_of, rsvd, used};
 ghost use Rattle.hp_model.specs.pool.Resize.{set_nr, node_count};
 ghost use Rattle.hp_model.specs.Profile.{most_frames, most_overcommit};
-ghost use Rattle.hp_nodes.specs.Ledgers.{AreAll, AreFrames};
+ghost use Rattle.hp_nodes.specs.Ledgers.{AreAll, AreFrames, all_frames};
 ghost use Rattle.hp_pool.specs.Ledgers.{IsLedger};
 ghost use Rattle.hp_pool.specs.Sums.{idle_pool};
 
@@ -288,6 +288,13 @@ impl<N: Naming> Pool<N> {
         ensures { result ≡ length self.now.nodes.rows }
     {
         self.lists.len()
+    }
+
+    /// How many frames there are in all.
+    pub fn frames(&self) -> u64
+        ensures { result ≡ all_frames N.frames }
+    {
+        self.lists.sums().frames
     }
 
     /// Ends the pool, and gives its memory back. A page or a permit that is still out can't come back.

@@ -5,10 +5,11 @@ use Rattle.std.specs.Option.{option_map}
 use Rattle.std.proofs.Math.ListN.{get_or-map}
 use Rattle.std.proofs.Math.Seq.{map-set_same}
 use Rattle.std.proofs.lemmas.List.{get_or_read, length-map, map-append, map-set, set-get_or}
+use Rattle.std.proofs.lemmas.List.Sums.{sum_by-cons}
 use Rattle.std.proofs.lemmas.Bool.Decides.{nat_tests}
 use Rattle.hp_model.specs.files.Page.{Page}
-use Rattle.hp_store.specs.Store.{Holding, at_slot, holders_of, held_page}
-use Rattle.hp_store.specs.Kept.{held_by, holdings}
+use Rattle.hp_store.specs.Store.{Holding, at_slot, held_count, holders_of, held_page, one_if_held}
+use Rattle.hp_store.specs.Kept.{held_by, holdings, one_if_page, page_count}
 use Rattle.hp_store.proofs.Empty.{some_within}
 
 length-holdings : (ps : List (Option Page)) (hs : List ℕ) → length ps ≡ length hs → length (holdings ps hs) ≡ length ps
@@ -34,6 +35,14 @@ push-holdings [] [] p h e = refl
 push-holdings [] (g ∷ hs) p h e = absurd (omega (arith, e))
 push-holdings (q ∷ ps) [] p h e = absurd (omega (arith, e))
 push-holdings (q ∷ ps) (g ∷ hs) p h e = ap (λ xs. option_map (held_by g) q ∷ xs) (push-holdings ps hs p h (omega (arith, e)))
+
+held-holdings : (ps : List (Option Page)) (hs : List ℕ) → length ps ≡ length hs → held_count (holdings ps hs) ≡ page_count ps
+held-holdings [] hs e = refl
+held-holdings (p ∷ ps) [] e = absurd (omega (arith, e))
+held-holdings (None ∷ ps) (h ∷ hs) e = held-holdings ps hs (omega (arith, e))
+held-holdings (Some p ∷ ps) (h ∷ hs) e =
+    let rest = held-holdings ps hs (omega (arith, e)) in
+    omega (arith, rest, sum_by-cons one_if_held (Some (held_by h p)) (holdings ps hs), sum_by-cons one_if_page (Some p) ps)
 
 some_in_map : {A B : Type 0} (f : A → B) (o : Option A) → is_some (option_map f o) ≡ is_some o
 some_in_map f None = refl
@@ -63,6 +72,9 @@ module _ (ps : List (Option Page)) (hs : List ℕ) (counted : map is_some ps ≡
 
   pub long : length (holdings ps hs) ≡ length ps
   long = length-holdings ps hs same_length
+
+  pub held_pages : held_count (holdings ps hs) ≡ page_count ps
+  held_pages = held-holdings ps hs same_length
 
   pub get_held : (n : ℕ) → slice_index_or (holdings ps hs) n None ≡ option_map (held_by (slice_index hs n)) (slice_index_or ps n None)
   get_held n = get-holdings ps hs n same_length

@@ -1,6 +1,7 @@
 -- How a store keeps its numbers and its pages. No public clause cites this module.
-use Rattle.std.specs.Prelude.{◌≡◌, ◌≢◌, ℕ, ◌+◌, ◌-◌, ◌<◌, ◌≤◌, ◌^◌, List, [], ◌∷◌, ◌++◌, length, map, replicate, slice_index, slice_index_or, is_some, nat_lt}
-use Rattle.std.specs.Prelude.{Option, None}
+use Rattle.std.specs.Prelude.{◌≡◌, ◌≢◌, ℕ, ◌+◌, ◌-◌, ◌<◌, ◌≤◌, ◌^◌, List, [], ◌∷◌, ◌++◌, length, map, min, replicate, slice_index, slice_index_or, is_some, nat_lt}
+use Rattle.std.specs.Prelude.{Option, None, Some}
+use Rattle.std.specs.List.{sum_by}
 use Rattle.std.specs.Option.{option_map}
 use Rattle.hp_model.specs.files.Page.{Page}
 use Rattle.hp_store.specs.Store.{Holding, held_count}
@@ -23,12 +24,22 @@ holdings [] hs = []
 holdings (p ∷ ps) [] = []
 holdings (p ∷ ps) (h ∷ hs) = option_map (held_by h) p ∷ holdings ps hs
 
--- a page that is there has a holder, and there is room for pages and holders
-pub record IsCounted (pages : List (Option Page)) (holders : List ℕ) (room pages_capacity holders_capacity : ℕ) : Type 0 where
+abbrev pub one_if_page : Option Page → ℕ
+one_if_page None = 0
+one_if_page (Some p) = 1
+
+-- how many of the places have a page
+abbrev pub page_count : List (Option Page) → ℕ
+page_count pages = sum_by one_if_page pages
+
+-- a page that is there has a holder, and there is room for pages and holders, but for no more than there are frames
+pub record IsCounted (pages : List (Option Page)) (holders : List ℕ) (room pages_capacity holders_capacity frames : ℕ) : Type 0 where
   pub counted : map is_some pages ≡ map (nat_lt 0) holders
   pub within : length pages ≤ room
   pub pages_room : room ≤ pages_capacity
   pub holders_room : room ≤ holders_capacity
+  pub pages_few : pages_capacity ≤ frames
+  pub holders_few : holders_capacity ≤ frames
 
 -- the list has each slot without a page once
 pub record IsFree (slots : List (Option Holding)) (free : List ℕ) : Type 0 where
@@ -37,15 +48,18 @@ pub record IsFree (slots : List (Option Holding)) (free : List ℕ) : Type 0 whe
   pub apart : (j k : ℕ) → j < k → k < length free → slice_index free j ≢ slice_index free k
   pub counted : length free + held_count slots ≡ length slots
 
--- each slot that was used and is free is listed; each number has a place on that list, and fits 32 bits
-pub record IsNumbered (used : Used) (free : List ℕ) (free_capacity : ℕ) : Type 0 where
+-- each slot that was used and is free is listed; each number has a place on that list, which has no more places than there are frames, and fits 32 bits
+pub record IsNumbered (used : Used) (free : List ℕ) (free_capacity frames : ℕ) : Type 0 where
   pub listed : IsFree used.slots free
   pub within : length used.slots ≤ used.room
   pub free_room : used.room ≤ free_capacity
+  pub free_few : free_capacity ≤ frames
   pub few : used.room ≤ 2 ^ 32
 
--- there is room for the pages that may still come, also in the list of those that go
-pub record HasRoom (slots : List (Option Holding)) (going going_capacity room : ℕ) : Type 0 where
-  pub slots_room : held_count slots + room ≤ length slots
-  pub going_room : held_count slots + room + going ≤ going_capacity
+-- there is room for the pages that may still come, or for all frames, also in the list of those that go
+pub record HasRoom (slots : List (Option Holding)) (going going_capacity room frames : ℕ) : Type 0 where
+  pub slots_room : min (held_count slots + room) frames ≤ length slots
+  pub going_room : min (held_count slots + room + going) frames ≤ going_capacity
+  pub slots_few : length slots ≤ frames
+  pub going_few : going_capacity ≤ frames
   pub few : held_count slots + room ≤ 2 ^ 32

@@ -1,11 +1,13 @@
 //! Pages with their holders, by number.
-ghost use Rattle.std.specs.Prelude.{◌≡◌, ℕ, ◌+◌, ◌<◌, ◌≤◌, ◌^◌, ◌==◌, not, false, IsTrue, IsSome, [], ◌∷◌, ◌++◌, length, slice_index_or, slice_set, None, Some, OnOk, OnErr};
+ghost use Rattle.std.specs.Prelude.{◌≡◌, ℕ, ◌+◌, ◌<◌, ◌≤◌, ◌^◌, ◌==◌, not, false, IsTrue, IsSome, [], ◌∷◌, ◌++◌, length, slice_index_or, slice_set, vec_capacity, None, Some, OnOk, OnErr};
 ghost use Rattle.std.specs.Option.{option_map};
-ghost use Rattle.hp_store.specs.Store.{holders_of, first_held, held_once_more, held_once_less, held_page, written_in, at_slot};
-ghost use Rattle.hp_store.specs.Kept.{Used};
+ghost use Rattle.hp_nodes.specs.Ledgers.{all_frames};
+ghost use Rattle.hp_store.specs.Store.{holders_of, first_held, held_once_more, held_once_less, held_page, written_in, held_count, at_slot};
+ghost use Rattle.hp_store.specs.Kept.{Used, page_count};
 
+use crate::widening::widen;
 use hp_model::naming::Naming;
-use hp_nodes::Page;
+use hp_nodes::{Page, PageTally};
 use std::alloc::{AllocError, Global};
 use std::marker::Model;
 use std::mem;
@@ -22,6 +24,7 @@ pub(crate) struct Holdings<N: Naming> {
 
 impl<N: Naming> Model for Holdings<N> {
     ghost use Rattle.std.specs.Prelude.{vec_capacity};
+    ghost use Rattle.hp_nodes.specs.Ledgers.{all_frames};
     ghost use Rattle.hp_store.specs.Kept.{Used, IsCounted, holdings};
 
     ghost Value = { Used };
@@ -30,7 +33,7 @@ impl<N: Naming> Model for Holdings<N> {
 
     ghost invariant = { λ h.
         IsCounted h.pages.items h.holders.items h.room (vec_capacity h.pages)
-        (vec_capacity h.holders) };
+        (vec_capacity h.holders) (all_frames N.frames) };
 }
 
 impl<N: Naming> Holdings<N> {
@@ -45,15 +48,16 @@ impl<N: Naming> Holdings<N> {
         }
     }
 
-    /// Room for so many slots in all. Writes none.
-    pub(crate) fn widen(&mut self, room: usize) -> Result<(), AllocError>
-        requires { self.old.room ≤ room }
+    /// Room for so many slots in all, which are at most the frames. Writes none.
+    pub(crate) fn widen(&mut self, room: usize, frames: usize) -> Result<(), AllocError>
+        requires more { self.old.room ≤ room }
+        requires few { room ≤ frames }
+        requires frames { frames ≡ all_frames N.frames }
         ensures ok { OnOk result (self.new ≡ record self.old { room = room }) }
         ensures err { OnErr result (self.new ≡ self.old) }
     {
-        let more = room - self.pages.len();
-        self.pages.reserve(more)?;
-        self.holders.reserve(more)?;
+        widen(&mut self.pages, room, frames)?;
+        widen(&mut self.holders, room, frames)?;
         self.room = room;
         Ok(())
     }
@@ -71,6 +75,7 @@ impl<N: Naming> Holdings<N> {
 
     pub(crate) fn room(&self) -> usize
         ensures room { result ≡ self.now.room }
+        ensures few { result ≤ all_frames N.frames }
     {
         self.room
     }
@@ -180,6 +185,17 @@ impl<N: Naming> Holdings<N> {
         }
     }
 
+    /// Spends the pages with one more, and shows how few they were.
+    pub(crate) fn spend(&mut self, page: Page<N>)
+        ensures few { held_count self.old.slots + 1 ≤ all_frames N.frames }
+        ensures spent { self.new ≡ record self.old { slots = [] } }
+    {
+        let mut tally = PageTally::new(page);
+        spend_pages(&mut self.pages, &mut tally);
+        self.holders.clear();
+        tally.close();
+    }
+
     /// Ends slots without a page.
     pub(crate) fn close(self)
         requires { (n : ℕ) → slice_index_or self.slots n None ≡ None }
@@ -190,6 +206,18 @@ impl<N: Naming> Holdings<N> {
             room: _,
         } = self;
         close_pages(pages);
+    }
+}
+
+fn spend_pages<N: Naming>(pages: &mut Vec<Option<Page<N>>>, tally: &mut PageTally<N>)
+    ensures spent { tally.new ≡ tally.old + page_count pages.old.items }
+    ensures none { pages.new.items ≡ [] }
+    ensures capacity { vec_capacity pages.new ≡ vec_capacity pages.old }
+{
+    while let Some(slot) = pages.pop() {
+        if let Some(page) = slot {
+            tally.add(page);
+        }
     }
 }
 

@@ -1,9 +1,11 @@
 //! Slots for pages, and the numbers of those that are free.
-ghost use Rattle.std.specs.Prelude.{◌≡◌, ℕ, ◌+◌, ◌-◌, ◌<◌, ◌≤◌, ◌^◌, ◌==◌, not, false, IsTrue, [], length, slice_index_or, slice_set, None, Some, IsSome, OnOk, OnErr};
+ghost use Rattle.std.specs.Prelude.{◌≡◌, ℕ, ◌+◌, ◌-◌, ◌<◌, ◌≤◌, ◌^◌, ◌==◌, not, false, IsTrue, [], length, min, slice_index_or, slice_set, None, Some, IsSome, OnOk, OnErr};
 ghost use Rattle.std.specs.Option.{option_map};
+ghost use Rattle.hp_nodes.specs.Ledgers.{all_frames};
 ghost use Rattle.hp_store.specs.Store.{holders_of, first_held, held_once_more, held_once_less, held_page, written_in, held_count, at_slot, Lengthens};
 
 use crate::holdings::Holdings;
+use crate::widening::widen;
 use hp_model::naming::Naming;
 use hp_model::page_no::PageNo;
 use hp_nodes::Page;
@@ -22,6 +24,7 @@ pub(crate) struct Slots<N: Naming> {
 
 impl<N: Naming> Model for Slots<N> {
     ghost use Rattle.std.specs.Prelude.{List, Option, vec_capacity};
+    ghost use Rattle.hp_nodes.specs.Ledgers.{all_frames};
     ghost use Rattle.hp_store.specs.Store.{Holding};
     ghost use Rattle.hp_store.specs.Kept.{IsNumbered, with_free};
 
@@ -29,7 +32,8 @@ impl<N: Naming> Model for Slots<N> {
 
     ghost view = { λ s. with_free s.used.room s.used.slots };
 
-    ghost invariant = { λ s. IsNumbered s.used s.free.items (vec_capacity s.free) };
+    ghost invariant = { λ s. IsNumbered s.used s.free.items (vec_capacity s.free)
+        (all_frames N.frames) };
 }
 
 impl<N: Naming> Slots<N> {
@@ -43,9 +47,11 @@ impl<N: Naming> Slots<N> {
         }
     }
 
-    /// Makes `count` slots free at least, up to 2^32 slots in all.
-    pub(crate) fn reserve(&mut self, count: usize) -> Result<(), AllocError>
-        ensures ok { OnOk result (held_count self.new + count ≤ length self.new) }
+    /// Makes `count` slots free at least, up to 2^32 slots in all, but no more slots than there are frames.
+    pub(crate) fn reserve(&mut self, count: usize, frames: usize) -> Result<(), AllocError>
+        requires { frames ≡ all_frames N.frames }
+        ensures ok { OnOk result (min (held_count self.new + count) frames ≤ length self.new) }
+        ensures within { OnOk result (length self.new ≤ frames) }
         ensures few { OnOk result (held_count self.new + count ≤ 2 ^ 32) }
         ensures slots { OnOk result (Lengthens self.old self.new) }
         ensures held { held_count self.new ≡ held_count self.old }
@@ -57,27 +63,47 @@ impl<N: Naming> Slots<N> {
         if count > NUMBERS - held {
             return Err(AllocError);
         }
-        let room = held + count;
+        let room = (held + count).min(frames);
         if room <= self.used.room() {
             return Ok(());
         }
-        self.free.reserve(room - free)?;
-        self.used.widen(room)?;
+        widen(&mut self.free, room, frames)?;
+        self.used.widen(room, frames)?;
         Ok(())
     }
 
-    /// Keeps `count` slots free at least, which are, and gives the memory of others back.
-    pub(crate) fn lower(&mut self, count: usize)
-        requires { held_count self.old + count ≤ length self.old }
-        ensures free { held_count self.new + count ≤ length self.new }
+    /// Keeps `count` slots free at least, which are, or as many slots as there are frames, and gives the memory of others back.
+    pub(crate) fn lower(&mut self, count: usize, frames: usize)
+        requires free { min (held_count self.old + count) frames ≤ length self.old }
+        requires few { held_count self.old + count ≤ 2 ^ 32 }
+        ensures free { min (held_count self.new + count) frames ≤ length self.new }
         ensures slots { Lengthens self.new self.old }
+        ensures fewer { length self.new ≤ length self.old }
         ensures held { held_count self.new ≡ held_count self.old }
         ensures same { (n : ℕ) → slice_index_or self.new n None ≡ slice_index_or self.old n None }
     {
         let used = self.used.used();
-        let room = (used - self.free.len() + count).max(used);
+        let room = (used - self.free.len() + count).min(frames).max(used);
         self.used.narrow(room);
         self.free.shrink_to(room);
+    }
+
+    /// Whether each slot has a page.
+    pub(crate) fn are_full(&self) -> bool
+        ensures full { result ≡ (held_count self.now == length self.now) }
+        ensures within { held_count self.now ≤ length self.now }
+    {
+        self.free.is_empty() && self.used.used() == self.used.room()
+    }
+
+    /// Spends the pages with one more, and shows how few they were: for what never runs.
+    #[cold]
+    #[inline(never)]
+    pub(crate) fn spend(&mut self, page: Page<N>)
+        ensures { held_count self.old + 1 ≤ all_frames N.frames }
+    {
+        self.free.clear();
+        self.used.spend(page);
     }
 
     /// How many slots have a page.

@@ -1,12 +1,14 @@
 //! The store.
 ghost use Rattle.std.specs.Prelude.{◌≡◌, ℕ, ◌+◌, ◌-◌, ◌<◌, ◌≤◌, ◌^◌, ◌↔◌, ◌==◌, [], ◌∷◌, ◌++◌, length, max, min, None, Some, IsSome, OnOk, OnErr, option_to_list};
 ghost use Rattle.std.specs.Option.{option_map};
+ghost use Rattle.hp_nodes.specs.Ledgers.{all_frames};
 ghost use Rattle.hp_store.specs.Store.{Store, page_at, held_page, holders_of, bytes_of, held_count, inserted, shared, dropped, overwritten, Lengthens};
 
 use crate::slots::Slots;
+use crate::widening::widen;
 use hp_model::naming::Naming;
 use hp_model::page_no::PageNo;
-use hp_nodes::Page;
+use hp_nodes::{Page, PageTally};
 use std::alloc::{AllocError, Global};
 use std::marker::Model;
 
@@ -18,10 +20,13 @@ pub struct PageStore<N: Naming> {
     slots: Slots<N>,
     going: Vec<Page<N>>,
     room: usize,
+    // of all nodes. No more pages are out at once, so there is memory for no more
+    frames: usize,
 }
 
 impl<N: Naming> Model for PageStore<N> {
-    ghost use Rattle.std.specs.Prelude.{vec_len, vec_capacity};
+    ghost use Rattle.std.specs.Prelude.{◌≡◌, vec_len, vec_capacity};
+    ghost use Rattle.hp_nodes.specs.Ledgers.{all_frames};
     ghost use Rattle.hp_store.specs.Store.{Store};
     ghost use Rattle.hp_store.specs.Kept.{HasRoom};
 
@@ -29,37 +34,41 @@ impl<N: Naming> Model for PageStore<N> {
 
     ghost view = { λ s. record { pages = s.slots; going = s.going.items; room = s.room } };
 
-    ghost invariant = { λ s. HasRoom s.slots (vec_len s.going) (vec_capacity s.going) s.room };
+    ghost invariant = { λ s. (s.frames ≡ all_frames N.frames)
+        × HasRoom s.slots (vec_len s.going) (vec_capacity s.going) s.room s.frames };
 }
 
 impl<N: Naming> PageStore<N> {
-    /// Takes no memory.
-    pub fn new(alloc: Global) -> Self
+    /// A store in a machine with so many frames. Takes no memory.
+    pub fn new(alloc: Global, frames: usize) -> Self
+        requires { frames ≡ all_frames N.frames }
         ensures { result ≡ record { pages = []; going = []; room = 0 } }
     {
         PageStore {
             slots: Slots::new(alloc),
             going: Vec::new(alloc),
             room: 0,
+            frames,
         }
     }
 
-    /// Room for `count` pages to be put in, and to go later, with no memory. Refused where memory is, and past
-    /// 2^32 numbers.
+    /// Room for `count` pages to be put in, and to go later, with no memory. Memory is held for no more pages than there
+    /// are frames, as no more can be in use. Refused where memory is, and past 2^32 numbers.
     pub fn make_room(&mut self, count: usize) -> Result<(), AllocError>
         ensures ok { OnOk result (self.new
             ≡ record self.old { pages = self.new.pages; room = max self.old.room count }) }
         ensures pages { OnOk result (Lengthens self.old.pages self.new.pages) }
         ensures same { (n : ℕ) → page_at self.new n ≡ page_at self.old n }
         ensures few { OnOk result (held_count self.old.pages + count ≤ 2 ^ 32) }
+        ensures bounded { length self.new.pages ≤ all_frames N.frames }
         ensures err { OnErr result (self.new ≡ self.old) }
     {
         if count <= self.room {
             return Ok(());
         }
-        let most = self.slots.held().saturating_add(count);
-        self.going.reserve(most)?;
-        self.slots.reserve(count)?;
+        let most = (self.slots.held() + self.going.len()).saturating_add(count);
+        widen(&mut self.going, most.min(self.frames), self.frames)?;
+        self.slots.reserve(count, self.frames)?;
         self.room = count;
         Ok(())
     }
@@ -82,9 +91,9 @@ impl<N: Naming> PageStore<N> {
         if count >= self.room {
             return;
         }
-        let most = self.slots.held() + count + self.going.len();
+        let most = (self.slots.held() + count + self.going.len()).min(self.frames);
         if self.going.capacity() / MUCH > most {
-            self.slots.lower(count);
+            self.slots.lower(count, self.frames);
             self.going.shrink_to(most);
         }
         self.room = count;
@@ -97,6 +106,11 @@ impl<N: Naming> PageStore<N> {
         ensures within { result < length self.old.pages }
         ensures inserted { self.new ≡ inserted result page self.old }
     {
+        if self.slots.are_full() {
+            // (with a slot for each frame, as there is room: then this page was one too many)
+            self.slots.spend(page);
+            unreachable!()
+        }
         let number = self.slots.insert(page);
         self.room -= 1;
         number
@@ -123,6 +137,11 @@ impl<N: Naming> PageStore<N> {
             return false;
         }
         let page = self.slots.remove(number);
+        if self.going.len() == self.going.capacity() {
+            // (with a place for each frame: then this page was one too many)
+            spend_all(&mut self.going, page);
+            unreachable!()
+        }
         self.going.push_reserved(page);
         true
     }
@@ -179,8 +198,22 @@ impl<N: Naming> PageStore<N> {
             slots,
             going,
             room: _,
+            frames: _,
         } = self;
         slots.close();
         going.destroy_empty();
     }
+}
+
+// Spends the pages with one more, and shows how few they were: for what never runs.
+#[cold]
+#[inline(never)]
+fn spend_all<N: Naming>(pages: &mut Vec<Page<N>>, page: Page<N>)
+    ensures { length pages.old.items + 1 ≤ all_frames N.frames }
+{
+    let mut tally = PageTally::new(page);
+    while let Some(page) = pages.pop() {
+        tally.add(page);
+    }
+    tally.close();
 }

@@ -4,6 +4,7 @@ ghost use Rattle.hp_model.specs.pool.Grant.{can_grant, granted, is_over};
 ghost use Rattle.hp_model.specs.pool.Pool.{take_node, page_taken, pages_taken, kept_times, released};
 ghost use Rattle.hp_model.specs.pool.NodeRows.{row_at, used as used_at};
 ghost use Rattle.hp_model.specs.pool.PoolCounts.{IsSettled, rsvd, used as in_use};
+ghost use Rattle.hp_nodes.specs.Ledgers.{all_frames};
 ghost use Rattle.hp_subpool.specs.Subpool.{used, own_reserve, committed_of, rise, fall, gain, is_full, can_get, lacks_pages, opened, with_limits, with_minimum, with_reserves, with_page, with_pages};
 
 use hp_model::naming::Naming;
@@ -23,17 +24,21 @@ pub struct Subpool<N: Naming> {
     pages: u64,
     own: Permit<N>,
     held: Permit<N>,
+    // the frames of all nodes
+    frames: u64,
 }
 
 impl<N: Naming> Model for Subpool<N> {
     ghost use Rattle.std.specs.Prelude.{◌≡◌, ◌+◌, ◌-◌, ◌<◌, ◌^◌};
+    ghost use Rattle.hp_nodes.specs.Ledgers.{all_frames};
     ghost use Rattle.hp_subpool.specs.Subpool.{Subpool};
 
     ghost Value = { Subpool };
 
     ghost view = { λ s. record { max = s.max; min = s.min; pages = s.pages; held = s.held } };
 
-    ghost invariant = { λ s. (s.own ≡ s.min - (s.pages + s.held)) × (s.pages + s.held < 2 ^ 64) };
+    ghost invariant = { λ s. (s.own ≡ s.min - (s.pages + s.held)) × (s.pages + s.held < 2 ^ 64)
+        × (s.frames ≡ all_frames N.frames) };
 }
 
 impl<N: Naming> Subpool<N> {
@@ -57,6 +62,7 @@ impl<N: Naming> Subpool<N> {
             pages: 0,
             own,
             held,
+            frames: pool.frames(),
         })
     }
 
@@ -250,6 +256,13 @@ impl<N: Naming> Subpool<N> {
         self.own.amount()
     }
 
+    /// How many frames all nodes have.
+    pub fn frames(&self) -> u64
+        ensures { result ≡ all_frames N.frames }
+    {
+        self.frames
+    }
+
     /// All that this one has, as a subpool of its own. Nothing is left here, and no minimum.
     pub fn take_all(&mut self) -> Subpool<N>
         ensures all { result ≡ self.old }
@@ -261,6 +274,7 @@ impl<N: Naming> Subpool<N> {
             pages: self.pages,
             own: self.own.split(self.own.amount()),
             held: self.held.split(self.held.amount()),
+            frames: self.frames,
         };
         self.min = 0;
         self.pages = 0;
@@ -277,6 +291,7 @@ impl<N: Naming> Subpool<N> {
             pages: _,
             own,
             held,
+            frames: _,
         } = self;
         own.close();
         held.close();
@@ -294,6 +309,7 @@ impl<N: Naming> Subpool<N> {
             pages: _,
             mut own,
             held,
+            frames: _,
         } = self;
         own.join(held);
         pool.release(own);

@@ -251,7 +251,7 @@ fn a_page_by_a_grant<N: Naming, R: Abort>(rt: &R, alloc: Global, door: &mut Noti
         Ok(_page) => panic!(rt; "there is no place"),
         Err(refusal) => same!(rt; refusal, Refusal::TraceFull),
     }
-    let mut none = PageStore::new(alloc);
+    let mut none = PageStore::new(alloc, share.frames() as usize);
     PoolDoor::empty(&mut door.pool, &mut share, &mut none);
     share.end();
     none.close();

@@ -62,7 +62,7 @@ fn worked<N: Naming>(alloc: Global, blanks: Blanks) -> Result<([u64; 4], u64), A
         frames.close();
         return Err(AllocError);
     };
-    let mut store = PageStore::<N>::new(alloc);
+    let mut store = PageStore::<N>::new(alloc, nodes.sums().frames as usize);
     if let Err(_) = store.make_room(1) {
         if let Err(refused) = store.make_room(1) {
             nodes.close();

@@ -14,4 +14,6 @@ invariant_of-self g c =
       within = omega (arith, used, ap length pages.items);
       pages_room = omega (arith, was.pages_room, pages.lower_bound, less);
       holders_room = omega (arith, was.holders_room, holders.lower_bound, less);
+      pages_few = omega (arith, was.pages_few, pages.capacity);
+      holders_few = omega (arith, was.holders_few, holders.capacity);
     }

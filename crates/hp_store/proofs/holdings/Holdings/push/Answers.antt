@@ -20,6 +20,8 @@ invariant_of-self g c =
       within = omega (arith, rw (← c.self.view_is) at c.requires, long _ _ c.self.invariant.counted, ap length c.push_reserved.ensures.items, length_push c.self.inside.pages.items (Some c.args.page));
       pages_room = omega (arith, c.push_reserved.ensures.capacity, c.self.invariant.pages_room);
       holders_room = omega (arith, c.push_reserved-2.ensures.capacity, c.self.invariant.holders_room);
+      pages_few = omega (arith, c.push_reserved.ensures.capacity, c.self.invariant.pages_few);
+      holders_few = omega (arith, c.push_reserved-2.ensures.capacity, c.self.invariant.holders_few);
     }
 
 pub returns : goal.returns

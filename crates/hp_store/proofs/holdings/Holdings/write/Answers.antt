@@ -23,6 +23,8 @@ invariant_of-self g c =
       within = omega (arith, length-set c.self.inside.pages.items c.args.at (Some c.write.new.self), c.self.invariant.within);
       pages_room = c.self.invariant.pages_room;
       holders_room = c.self.invariant.holders_room;
+      pages_few = c.self.invariant.pages_few;
+      holders_few = c.self.invariant.holders_few;
     }
 
 pub returns : goal.returns

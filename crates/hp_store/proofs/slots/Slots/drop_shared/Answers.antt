@@ -11,10 +11,10 @@ returns-clause-dropped g c = λ several.
 pub invariant_of-self : goal.invariant_of-self
 invariant_of-self g c =
     let some = rw (← c.number.ensures) at (rw (← c.self.view_is) at c.requires) in
-    numbered_either c.self.inside.used _ _ held_once_less c.number.result c.self.invariant some c.drop_shared.new.self c.drop_shared.result c.drop_shared.ensures.dropped c.drop_shared.ensures.same
+    numbered_either c.self.inside.used _ _ _ held_once_less c.number.result c.self.invariant some c.drop_shared.new.self c.drop_shared.result c.drop_shared.ensures.dropped c.drop_shared.ensures.same
 
 pub returns-clause-held : goal.returns-clause-held
 returns-clause-held g c =
     let some = rw (← c.number.ensures) at (rw (← c.self.view_is) at c.requires) in
-    rw (← c.self.view_is) (held_either c.self.inside.used _ _ held_once_less c.number.result c.self.invariant some c.drop_shared.new.self
+    rw (← c.self.view_is) (held_either c.self.inside.used _ _ _ held_once_less c.number.result c.self.invariant some c.drop_shared.new.self
     c.drop_shared.result c.drop_shared.ensures.dropped c.drop_shared.ensures.same)

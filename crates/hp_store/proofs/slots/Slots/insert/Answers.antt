@@ -13,6 +13,7 @@ invariant_of-self g c =
       listed = free_taken slots c.self.inside.free.items c.pop.new.self.items c.in-Some.at (first_held c.args.page) c.self.invariant.listed c.in-Some.ensures.items;
       within = omega (arith, len, c.self.invariant.within);
       free_room = omega (arith, c.self.invariant.free_room, c.pop.ensures.capacity);
+      free_few = omega (arith, c.self.invariant.free_few, c.pop.ensures.capacity);
       few = c.self.invariant.few;
     })
 

@@ -1,4 +1,4 @@
-use Rattle.std.proofs.Common.{◌≡◌, ◌≤◌, length, arith}
+use Rattle.std.proofs.Common.{◌≤◌, length, arith}
 use Rattle.hp_store.proofs.Room.{held_free, lengthens, long}
 use Rattle.hp_store.proofs.slots.Slots.lower.Goals as goal
 

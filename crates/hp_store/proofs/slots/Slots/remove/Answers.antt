@@ -21,5 +21,6 @@ invariant_of-self g c =
       listed = free_given slots c.self.inside.free.items c.args.at c.self.invariant.listed some;
       within = omega (arith, length-set slots c.args.at None, c.self.invariant.within);
       free_room = omega (arith, c.self.invariant.free_room, c.push_reserved.ensures.capacity);
+      free_few = omega (arith, c.self.invariant.free_few, c.push_reserved.ensures.capacity);
       few = c.self.invariant.few;
     })
