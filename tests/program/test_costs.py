@@ -31,14 +31,21 @@ def must_take_less(run):
 BACK = pow(0x9E37_79B9_7F4A_7C15, -1, 1 << 64)
 
 
+def task_of(product):
+    """The task's number of which this is the product by whose upper bits tasks are told apart."""
+    joined = product * BACK % (1 << 64)
+    return (joined ^ joined >> 32) * BACK % (1 << 64)
+
+
 @pytest.mark.parametrize("most, numbers, absent", [
     pytest.param(0.5, range(4000), 4000, id="in a row"), pytest.param(0.5, range(4000, 0, -1), 4001, id="falling"),
     pytest.param(0.5, range(0, 4000 << 14, 1 << 14), 1, id="16,384 apart"), pytest.param(0.5, range(0, 4000 << 16, 1 << 16), 1, id="65,536 apart"),
     pytest.param(0.5, random.Random(1).sample(range(1 << 32), 4000), 1 << 32, id="anyhow"),
-    pytest.param(4, [BACK * at % (1 << 64) for at in range(1, 4001)], BACK * 5000 % (1 << 64), id="of one rest")])
+    pytest.param(0.5, range(0, 4000 << 5, 1 << 5), 1, id="32 apart"), pytest.param(0.5, range(0, 4000 * 233, 233), 1, id="233 apart"),
+    pytest.param(4, [task_of(at) for at in range(1, 4001)], task_of(5000), id="of one rest")])
 def test_finds_tasks_of_any_numbers(must_take_less, most, numbers, absent):
-    """Tasks come and go, and are found or known not to be there, whichever numbers a client picks: in a row, with the same lower bits, or anyhow, without a
-    move of all others; such that their products with the odd number by which tasks are told apart have the same upper bits, in some hundred steps."""
+    """Tasks come and go, and are found or known not to be there, whichever numbers a client picks: in a row, so far apart, or anyhow, without a move of all
+    others; such that the products by which tasks are told apart have the same upper bits, in some hundred steps."""
     tasks, lowest = [f"connect {it} 0" for it in numbers], sorted(numbers)[:400]
     must_take_less(most, tasks, 200 * [line for it in lowest for line in (f"exit {it}", f"connect {it} 0")])
     must_take_less(1, tasks, 5 * [line for it in numbers for line in (f"attach {it}", f"attach {absent}")])

@@ -1,5 +1,5 @@
 -- The task table as it is kept.
-use Rattle.std.specs.Prelude.{◌≡◌, ℕ, ◌*◌, ◌%◌, ◌/◌, ◌^◌, ◌<◌, ◌≤◌, ◌==◌, Bool, false, List, length, Option, None, Some}
+use Rattle.std.specs.Prelude.{◌≡◌, ℕ, ◌*◌, ◌%◌, ◌/◌, ◌^◌, ◌<◌, ◌≤◌, ◌==◌, Bool, false, bit_xor, List, length, Option, None, Some}
 use Rattle.std.specs.List.{count_by, filter_map, slice_index_or}
 use Rattle.std.specs.List.Sorted.{IsNonDecreasing}
 use Rattle.hp_model.specs.machine.Table.{Table}
@@ -26,7 +26,7 @@ has_task task (Some e) = e.0 == task
 
 -- tasks' numbers are told apart by so many rests
 abbrev pub rests : ℕ
-rests = 4 * most_tasks
+rests = 8 * most_tasks
 
 -- numbers that don't fall, with a place for each, in room for all tasks
 pub record IsOrdered (tasks : List ℕ) (stands tasks_capacity stands_capacity : ℕ) : Type 0 where
@@ -45,9 +45,13 @@ pub record IsPlaceFor (tasks : List ℕ) (task at : ℕ) : Type 0 where
   pub before : (k : ℕ) → k < at → slice_index_or tasks k 0 ≤ task
   pub behind : (k : ℕ) → at ≤ k → k < length tasks → task ≤ slice_index_or tasks k 0
 
--- which number stands for a task's: the upper bits of its product with an odd constant
+-- a number's product with an odd constant, in 64 bits
+abbrev pub spread : ℕ → ℕ
+spread n = n * 11400714819323198485 % 2 ^ 64
+
+-- which number stands for a task's: the upper bits of such a product, of such a product whose upper half is joined to its lower one
 unfoldable pub task_rest : ℕ → ℕ
-task_rest task = task * 11400714819323198485 % 2 ^ 64 / 2 ^ 50
+task_rest task = spread (bit_xor (spread task) (spread task / 2 ^ 32)) / 2 ^ 49
 
 abbrev pub has_rest : ℕ → TaskRow → Bool
 has_rest rest None = false

@@ -9,10 +9,10 @@ use std::marker::Model;
 // Tasks stand in so many slots at most: as many are gaps, before the gaps are closed.
 const MOST_SLOTS: usize = 2 * MOST_TASKS;
 
-// Tasks' numbers are told apart by their rest: four for each task that there may be.
-const RESTS: usize = 4 * MOST_TASKS;
+// Tasks' numbers are told apart by their rest: eight for each task that there may be.
+const RESTS: usize = 8 * MOST_TASKS;
 
-// An odd number near 2^64 divided by the golden ratio: the upper bits of its products lie apart, whichever bits of the numbers differ.
+// An odd number near 2^64 divided by the golden ratio: to the upper bits of its products each bit of the numbers counts.
 const SPREAD: u64 = 0x9e37_79b9_7f4a_7c15;
 
 type Slot = Option<(u64, u64)>;
@@ -56,7 +56,8 @@ fn rest_of(task: u64) -> usize
     ensures rest { result ≡ task_rest task }
     ensures few { result < rests }
 {
-    (task.wrapping_mul(SPREAD) >> 50) as usize
+    let product = task.wrapping_mul(SPREAD);
+    ((product ^ (product >> 32)).wrapping_mul(SPREAD) >> 49) as usize
 }
 
 fn stands_at(slots: &[Slot], task: u64, at: usize) -> bool
