@@ -15,9 +15,8 @@ ghost use Rattle.hp_model.specs.Profile.{most_bytes};
 ghost use Rattle.hp_model.specs.text.Writing.{IsWithinLimits};
 ghost use Rattle.hp_events.specs.Answered.{HasPlace, IsHanded};
 ghost use Rattle.hp_events.specs.Replies.{names_reply, table_reply};
-ghost use Rattle.hp_events.specs.SlotWork.{AreCopiesFor, IsAnother, asked_event, is_exit, needs_room};
+ghost use Rattle.hp_events.specs.SlotWork.{AreCopiesFor, IsAnother, asked_event, has_maps_for, is_exit, needs_room};
 ghost use Rattle.hp_shared.specs.Ended.{IsCount};
-ghost use Rattle.hp_shared.specs.SlotWork.{has_maps_for};
 
 use atomic_table::Badge;
 use hp_events::copies::Copies;

@@ -3,6 +3,8 @@ use Rattle.std.specs.Prelude.{◌≡◌, ◌==◌, ℕ, Bool, true, false, Optio
 use Rattle.hp_model.specs.beside.Copying.{has_bytes}
 use Rattle.hp_model.specs.declared.event.SlotEvent.{SlotEvent}
 use Rattle.hp_model.specs.declared.event.SlotEvent.TheVariants as slot
+use Rattle.hp_model.specs.machine.Event.{has_maps_of}
+use Rattle.hp_model.specs.machine.Plan.{Slot}
 use Rattle.hp_events.specs.Copies.{AreCopies, bytes_of_event}
 use Rattle.hp_events.specs.Event.{as_event, shows_bytes}
 use Rattle.hp_events.specs.declared.slot_work.SlotWork.{SlotWork}
@@ -32,6 +34,19 @@ abbrev pub is_of_maps : SlotWork → Bool
 is_of_maps (Fork parent child) = true
 is_of_maps (Exit task) = true
 is_of_maps other = false
+
+-- the slot has the maps that it goes by
+abbrev pub has_maps_for : SlotWork → Slot → Bool
+has_maps_for (Fork parent child) s = has_maps_of parent s
+has_maps_for (Exit task) s = has_maps_of task s
+has_maps_for other s = true
+
+-- a door had no room for its section: never where it gives back alone, which always has its place
+abbrev pub full_for : Type 0 → SlotWork → Type 0
+full_for full Umount = ⊥
+full_for full (Fork parent child) = ⊥
+full_for full (Exit task) = ⊥
+full_for full other = full
 
 -- a child is not its parent
 abbrev pub IsAnother : SlotWork → Type 0

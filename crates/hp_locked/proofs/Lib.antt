@@ -1,6 +1,5 @@
 pub mod Added
 pub mod Giving
 pub mod Rows
-pub mod Opening
 pub mod Small
 pub mod Doors

@@ -1,4 +1,3 @@
 pub mod Doors
 pub mod Views
-pub mod Opened
 pub mod Told

@@ -5,7 +5,6 @@ ghost use Rattle.hp_history.specs.Sections.{IsEntered, IsFree};
 ghost use Rattle.hp_model.specs.declared.entry.Asked.{Asked as AskedValue};
 ghost use Rattle.hp_model.specs.declared.section.PoolAnswer.{PoolAnswer};
 ghost use Rattle.hp_model.specs.declared.section.Section.{Section};
-ghost use Rattle.hp_locked.specs.Opened.{IsOpenedAt};
 ghost use Rattle.hp_locked.specs.Views.{HasAsked};
 
 use crate::gate::Gate;
@@ -92,33 +91,6 @@ impl<'a, N: Naming + Places, R: Wait, G: Gate, S: Notes, const K: usize> Door<'a
     {
         let Door { mine, .. } = self;
         mine
-    }
-
-    // The section of a mount, as `SessionDoor::open` has it.
-    fn open_share(
-        &mut self,
-        options: &[u8],
-        page_bytes: u64,
-    ) -> Result<(Subpool<N>, Limits), Refusal>
-        requires ready { self.old.asked ≡ None }
-        requires bytes { 0 < page_bytes }
-        ensures { IsOpenedAt (λ d s a e. HasAsked e.asked s a
-            × IsEntered (K == 1) d.mine e.asked e.mine)
-            (λ d. (d.asked ≡ None) × ((K == 1) ≡ true)) page_bytes options.now
-            self.old self.new result }
-    {
-        let mine = &mut self.mine;
-        let opened = self
-            .core
-            .lock(self.rt)
-            .open(self.history, mine, options, page_bytes);
-        match opened {
-            Err(_full) => Err(Refusal::TraceFull),
-            Ok((share, asked)) => {
-                self.noted.note(Some(asked));
-                share
-            }
-        }
     }
 
     /// Whether the pool was entered.
@@ -241,6 +213,21 @@ impl<'a, N: Naming + Places, R: Wait, G: Gate, S: Notes, const K: usize> PoolDoo
         self.noted.note(asked);
     }
 
+    fn open(&mut self, page_bytes: u64, options: &[u8]) -> Result<(Subpool<N>, Limits), Refusal> {
+        let mine = &mut self.mine;
+        let opened = self
+            .core
+            .lock(self.rt)
+            .open(self.history, mine, page_bytes, options);
+        match opened {
+            Err(_full) => Err(Refusal::TraceFull),
+            Ok((share, asked)) => {
+                self.noted.note(Some(asked));
+                share
+            }
+        }
+    }
+
     fn limits(
         &mut self,
         share: &mut Subpool<N>,
@@ -284,14 +271,6 @@ pub trait SessionDoor<N: Naming>: PoolDoor<N> {
     fn asked(&self) -> Option<Asked>
         ensures { keeps ≡ true → result ≡ asked self.now };
 
-    /// The section of a mount: reads nr, and commits the minimum that the options mean at it, for pages of so many bytes.
-    /// The share and the limits, or BadOption, MinOverSize or NoPages; or TraceFull, and then there was none.
-    fn open(&mut self, options: &[u8], page_bytes: u64) -> Result<(Subpool<N>, Limits), Refusal>
-        requires ready { Self.PoolDoor.is_ready self.old }
-        requires bytes { 0 < page_bytes }
-        ensures { IsOpenedAt Self.PoolDoor.took Self.PoolDoor.is_full page_bytes options.now
-            self.old self.new result };
-
     // a door that is ready was not used
     ghost begins: { (d : Self) → Self.PoolDoor.is_ready d → asked d ≡ None };
 
@@ -315,9 +294,5 @@ impl<'a, N: Naming + Places, R: Wait, G: Gate, S: Notes, const K: usize> Session
 
     fn asked(&self) -> Option<Asked> {
         self.asked_section()
-    }
-
-    fn open(&mut self, options: &[u8], page_bytes: u64) -> Result<(Subpool<N>, Limits), Refusal> {
-        self.open_share(options, page_bytes)
     }
 }

@@ -7,8 +7,10 @@ ghost use Rattle.hp_model.specs.pool.Pool.{filled_by, granted_at};
 ghost use Rattle.hp_subpool.specs.Subpool.{committed_of, fall, is_full as ShareIsFull, rise, used};
 ghost use Rattle.hp_mount_door.specs.Filling.{AreRising, fill_for, with_filled};
 ghost use Rattle.hp_mount_door.specs.Limits.{IsLimitedAt};
+ghost use Rattle.hp_mount_door.specs.Opened.{IsOpenedAt};
 ghost use Rattle.hp_mount_door.specs.Door.{IsDoorRefusal, IsRefusedAt, GivesBack, by_node, grant_for, grant_one, with_page, with_granted, with_reserves, with_less};
 
+use hp_model::limits::Limits;
 use hp_model::naming::Naming;
 use hp_model::refusal::Refusal;
 use hp_nodes::Page;
@@ -114,6 +116,17 @@ pub trait PoolDoor<N: Naming> {
         ensures share { share.new
             ≡ with_less (length going.old.going) reserves share.old }
         ensures going { going.new ≡ record going.old { going = [] } }
+        ensures left { is_left self.new };
+
+    /// A share of which nothing is in use, with the limits that the options mean at the pool's nr, for pages of `page_bytes`
+    /// bytes; and these limits. It is always a section, which commits the minimum at home node 0.
+    ///
+    /// Refused as BadOption, MinOverSize or NoPages, and as TraceFull where the section can't be noted.
+    fn open(&mut self, page_bytes: u64, options: &[u8]) -> Result<(Subpool<N>, Limits), Refusal>
+        requires ready { is_ready self.old }
+        requires bytes { 0 < page_bytes }
+        ensures opened { IsOpenedAt took is_full page_bytes options.now
+            self.old self.new result }
         ensures left { is_left self.new };
 
     /// Sets the share's limits to what the options mean at the pool's nr, for pages of `page_bytes` bytes, and answers the

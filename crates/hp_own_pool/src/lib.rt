@@ -3,6 +3,7 @@
 
 pub mod filling;
 pub mod limits;
+pub mod opening;
 mod own;
 mod parcel;
 

@@ -62,8 +62,8 @@ fn minimum_section<N: Naming>(share: &Subpool<N>, min: u64) -> Section
     }
 }
 
-/// The pool's answer where nr is read.
-pub fn read_nr(granted: bool, nr: u64) -> PoolAnswer
+// The pool's answer where nr is read.
+pub(crate) fn read_nr(granted: bool, nr: u64) -> PoolAnswer
     ensures { result ≡ read_nr granted nr }
 {
     PoolAnswer {

@@ -17,8 +17,10 @@ ghost use Rattle.hp_own_pool.specs.Parcel.{IsPart, claimed};
 
 use crate::filling::{add_claim, take_pages};
 use crate::limits::set_limits;
+use crate::opening::open_share;
 use crate::parcel::Parcel;
 use hp_model::answer::{Counts, NodeCount};
+use hp_model::limits::Limits;
 use hp_model::naming::Naming;
 use hp_model::refusal::Refusal;
 use hp_mount_door::PoolDoor;
@@ -88,7 +90,7 @@ impl<N: Naming> OwnPool<N> {
     }
 
     /// A share with nothing in use, whose minimum is committed at home node 0. See `Subpool::open`.
-    pub fn open(&mut self, max: Option<u64>, min: u64) -> Result<Subpool<N>, Refusal>
+    pub fn share(&mut self, max: Option<u64>, min: u64) -> Result<Subpool<N>, Refusal>
         requires { IsSettled self.old }
         ensures granted { IsOk result ↔ IsTrue (can_grant min self.old) }
         ensures ok { IfOk result (λ s. (s ≡ opened max min) × (self.new ≡ granted 0 min self.old)) }
@@ -271,6 +273,11 @@ impl<N: Naming> PoolDoor<N> for OwnPool<N> {
         put_pages(&mut self.pool, &mut self.frames, share, going);
         share.put_reserves(&mut self.pool, reserves);
         self.pool.settle();
+    }
+
+    fn open(&mut self, page_bytes: u64, options: &[u8]) -> Result<(Subpool<N>, Limits), Refusal> {
+        let (share, _section, _answer) = open_share(&mut self.pool, page_bytes, options);
+        share
     }
 
     fn limits(

@@ -8,7 +8,7 @@ use Rattle.hp_model.specs.declared.refusal.Refusal.TheVariants as r
 use Rattle.hp_model.specs.declared.section.PoolAnswer.{PoolAnswer}
 use Rattle.hp_model.specs.declared.section.Section.{Section}
 use Rattle.hp_model.specs.beside.Copying.{has_names, reply_has_names}
-use Rattle.hp_model.specs.machine.Plan.{Answered, Ask, Choice, Finish, Outcome, Plan, Refused, Reply, Slot, refuse}
+use Rattle.hp_model.specs.machine.Plan.{Answered, Ask, Finish, Outcome, Plan, Refused, Reply, Slot}
 use Rattle.hp_model.specs.machine.SlotEvent.{slot_event}
 use Rattle.hp_model.specs.text.Writing.{IsWithinLimits}
 use Rattle.hp_model.specs.threads.LocalRun.{Gives, Goes, ThroughDoor}
@@ -20,20 +20,17 @@ use Rattle.hp_laws.proofs.promises.SmallReplies.{Small, slot_small, tells_all}
 use Rattle.hp_history.specs.declared.held.Held.{Held}
 use Rattle.hp_history.specs.Sections.{IsEntered}
 use Rattle.hp_locked.specs.Views.{HasAsked}
-use Rattle.hp_events.specs.declared.event.MountEvent.{MountEvent}
-use Rattle.hp_events.specs.declared.event.MountEvent.TheVariants as m
 use Rattle.hp_mount_laws.specs.Done.{IsDone, Through}
-use Rattle.hp_events.specs.Event.{as_event, is_usage}
-use Rattle.hp_mount_laws.proofs.Ways.{fresh_choice, is_fresh}
+use Rattle.hp_events.specs.Event.{is_usage}
 use Rattle.hp_events.specs.Answered.{Went}
 use Rattle.hp_events.proofs.Came.{always_came}
 use Rattle.hp_shared.specs.Slots.{IsActedOr}
 
 -- a door that was not used has its seat as it was
-pub unused : {X : Type 0} (keeps : Bool) (asked : X → Option Asked) (mine : X → List Held) (d : X) → asked d ≡ None → IsEntered keeps (mine d) (asked d) (mine d)
+unused : {X : Type 0} (keeps : Bool) (asked : X → Option Asked) (mine : X → List Held) (d : X) → asked d ≡ None → IsEntered keeps (mine d) (asked d) (mine d)
 unused keeps asked mine d none = subst (λ (a : Option Asked). IsEntered keeps (mine d) a (mine d)) (sym none) refl
 
-pub stayed : {X : Type 0} (keeps : Bool) (asked : X → Option Asked) (mine : X → List Held) (d e : X) → asked d ≡ None → e ≡ d → IsEntered keeps (mine d) (asked e) (mine e)
+stayed : {X : Type 0} (keeps : Bool) (asked : X → Option Asked) (mine : X → List Held) (d e : X) → asked d ≡ None → e ≡ d → IsEntered keeps (mine d) (asked e) (mine e)
 stayed keeps asked mine d e none is = subst (λ x. IsEntered keeps (mine d) (asked x) (mine x)) (sym is) (unused keeps asked mine d none)
 
 -- a door that was not used tells what it was asked
@@ -46,7 +43,7 @@ goes_on asked (Ask sec f) old d reply new e none (a, took, gives) =
 -- through any door that tells what it was asked, and how its seat went
 module _ {X : Type 0} (keeps : Bool) (asked : X → Option Asked) (mine : X → List Held) (took : X → Section → PoolAnswer → X → Type 0) (full : X → Type 0)
     (tells : (d : X) (s : Section) (a : PoolAnswer) (e : X) → took d s a e → HasAsked (asked e) s a × IsEntered keeps (mine d) (asked e) (mine e)) where
-  pub plan_entered : (p : Plan) (old : Slot) (d : X) (reply : Reply) (new : Slot) (e : X) → asked d ≡ None → ThroughDoor took p old d reply new e → IsEntered keeps (mine d) (asked e) (mine e)
+  plan_entered : (p : Plan) (old : Slot) (d : X) (reply : Reply) (new : Slot) (e : X) → asked d ≡ None → ThroughDoor took p old d reply new e → IsEntered keeps (mine d) (asked e) (mine e)
   plan_entered (Finish o) old d reply new e none t = stayed keeps asked mine d e none t.1
   plan_entered (Ask sec f) old d reply new e none (a, t, gives) = (tells d (sec a.nr) a e t).1
 
@@ -158,31 +155,3 @@ module _ (full : Type 0) (size k : ℕ) (old : Slot) (e : SlotEvent) (asked : Op
   acted_plain (Ok a) acted apart =
       let came = always_came HasNoNames (slot_event size k acted.0 old e) asked old (Ok a) new (names_are_listed size k acted.0 old e apart) acted.2 in
       named a came.0 came.1 came.2
-
--- ---- a slot without a mount
-
-none_event : (size k : ℕ) (c : Choice) (home : ℕ) (e : MountEvent) → slot_event size k c None (as_event home e) ≡ refuse r.NoSuchSlot
-none_event size k c home (m.Create name) = refl
-none_event size k c home (m.Unlink name) = refl
-none_event size k c home (m.Truncate name pages) = refl
-none_event size k c home (m.Punch name start end) = refl
-none_event size k c home (m.Preallocate name start end) = refl
-none_event size k c home (m.Stat name) = refl
-none_event size k c home (m.Read name index offset count) = refl
-none_event size k c home (m.Map task name start pages sharing reserving) = refl
-none_event size k c home (m.Anon task pages sharing reserving) = refl
-none_event size k c home (m.Unmap task map start end) = refl
-none_event size k c home (m.Fault task map index intent) = refl
-none_event size k c home (m.Load task map index offset count) = refl
-none_event size k c home (m.Store task map index offset bytes) = refl
-none_event size k c home m.Ls = refl
-none_event size k c home m.Usage = refl
-
-pub none_acted : (full : Type 0) (size k home : ℕ) (e : MountEvent) (asked : Option Asked) → asked ≡ None → IsActedOr full size k None (as_event home e) (Err r.NoSuchSlot) asked None
-none_acted full size k home e asked none =
-    let c : Choice = fresh_choice false None in (
-      c,
-      is_fresh false None,
-      subst (λ (x : Option Asked). Goes (slot_event size k c None (as_event home e)) x None (Err r.NoSuchSlot) None) (sym none)
-          (subst (λ p. Goes p None None (Err r.NoSuchSlot) None) (sym (none_event size k c home e)) (refl, refl)),
-    )

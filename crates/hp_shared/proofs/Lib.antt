@@ -5,7 +5,6 @@ pub mod Acting
 pub mod SlotsKept
 pub mod Parted
 pub mod SeatedKept
-pub mod Unmounting
 pub mod Naming
 pub mod Opened
 mod Gathered

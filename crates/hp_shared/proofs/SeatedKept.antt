@@ -24,7 +24,7 @@ use Rattle.hp_events.specs.Replies.{is_trace_full}
 use Rattle.hp_shared.specs.Seated.{IsSeatedDone, IsSeatedEvent, IsSeatedSlot, SeatedView, run_in, session_left, slot_left, slot_receipt}
 use Rattle.hp_events.specs.declared.slot_work.SlotWork.{SlotWork}
 use Rattle.hp_events.specs.declared.slot_work.SlotWork.TheVariants as w
-use Rattle.hp_shared.specs.SlotWork.{full_for}
+use Rattle.hp_events.specs.SlotWork.{full_for}
 use Rattle.hp_shared.specs.Slots.{IsSlotEvent, IsSlotEventDone, SlotView, slot_start}
 use Rattle.hp_shared.proofs.SlotsKept.{done_in, done_put, full_in, full_put, slot_push}
 use Rattle.hp_shared.proofs.Kept.{kept_more}

@@ -31,8 +31,7 @@ use Rattle.hp_events.specs.Event.{as_event}
 use Rattle.hp_shared.proofs.Acting.{always_goes}
 use Rattle.hp_events.specs.declared.slot_work.SlotWork.{SlotWork}
 use Rattle.hp_events.specs.declared.slot_work.SlotWork.TheVariants as w
-use Rattle.hp_events.specs.SlotWork.{asked_event, is_exit}
-use Rattle.hp_shared.specs.SlotWork.{has_maps_for}
+use Rattle.hp_events.specs.SlotWork.{asked_event, has_maps_for, is_exit}
 use Rattle.hp_shared.proofs.Places.{has_closing, places_after, room_closing}
 
 pub slot_push : (size k : ℕ) (s : Slot) (es : List SlotEntry) (m : Slot) (e : SlotEntry) (q : Slot) → IsLocalRun size k s es m → IsLocalStep size k m e q → IsLocalRun size k s (es ++ e ∷ []) q

@@ -1,6 +1,5 @@
 pub mod Tables
 pub mod Slots
-pub mod SlotWork
 pub mod Sharing
 pub mod Seated
 pub mod Ended

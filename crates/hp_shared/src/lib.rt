@@ -5,17 +5,15 @@ mod ended;
 mod finished;
 mod locked_slot;
 mod making;
-mod mounting;
 mod names;
 mod opener;
 mod parting;
-mod remounting;
 mod seated_slot;
 mod seats;
 mod shared;
-mod slot;
 mod spare;
 mod table;
+mod told;
 mod ways;
 
 pub use ended::Ended;

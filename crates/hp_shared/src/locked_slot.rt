@@ -14,14 +14,13 @@ ghost use Rattle.hp_locked.specs.Told.{IsReceipt};
 ghost use Rattle.hp_locked.specs.Views.{IsNewTrail};
 ghost use Rattle.hp_events.specs.Event.{as_event, shows_bytes};
 ghost use Rattle.hp_events.specs.Replies.{is_trace_full};
-ghost use Rattle.hp_events.specs.SlotWork.{AreCopiesFor, IsAnother, asked_event, is_exit, needs_room};
+ghost use Rattle.hp_events.specs.SlotWork.{AreCopiesFor, IsAnother, asked_event, full_for, has_maps_for, is_exit, needs_room};
 ghost use Rattle.hp_shared.specs.Slots.{IsSlotEvent, IsSlotTrail, slot_start};
-ghost use Rattle.hp_shared.specs.SlotWork.{full_for, has_maps_for};
 ghost use Rattle.hp_trail.specs.Keeping.{has_room, one_less, with_entry};
 
 mod listing;
 
-use crate::slot::{act, ask, copied, is_full};
+use crate::told::{copied, is_full};
 use hp_events::copies::Copies;
 use hp_events::{MountEvent, SlotWork};
 use hp_locked::SessionDoor;
@@ -32,6 +31,7 @@ use hp_model::refusal::Refusal;
 use hp_model::told::Told;
 use hp_mount::Mount;
 use hp_mount_door::PoolDoor;
+use hp_slot::{act, ask};
 use hp_trail::trail::Trail;
 use std::alloc::Global;
 use std::marker::Model;
@@ -120,21 +120,14 @@ impl<N: Naming, T: Trail<SlotEntry>> Slot<N, T> {
     pub fn has_maps(&self, task: u64) -> bool
         ensures { result ≡ has_maps_of task self.now.mount }
     {
-        match &self.mount {
-            None => false,
-            Some(mount) => mount.has_maps(task),
-        }
+        hp_slot::has_maps(&self.mount, task)
     }
 
     /// Whether the slot has the maps that this goes by, if it goes by a task's maps.
     pub fn has_maps_for(&self, work: &SlotWork<'_>) -> bool
         ensures { result ≡ has_maps_for work.now self.now.mount }
     {
-        match *work {
-            SlotWork::Fork { parent, .. } => self.has_maps(parent),
-            SlotWork::Exit { task } => self.has_maps(task),
-            _ => true,
-        }
+        hp_slot::has_maps_for(&self.mount, work)
     }
 
     /// Does what is asked: its reply, with bytes in the front of the room, and its receipt where entries are kept. For these
@@ -216,7 +209,9 @@ impl<N: Naming, T: Trail<SlotEntry>> Slot<N, T> {
             mount,
             trail: _,
         } = self;
-        act(mount, door, page_bytes, home, event, room)
+        let mut reply = Ok(Told::Done);
+        act(mount, door, page_bytes, home, &event, room, &mut reply);
+        reply
     }
 }
 

@@ -93,7 +93,7 @@ pub(crate) fn first_mount<N: Naming>(alloc: Global, pool: &mut OwnPool<N>) -> Mo
     ensures mount { result ≡ open_mount }
     ensures pool { pool.new ≡ pool.old }
 {
-    match pool.open(None, 0) {
+    match pool.share(None, 0) {
         Ok(share) => Mount::new(alloc, share, None),
         Err(_refusal) => unreachable!(),
     }

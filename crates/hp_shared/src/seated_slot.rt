@@ -14,10 +14,9 @@ ghost use Rattle.hp_history.specs.History.{IsSession};
 ghost use Rattle.hp_history.specs.Sections.{IsFree, IsHeld, free_slot, session_view};
 ghost use Rattle.hp_locked.specs.Views.{IsNewTrail, IsTrailOf};
 ghost use Rattle.hp_events.specs.Replies.{is_trace_full, names_reply};
-ghost use Rattle.hp_events.specs.SlotWork.{AreCopiesFor, IsAnother, asked_event, is_exit, needs_room};
+ghost use Rattle.hp_events.specs.SlotWork.{AreCopiesFor, IsAnother, asked_event, full_for, has_maps_for, is_exit, needs_room};
 ghost use Rattle.hp_shared.specs.Seated.{IsSeatedDone, IsSeatedEvent, first_of, run_in, session_left, slot_left, slot_view};
 ghost use Rattle.hp_shared.specs.Slots.{IsSlotTrail, slot_start};
-ghost use Rattle.hp_shared.specs.SlotWork.{full_for, has_maps_for};
 
 use crate::locked_slot::Slot;
 use crate::seats::{join, leave, leave_names};

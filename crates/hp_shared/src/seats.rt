@@ -8,7 +8,7 @@ ghost use Rattle.hp_events.specs.Replies.{is_trace_full, names_reply};
 ghost use Rattle.hp_events.specs.SlotWork.{asked_event};
 ghost use Rattle.hp_shared.specs.Seated.{first_of, session_left, slot_left};
 
-use crate::slot::is_full;
+use crate::told::is_full;
 use atomic_table::Badge;
 use hp_events::SlotWork;
 use hp_history::{History, Places, Token, View};

@@ -25,6 +25,9 @@ use Rattle.hp_events.specs.declared.event.MountEvent.{MountEvent}
 use Rattle.hp_events.specs.declared.event.MountEvent.TheVariants as event
 use Rattle.hp_mount_laws.specs.Done.{Tried}
 use Rattle.hp_events.specs.Event.{as_event}
+use Rattle.hp_events.specs.declared.slot_work.SlotWork.{SlotWork}
+use Rattle.hp_events.specs.declared.slot_work.SlotWork.TheVariants as work
+use Rattle.hp_events.specs.SlotWork.{asked_event, full_for, is_of_maps}
 use Rattle.hp_mount_door.specs.Door.{IsReady as IsReadyPool}
 use Rattle.hp_system.specs.Event.{IsCarried, took}
 use Rattle.hp_model.specs.machine.Ready.{machine_of, state_of, IsReadyMachine, Machine}
@@ -58,6 +61,21 @@ pub never_full : (plan : Choice → Plan) (old new : Slot) (p q : Pool) (reply :
 never_full plan old new p q (Ok a) h = h
 never_full plan old new p q (Err refusal.TraceFull) h = absurd h.1.1
 never_full plan old new p q (Err other) h = h
+
+never_full_for : (w : SlotWork) → full_for ⊥ w → ⊥
+never_full_for work.Umount full = full
+never_full_for (work.Fork parent child) full = full
+never_full_for (work.Exit task) full = full
+never_full_for (work.Mount options) full = full
+never_full_for (work.Remount options) full = full
+never_full_for (work.OfMount home e) full = full
+
+-- nor has it none for any work
+pub never_full_at : (w : SlotWork) (plan : Choice → Plan) (old new : Slot) (p q : Pool) (reply : Reply)
+    → Tried took (λ d. full_for ⊥ w) plan old p reply new q → Tried took (λ d. ⊥) plan old p reply new q
+never_full_at w plan old new p q (Ok a) h = h
+never_full_at w plan old new p q (Err refusal.TraceFull) h = absurd (never_full_for w h.1.1)
+never_full_at w plan old new p q (Err other) h = h
 
 module _ (size : ℕ) (t : Table) (xs : List Slot) (k : ℕ) (p : Pool) (tied : pool_of (state_of size t xs p) ≡ p) (old new : Slot) (here : slot_in xs k ≡ old) where
   abbrev before : State
@@ -162,23 +180,14 @@ happens home (event.Store task map index offset bytes) slot = refl
 happens home event.Ls slot = refl
 happens home event.Usage slot = refl
 
--- a slot that is not mounted answers that it is not there
-pub unmounted : (size k home : ℕ) (e : MountEvent) (p : Pool) → IsCarried size k p None (as_event home e) (Err refusal.NoSuchSlot) None p
-unmounted size k home (event.Create name) p = (calm, refl, ((refl, refl), refl))
-unmounted size k home (event.Unlink name) p = (calm, refl, ((refl, refl), refl))
-unmounted size k home (event.Truncate name pages) p = (calm, refl, ((refl, refl), refl))
-unmounted size k home (event.Punch name start end) p = (calm, refl, ((refl, refl), refl))
-unmounted size k home (event.Preallocate name start end) p = (calm, refl, ((refl, refl), refl))
-unmounted size k home (event.Stat name) p = (calm, refl, ((refl, refl), refl))
-unmounted size k home (event.Read name index offset count) p = (calm, refl, ((refl, refl), refl))
-unmounted size k home (event.Map task name start pages sharing reserving) p = (calm, refl, ((refl, refl), refl))
-unmounted size k home (event.Anon task pages sharing reserving) p = (calm, refl, ((refl, refl), refl))
-unmounted size k home (event.Unmap task map start end) p = (calm, refl, ((refl, refl), refl))
-unmounted size k home (event.Fault task map index intent) p = (calm, refl, ((refl, refl), refl))
-unmounted size k home (event.Load task map index offset count) p = (calm, refl, ((refl, refl), refl))
-unmounted size k home (event.Store task map index offset bytes) p = (calm, refl, ((refl, refl), refl))
-unmounted size k home event.Ls p = (calm, refl, ((refl, refl), refl))
-unmounted size k home event.Usage p = (calm, refl, ((refl, refl), refl))
+-- so is a mount, a remount and an umount
+pub work_happens : (w : SlotWork) (slot : Slot) → is_of_maps w ≡ false → IsTrue (is_slot_event slot (asked_event w))
+work_happens (work.Mount options) slot plain = refl
+work_happens (work.Remount options) slot plain = refl
+work_happens work.Umount slot plain = refl
+work_happens (work.Fork parent child) slot plain = cc
+work_happens (work.Exit task) slot plain = cc
+work_happens (work.OfMount home e) slot plain = happens home e slot
 
 -- the task table is no part of it
 pub kept_with_table : (size bytes : ℕ) (t u : Table) (xs : List Slot) (p : Pool) → IsKept size bytes t xs p → IsKept size bytes u xs p

@@ -19,7 +19,7 @@ use Rattle.hp_model.specs.declared.section.Section.TheVariants.{GiveBack}
 use Rattle.hp_model.specs.pool.PoolCounts.{Pool, counts_by, counts_of, used}
 use Rattle.hp_model.specs.declared.node.NodeRow.{NodeRow}
 use Rattle.hp_model.specs.pool.NodeRows.{IsRow, total_of}
-use Rattle.hp_model.specs.machine.Settled.{IsSettledPool, IsSettledState}
+use Rattle.hp_model.specs.machine.Settled.{IsSettledState}
 use Rattle.hp_mount_door.specs.Door.{IsReady as IsReadyPool}
 use Rattle.hp_model.specs.machine.Sound.{IsSound}
 use Rattle.hp_model.specs.machine.State.{State}

@@ -35,9 +35,11 @@ use Rattle.hp_model.specs.declared.answer.NodeCount.{NodeCount}
 use Rattle.hp_model.specs.machine.State.{State, slot_at}
 use Rattle.hp_model.specs.machine.Step.{Script, Answer_with, Do, exit_slot, exit_slots, on_slot, only, finding, IsScript, IsStep}
 use Rattle.hp_model.specs.machine.Table.{Table, table_event, home_of, removed, when_known}
-use Rattle.hp_system.specs.Event.{AreExited, IsCarried, DoesOnSlot, load_event, store_event}
-use Rattle.hp_model.specs.machine.Ready.{machine_of, state_of, Machine}
-use Rattle.hp_system.proofs.Carries.{calm, event_done, slot_in, IsKept}
+use Rattle.hp_model.specs.machine.SlotEvent.{slot_event}
+use Rattle.hp_mount_laws.specs.Done.{IsDone}
+use Rattle.hp_system.specs.Event.{AreExited, IsCarried, DoesOnSlot, load_event, store_event, took}
+use Rattle.hp_model.specs.machine.Ready.{IsReadyMachine, machine_of, state_of, Machine}
+use Rattle.hp_system.proofs.Carries.{calm, event_done, kept_after, never_full, ready_by, slot_in, IsKept}
 
 same_length : (p : Pool) → length (map node_of p.nodes.rows) ≡ length p.nodes.rows
 same_length p = grind (arith, common_steps)
@@ -221,14 +223,10 @@ past_slots s k e past =
 pub read_slot : (xs : List Slot) (k : ℕ) (x old : Slot) → k < length xs → x ≡ slice_index_or xs k x → x ≡ old → slot_in xs k ≡ old
 read_slot xs k x old within e is = get_or_default xs k None x within ∙ sym e ∙ is
 
-pub put_back : (xs : List Slot) (k : ℕ) (x : Slot) → x ≡ slice_index_or xs k x → slice_set xs k x ≡ xs
+put_back : (xs : List Slot) (k : ℕ) (x : Slot) → x ≡ slice_index_or xs k x → slice_set xs k x ≡ xs
 put_back xs k x e = ap (slice_set xs k) e ∙ set-get_or xs k x
 
--- the state with a slot that was read and put back
-pub state_back : (size : ℕ) (t : Table) (xs : List Slot) (p : Pool) (k : ℕ) (x : Slot) (s : State) → x ≡ slice_index_or xs k x → state_of size t xs p ≡ s → s ≡ state_of size t (slice_set xs k x) p
-state_back size t xs p k x s read s_is = sym s_is ∙ ap (λ ys. state_of size t ys p) (sym (put_back xs k x read))
-
--- and the machine
+-- the machine with a slot that was read and put back
 pub machine_back : {size : ℕ} {t : Table} {xs : List Slot} {p : Pool} (k : ℕ) (x : Slot) (m : Machine) → x ≡ slice_index_or xs k x →
     machine_of size t xs p ≡ m → m ≡ machine_of size t (slice_set xs k x) p
 machine_back {size} {t} {xs} {p} k x m read is = sym is ∙ ap (λ ys. machine_of size t ys p) (sym (put_back xs k x read))
@@ -237,11 +235,11 @@ module _ (size bytes : ℕ) (t : Table) (xs : List Slot) (p : Pool) (kept : IsKe
     (k : ℕ) (within : k < length xs) (old : Slot) (here : slot_in xs k ≡ old)
     (e : SlotEvent) (happens : IsTrue (is_slot_event old e)) where
   -- what an event on the slot leaves, as an event
-  pub slot_went : (new : Slot) (q : Pool) (reply : Reply) → IsCarried size k p old e reply new q → IsEvent s (OnSlot k e) reply (state_of size t (slice_set xs k new) q)
+  slot_went : (new : Slot) (q : Pool) (reply : Reply) → IsCarried size k p old e reply new q → IsEvent s (OnSlot k e) reply (state_of size t (slice_set xs k new) q)
   slot_went new q reply h = subst (λ x. IsEvent x (OnSlot k e) reply (state_of size t (slice_set xs k new) q)) s_is (event_done size bytes t xs k old new p q e reply kept within here happens h)
 
   -- what it leaves, as a script
-  pub slot_done : (new : Slot) (q : Pool) (reply : Reply) → IsCarried size k p old e reply new q → IsScript s (on_slot (length s.slots) k e) reply (state_of size t (slice_set xs k new) q)
+  slot_done : (new : Slot) (q : Pool) (reply : Reply) → IsCarried size k p old e reply new q → IsScript s (on_slot (length s.slots) k e) reply (state_of size t (slice_set xs k new) q)
   slot_done new q reply h =
       let before : State = state_of size t xs p in
       let after : State = state_of size t (slice_set xs k new) q in
@@ -250,7 +248,21 @@ module _ (size bytes : ℕ) (t : Table) (xs : List Slot) (p : Pool) (kept : IsKe
       (subst (λ b. IsScript before (cond b (only (OnSlot k e)) (Answer_with (Err NoSuchSlot))) reply after) (sym there)
       (only_is before after (OnSlot k e) reply (event_done size bytes t xs k old new p q e reply kept within here happens h)))
 
-  -- and where it leaves the slot and the pool as they were
-  pub slot_same : (reply : Reply) → IsCarried size k p old e reply old p → IsScript s (on_slot (length s.slots) k e) reply s
-  slot_same reply h =
-      subst (λ x. IsScript s (on_slot (length s.slots) k e) reply x) (ap (λ ys. state_of size t ys p) (ap (slice_set xs k) (sym here) ∙ set-get_or xs k None) ∙ s_is) (slot_done old p reply h)
+-- what went through the pool by itself on a slot that was read, by a door that is never full: the event, the script, and what holds then
+module _ (size bytes : ℕ) (t : Table) (xs : List Slot) (p : Pool) (kept : IsKept size bytes t xs p) (s : State) (s_is : state_of size t xs p ≡ s)
+    (k : ℕ) (within : k < length xs) (x new : Slot) (read : x ≡ slice_index_or xs k x) (q : Pool) (e : SlotEvent) (happens : IsTrue (is_slot_event x e)) (reply : Reply)
+    (done : IsDone took (λ d. ⊥) bytes k x p e reply new q) where
+  carried : IsCarried size k p x e reply new q
+  carried = subst (λ n. IsCarried n k p x e reply new q) (sym kept.size) (never_full (λ c. slot_event bytes k c x e) x new p q reply done)
+
+  here : slot_in xs k ≡ x
+  here = read_slot xs k x x within read refl
+
+  pub door_went : IsEvent s (OnSlot k e) reply (state_of size t (slice_set xs k new) q)
+  door_went = slot_went size bytes t xs p kept s s_is k within x here e happens new q reply carried
+
+  pub door_done : IsScript s (on_slot (length s.slots) k e) reply (state_of size t (slice_set xs k new) q)
+  door_done = slot_done size bytes t xs p kept s s_is k within x here e happens new q reply carried
+
+  pub door_ready : IsReadyMachine (machine_of size t (slice_set xs k new) q)
+  door_ready = ready_by (kept_after size bytes t xs k x new p q e reply kept within here happens carried)

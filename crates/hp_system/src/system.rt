@@ -211,7 +211,7 @@ fn open_slots<N: Naming>(
     ensures slots { slots.new.items ≡ slots_from count }
     ensures pool { pool.new ≡ pool.old }
 {
-    match pool.open(None, 0) {
+    match pool.share(None, 0) {
         Ok(share) => slots.push_reserved(Some(Mount::new(alloc, share, None))),
         Err(_refusal) => unreachable!(),
     }

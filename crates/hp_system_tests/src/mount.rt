@@ -239,7 +239,7 @@ fn opened<N: Naming, R: Abort>(rt: &R, alloc: Global, pool: &mut OwnPool<N>) -> 
     requires { IsReady pool.old }
     ensures { IsReady pool.new }
 {
-    let share = pool.open(Some(3), 0).expect(rt, "fits");
+    let share = pool.share(Some(3), 0).expect(rt, "fits");
     Mount::new(alloc, share, Some(2))
 }
 

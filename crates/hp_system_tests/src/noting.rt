@@ -7,6 +7,7 @@ ghost use Rattle.hp_pool.specs.Ledgers.{AreLedgers};
 use crate::calls::used;
 use crate::same::same;
 use hp_model::answer::Answer;
+use hp_model::limits::Limits;
 use hp_model::naming::Naming;
 use hp_model::refusal::Refusal;
 use hp_model::step::{Reserving, Sharing};
@@ -98,6 +99,14 @@ impl<N: Naming> PoolDoor<N> for Noting<N> {
 
     fn put(&mut self, share: &mut Subpool<N>, going: &mut PageStore<N>, reserves: u64) {
         PoolDoor::put(&mut self.pool, share, going, reserves);
+    }
+
+    fn open(&mut self, page_bytes: u64, options: &[u8]) -> Result<(Subpool<N>, Limits), Refusal> {
+        if self.places == 0 {
+            return Err(Refusal::TraceFull);
+        }
+        self.places -= 1;
+        self.pool.open(page_bytes, options)
     }
 
     fn limits(
@@ -245,7 +254,7 @@ fn a_page_by_a_grant<N: Naming, R: Abort>(rt: &R, alloc: Global, door: &mut Noti
     requires ready { IsReady door.old.pool }
     ensures { IsReady door.new.pool }
 {
-    let mut share = door.pool.open(Some(1), 0).expect(rt, "fits");
+    let mut share = door.pool.share(Some(1), 0).expect(rt, "fits");
     door.places = 0;
     match door.get_page(&mut share, 0) {
         Ok(_page) => panic!(rt; "there is no place"),
@@ -264,7 +273,7 @@ fn run<N: Naming, R: Abort>(rt: &R, alloc: Global, blanks: Blanks)
 {
     let mut pool = OwnPool::<N>::new(alloc, &[4, 4], blanks).expect(rt, "memory");
     pool.set_overcommit(4);
-    let share = pool.open(Some(3), 0).expect(rt, "fits");
+    let share = pool.share(Some(3), 0).expect(rt, "fits");
     let mut mount = Mount::new(alloc, share, None);
     let mut door = Noting {
         pool,

@@ -1,11 +1,9 @@
 //! A mount's share and its limits, under the pool's lock.
 ghost use Rattle.std.specs.Prelude.{[], Some, ◌≡◌, ◌<◌, true, false, IfOk, OnErr};
-ghost use Rattle.hp_model.specs.pool.Pool.{section};
 ghost use Rattle.hp_model.specs.files.Options.{limits, wanted_of};
-ghost use Rattle.hp_mount_door.specs.Door.{IsReady};
 ghost use Rattle.hp_mount_door.specs.Limits.{IsLimitedBy};
 ghost use Rattle.hp_trail.specs.Keeping.{has_room};
-ghost use Rattle.hp_locked.specs.Opened.{IsShareOf};
+ghost use Rattle.hp_mount_door.specs.Opened.{IsShareOf};
 ghost use Rattle.hp_history.specs.Sections.{IsEntered, IsFree};
 ghost use Rattle.hp_locked.specs.Views.{IsSection};
 
@@ -16,10 +14,8 @@ use hp_model::entry::{Asked, PoolEntry};
 use hp_model::limits::Limits;
 use hp_model::naming::Naming;
 use hp_model::refusal::Refusal;
-use hp_model::section::{PoolAnswer, Section};
-use hp_options::options::parse_options;
-use hp_own_pool::limits::{read_nr, set_limits};
-use hp_pool::Pool;
+use hp_own_pool::limits::set_limits;
+use hp_own_pool::opening::open_share;
 use hp_subpool::Subpool;
 use hp_trail::trail::Trail;
 
@@ -31,8 +27,8 @@ impl<N: Naming + Places, T: Trail<PoolEntry>> Core<N, T> {
         &mut self,
         history: &History<N>,
         mine: &mut Token,
-        options: &[u8],
         page_bytes: u64,
+        options: &[u8],
     ) -> Result<(Result<(Subpool<N>, Limits), Refusal>, Asked), Full>
         requires bytes { 0 < page_bytes }
         requires named { mine.old.table_id ≡ N.history }
@@ -55,7 +51,7 @@ impl<N: Naming + Places, T: Trail<PoolEntry>> Core<N, T> {
         if !trail.has_room(false) {
             return Err(Full {});
         }
-        let (share, section, answer) = opened_share(pool, options, page_bytes);
+        let (share, section, answer) = open_share(pool, page_bytes, options);
         pool.law();
         let asked = note(trail, seat, history, mine, section, answer);
         Ok((share, asked))
@@ -97,36 +93,5 @@ impl<N: Naming + Places, T: Trail<PoolEntry>> Core<N, T> {
         pool.law();
         let asked = note(trail, seat, history, mine, section, answer);
         Ok((files, asked))
-    }
-}
-
-// The share of a mount with these options, with its section and the pool's answer.
-fn opened_share<N: Naming>(
-    pool: &mut Pool<N>,
-    options: &[u8],
-    page_bytes: u64,
-) -> (Result<(Subpool<N>, Limits), Refusal>, Section, PoolAnswer)
-    requires ready { IsReady pool.old }
-    requires bytes { 0 < page_bytes }
-    ensures section { section pool.old result.1 ≡ (result.2, pool.new) }
-    ensures opens { IsShareOf (limits pool.old.nr page_bytes (wanted_of options.now))
-        pool.old.nr result.0 result.1 result.2 }
-    ensures ready { IsReady pool.new }
-{
-    pool.law();
-    let nr = pool.nr();
-    match parse_options(options, nr, page_bytes) {
-        Err(refusal) => (
-            Err(refusal),
-            Section::ReadAndGrant { pages: 0 },
-            read_nr(true, nr),
-        ),
-        Ok(limits) => {
-            let section = Section::ReadAndGrant { pages: limits.min };
-            match Subpool::open(pool, limits.max, limits.min) {
-                Ok(share) => (Ok((share, limits)), section, read_nr(true, nr)),
-                Err(refusal) => (Err(refusal), section, read_nr(false, nr)),
-            }
-        }
     }
 }

@@ -3,8 +3,6 @@ ghost use Rattle.std.specs.Prelude.{◌≡◌, ◌≢◌, ◌<◌, ◌≤◌, �
 ghost use Rattle.hp_model.specs.machine.Event.{has_maps_of};
 ghost use Rattle.std.specs.List.{range_with_len};
 ghost use Rattle.hp_model.specs.declared.refusal.Refusal.TheVariants as Refusal;
-ghost use Rattle.hp_model.specs.declared.event.SlotEvent.TheVariants.{Mount as Mounting, Remount as Remounting, Umount as Umounting};
-ghost use Rattle.hp_model.specs.files.Options.{limits, wanted_of};
 ghost use Rattle.hp_model.specs.beside.Accesses.{done_reply};
 ghost use Rattle.hp_model.specs.machine.State.{slot_at};
 ghost use Rattle.hp_model.specs.beside.Told.{told_reply};
@@ -12,128 +10,53 @@ ghost use Rattle.hp_model.specs.text.Writing.{IsWithinLimits};
 ghost use Rattle.hp_model.specs.Profile.{most_bytes};
 ghost use Rattle.hp_events.specs.Event.{as_event, is_usage};
 ghost use Rattle.hp_events.specs.Memory.{asks_memory};
+ghost use Rattle.hp_events.specs.SlotWork.{asked_event, is_of_maps};
 ghost use Rattle.hp_system.specs.Event.{AreExited, AreForked, DoesOfTask, DoesOnSlot, IsForkedOn, mapped_slots};
 ghost use Rattle.hp_model.specs.machine.Ready.{IsReadyMachine};
 
 use super::System;
-use hp_events::MountEvent;
-use hp_model::limits::Limits;
+use hp_events::{MountEvent, SlotWork};
 use hp_model::naming::Naming;
 use hp_model::refusal::Refusal;
 use hp_model::told::Told;
-use hp_mount::Mount;
-use hp_options::options::parse_options;
-use std::mem;
+use hp_slot::{act, ask, fork, has_maps, leave};
 
 impl<N: Naming> System<N> {
-    // The limits that a mount's options mean at this moment: sizes in percent are of nr
-    // (`admin-guide/mm/hugetlbpage.rst`). Refused as BadOption or MinOverSize.
-    fn limits(&self, options: &[u8]) -> Result<Limits, Refusal>
-        ensures { result ≡ limits self.now.state.nr self.now.state.page_size
-            (wanted_of options.now) }
-    {
-        parse_options(options, self.pool.nr(), self.page_bytes())
-    }
-
-    // Mounts a slot with options, and commits the minimum that they ask for: a section of the pool, at
-    // home node 0. It takes no memory.
-    //
-    // Refused, and then nothing changes, by the first of these that holds (profile):
-    // - NoSuchSlot: there is no such slot.
-    // - SlotTaken: it is mounted.
-    // - BadOption: the text is no options.
-    // - MinOverSize: the minimum is above the limit, in pages.
-    // - NoPages: with the minimum more pages would be committed than nr and overcommit together, or
-    //   than all frames.
-    #[inline(never)]
-    pub(crate) fn mount(&mut self, slot: u64, options: &[u8]) -> Result<(), Refusal>
+    // A mount, a remount or an umount of the slot of that number. Refused as NoSuchSlot where there is no such slot, and else
+    // as the slot refuses it; then nothing changes. The reply is put in its place.
+    #[inline(always)]
+    pub(crate) fn ask_slot<'a>(
+        &mut self,
+        slot: u64,
+        work: SlotWork<'_>,
+        room: &'a mut [u8],
+        reply: &mut Result<Told<'a>, Refusal>,
+    )
         requires ready { IsReadyMachine self.old }
-        ensures done { DoesOnSlot self.old.state slot (Mounting options.now)
-            (done_reply result) self.new.state }
-        ensures memory { done_reply result ≢ Err Refusal.OutOfMemory }
-        ensures size { self.new.state.page_size ≡ self.old.state.page_size }
-        ensures ready { IsReadyMachine self.new }
-    {
-        let at = slot as usize;
-        if at >= self.slots.len() {
-            return Err(Refusal::NoSuchSlot);
-        }
-        if self.slots[at].is_some() {
-            return Err(Refusal::SlotTaken);
-        }
-        let limits = self.limits(options)?;
-        let share = self.pool.open(limits.max, limits.min)?;
-        let mount = Mount::new(self.alloc, share, limits.inodes);
-        match mem::replace(&mut self.slots[at], Some(mount)) {
-            None => Ok(()),
-            Some(_old) => unreachable!(),
-        }
-    }
-
-    // Sets all three limits of a slot's mount anew by options: a section of the pool, at home node 0. Files and maps stay
-    // as they are. It takes no memory, and a few words of work.
-    //
-    // Refused, and then nothing changes, by the first of these that holds (profile):
-    // - NoSuchSlot: there is no such slot, or it is not mounted.
-    // - SlotTaken: it is slot 0.
-    // - BadOption, MinOverSize and NoPages: see `Mount::remount`.
-    #[inline(never)]
-    pub(crate) fn remount(&mut self, slot: u64, options: &[u8]) -> Result<(), Refusal>
-        requires ready { IsReadyMachine self.old }
-        ensures done { DoesOnSlot self.old.state slot (Remounting options.now)
-            (done_reply result) self.new.state }
-        ensures memory { done_reply result ≢ Err Refusal.OutOfMemory }
+        requires room { most_bytes ≤ length room.old }
+        requires plain { is_of_maps work ≡ false }
+        ensures done { DoesOnSlot self.old.state slot (asked_event work.entry)
+            (told_reply reply.new) self.new.state }
+        ensures memory { asks_memory (slot_at self.old.state slot) (asked_event work.entry)
+            ≡ false → told_reply reply.new ≢ Err Refusal.OutOfMemory }
         ensures size { self.new.state.page_size ≡ self.old.state.page_size }
         ensures ready { IsReadyMachine self.new }
     {
         let page_bytes = self.page_bytes();
         let at = slot as usize;
         if at >= self.slots.len() {
-            return Err(Refusal::NoSuchSlot);
+            *reply = Err(Refusal::NoSuchSlot);
+            return;
         }
-        let Some(mount) = &mut self.slots[at] else {
-            return Err(Refusal::NoSuchSlot);
-        };
-        if slot == 0 {
-            return Err(Refusal::SlotTaken);
-        }
-        mount.remount(&mut self.pool, page_bytes, options)
-    }
-
-    // Ends the mount of a slot, with its files. Their pages and reservations go back to the pool, and
-    // the mount's minimum with them; pages that became unneeded surplus leave the pool.
-    //
-    // Refused, and then nothing changes, by the first of these that holds (profile):
-    // - NoSuchSlot: there is no such slot, or it is not mounted.
-    // - Busy: it is slot 0, or a task has a map there.
-    #[inline(never)]
-    pub(crate) fn umount(&mut self, slot: u64) -> Result<(), Refusal>
-        requires ready { IsReadyMachine self.old }
-        ensures done { DoesOnSlot self.old.state slot Umounting (done_reply result) self.new.state }
-        ensures memory { done_reply result ≢ Err Refusal.OutOfMemory }
-        ensures size { self.new.state.page_size ≡ self.old.state.page_size }
-        ensures ready { IsReadyMachine self.new }
-    {
-        let at = slot as usize;
-        if at >= self.slots.len() {
-            return Err(Refusal::NoSuchSlot);
-        }
-        if self.slots[at].is_none() {
-            return Err(Refusal::NoSuchSlot);
-        }
-        if at == 0 {
-            return Err(Refusal::Busy);
-        }
-        let Some(mount) = mem::replace(&mut self.slots[at], None) else {
-            unreachable!()
-        };
-        match mount.close(&mut self.pool) {
-            Ok(()) => Ok(()),
-            Err(mount) => match mem::replace(&mut self.slots[at], Some(mount)) {
-                None => Err(Refusal::Busy),
-                Some(_other) => unreachable!(),
-            },
-        }
+        *reply = ask(
+            &mut self.slots[at],
+            slot,
+            &mut self.pool,
+            self.alloc,
+            page_bytes,
+            work,
+            room,
+        );
     }
 
     // What a step asks of the mount of a slot, for a task with that home node. Refused as NoSuchSlot
@@ -165,11 +88,15 @@ impl<N: Naming> System<N> {
             *reply = Err(Refusal::NoSuchSlot);
             return;
         }
-        let Some(mount) = &mut self.slots[at] else {
-            *reply = Err(Refusal::NoSuchSlot);
-            return;
-        };
-        *reply = mount.apply(&mut self.pool, page_bytes, home, *event, room);
+        act(
+            &mut self.slots[at],
+            &mut self.pool,
+            page_bytes,
+            home,
+            event,
+            room,
+            reply,
+        );
     }
 
     // The same for a task. Refused as NoSuchTask where it is not there.
@@ -207,10 +134,9 @@ impl<N: Naming> System<N> {
         ensures size { self.new.state.page_size ≡ self.old.state.page_size }
         ensures ready { IsReadyMachine self.new }
     {
-        if let Some(mount) = &mut self.slots[at] {
-            if mount.has_maps(task) {
-                mount.exit_maps(&mut self.pool, task);
-            }
+        let slot = &mut self.slots[at];
+        if has_maps(slot, task) {
+            leave(slot, &mut self.pool, task);
         }
     }
 
@@ -233,10 +159,7 @@ impl<N: Naming> System<N> {
         requires { at < length self.now.state.slots }
         ensures { result ≡ has_maps_of task (slot_at self.now.state at) }
     {
-        match &self.slots[at] {
-            Some(mount) => mount.has_maps(task),
-            None => false,
-        }
+        has_maps(&self.slots[at], task)
     }
 
     // Gives a child the maps that its parent has on a slot. Refused as TooMany or OutOfMemory, and then nothing changes.
@@ -250,13 +173,11 @@ impl<N: Naming> System<N> {
         ensures size { self.new.state.page_size ≡ self.old.state.page_size }
         ensures ready { IsReadyMachine self.new }
     {
-        let Some(mount) = &mut self.slots[at] else {
-            return Ok(());
-        };
-        if !mount.has_maps(parent) {
+        let slot = &mut self.slots[at];
+        if !has_maps(slot, parent) {
             return Ok(());
         }
-        mount.fork_maps(&mut self.pool, parent, child)
+        fork(slot, &mut self.pool, parent, child)
     }
 
     // The maps of a child go again, on the slots below `count` where its parent has maps.

@@ -16,7 +16,7 @@ ghost use Rattle.hp_model.specs.Profile.{most_bytes};
 ghost use Rattle.hp_model.specs.machine.Ready.{IsReadyMachine};
 
 use super::System;
-use hp_events::{MountEvent, Work, work_of};
+use hp_events::{MountEvent, SlotWork, Work, work_of};
 use hp_model::answer::{Counts, NodeCount, Reply};
 use hp_model::event::PoolEvent;
 use hp_model::naming::Naming;
@@ -289,9 +289,13 @@ impl<N: Naming> System<N> {
             Work::Pool(event) => self.tell_pool(event, reply),
             Work::Fork { parent, child } => tell_done(self.fork(parent, child), reply),
             Work::Exit { task } => tell_done(self.exit(task), reply),
-            Work::Mount { slot, options } => tell_done(self.mount(slot, options), reply),
-            Work::Remount { slot, options } => tell_done(self.remount(slot, options), reply),
-            Work::Umount { slot } => tell_done(self.umount(slot), reply),
+            Work::Mount { slot, options } => {
+                self.ask_slot(slot, SlotWork::Mount { options }, room, reply)
+            }
+            Work::Remount { slot, options } => {
+                self.ask_slot(slot, SlotWork::Remount { options }, room, reply)
+            }
+            Work::Umount { slot } => self.ask_slot(slot, SlotWork::Umount, room, reply),
             Work::Names { slot } => self.on_slot(slot, 0, &MountEvent::Ls, room, reply),
             Work::OnSlot { slot, event } => self.on_slot(slot, 0, &event, room, reply),
             Work::OfTask { task, slot, event } => self.of_task(task, slot, &event, room, reply),

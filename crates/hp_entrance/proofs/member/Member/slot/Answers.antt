@@ -5,8 +5,7 @@ use Rattle.hp_history.specs.declared.held.Held.{Held}
 use Rattle.hp_history.specs.History.{receipts_in}
 use Rattle.hp_model.specs.beside.Told.{told_reply}
 use Rattle.hp_model.specs.declared.event.Event.TheVariants.{Slot as OnSlot}
-use Rattle.hp_events.specs.SlotWork.{asked_event}
-use Rattle.hp_shared.specs.SlotWork.{full_for}
+use Rattle.hp_events.specs.SlotWork.{asked_event, full_for}
 use Rattle.hp_entrance.proofs.member.Member.slot.Goals as goal
 
 pub returns-clause-handed : goal.returns-clause-handed

@@ -3,10 +3,9 @@ use Rattle.hp_history.specs.declared.held.Held.{Held}
 use Rattle.hp_history.specs.Sections.{IsEntered, free_slot, session_view}
 use Rattle.hp_model.specs.beside.Told.{told_reply}
 use Rattle.hp_model.specs.declared.entry.SlotEntry.{SlotEntry}
-use Rattle.hp_events.specs.SlotWork.{asked_event}
+use Rattle.hp_events.specs.SlotWork.{asked_event, full_for, has_maps_for}
 use Rattle.hp_shared.specs.Seated.{IsSeatedEvent, SeatedView, first_of, run_in}
 use Rattle.hp_shared.specs.Slots.{IsSlotEvent}
-use Rattle.hp_shared.specs.SlotWork.{full_for, has_maps_for}
 use Rattle.hp_shared.proofs.SeatedKept.{event_seated, full_as, held, seat_next, work_full_as}
 use Rattle.hp_shared.proofs.SlotsKept.{work_event}
 use Rattle.hp_shared.proofs.seated_slot.SeatedSlot.work.Given.{Over}

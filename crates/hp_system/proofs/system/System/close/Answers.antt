@@ -1,7 +1,6 @@
-use Rattle.std.proofs.Common.{◌≡◌, ◌++◌, refl, ◌∷◌, [], Some, subst, ap, sym, ◌∙◌, arith}
+use Rattle.std.proofs.Common.{◌++◌, ◌∷◌, [], Some, subst, ap, sym, ◌∙◌, arith}
 use Rattle.std.proofs.lemmas.List.{nil_from_length}
-use Rattle.hp_model.specs.machine.Settled.{IsSettledPool}
-use Rattle.hp_model.specs.pool.PoolCounts.{IsSettled, Pool, counts_of}
+use Rattle.hp_model.specs.pool.PoolCounts.{counts_of}
 use Rattle.hp_mount_door.specs.Door.{IsReady as IsReadyPool}
 use Rattle.hp_system.proofs.Ending.{all_are_free, going_begins, going_ends, going_goes}
 use Rattle.hp_system.specs.Event.{AllGo, SlotGoes}

@@ -1,0 +1,157 @@
+//! What is asked of a slot.
+ghost use Rattle.std.specs.Prelude.{◌≡◌, ◌≢◌, ◌<◌, ◌≤◌, ◌==◌, ℕ, Ok, Err, length, true, false};
+ghost use Rattle.hp_model.specs.declared.answer.Answer.TheVariants.{Done};
+ghost use Rattle.hp_model.specs.declared.event.SlotEvent.TheVariants.{ExitMaps, ForkMaps};
+ghost use Rattle.hp_model.specs.declared.refusal.Refusal.TheVariants as Refusal;
+ghost use Rattle.hp_model.specs.beside.Accesses.{done_reply};
+ghost use Rattle.hp_model.specs.beside.Told.{told_reply};
+ghost use Rattle.hp_model.specs.machine.Event.{has_maps_of};
+ghost use Rattle.hp_model.specs.text.Writing.{IsWithinLimits};
+ghost use Rattle.hp_model.specs.Profile.{most_bytes};
+ghost use Rattle.hp_events.specs.Event.{as_event, is_usage, shows_bytes};
+ghost use Rattle.hp_events.specs.Memory.{asks_memory};
+ghost use Rattle.hp_events.specs.SlotWork.{IsAnother, asked_event, full_for, has_maps_for, is_exit, needs_room};
+ghost use Rattle.hp_mount_laws.specs.Done.{IsDone};
+
+use crate::mounting::{mount, remount, unmount};
+use hp_events::{MountEvent, SlotWork};
+use hp_model::naming::Naming;
+use hp_model::refusal::Refusal;
+use hp_model::told::Told;
+use hp_mount::Mount;
+use hp_mount_door::PoolDoor;
+use std::alloc::Global;
+
+/// Does what is asked of the slot of this number, in one section of the pool at most: its reply, with bytes in the front of
+/// the room. What goes by a task's maps is asked where it has some.
+///
+/// Refused as the definitions say, and then nothing changes; as TraceFull where the door has no room to note a section, but
+/// never where that gives back alone.
+#[inline(always)]
+pub fn ask<'a, N: Naming, D: PoolDoor<N>>(
+    slot: &mut Option<Mount<N>>,
+    number: u64,
+    door: &mut D,
+    alloc: Global,
+    page_bytes: u64,
+    work: SlotWork<'_>,
+    room: &'a mut [u8],
+) -> Result<Told<'a>, Refusal>
+    requires ready { D.is_ready door.old }
+    requires page_bytes { page_bytes ≡ N.page_bytes }
+    requires bytes { 0 < page_bytes }
+    requires room { needs_room work ≡ true → most_bytes ≤ length room.old }
+    requires another { IsAnother work }
+    requires has { has_maps_for work slot.old ≡ true }
+    ensures done { IsDone D.took (λ d. full_for (D.is_full d) work.entry) N.page_bytes number
+        slot.old door.old (asked_event work.entry) (told_reply result) slot.new door.new }
+    ensures left { D.is_left door.new }
+    ensures memory { asks_memory slot.old (asked_event work.entry) ≡ false
+        → told_reply result ≢ Err Refusal.OutOfMemory }
+    ensures limits { is_usage (asked_event work.entry) ≡ true
+        → IsWithinLimits (told_reply result) }
+    ensures exit { is_exit work.entry ≡ true → told_reply result ≡ Ok Done }
+{
+    match work {
+        SlotWork::Mount { options } => Told::done(mount(slot, door, alloc, page_bytes, options)),
+        SlotWork::Remount { options } => {
+            Told::done(remount(slot, number, door, page_bytes, options))
+        }
+        SlotWork::Umount => Told::done(unmount(slot, number, door)),
+        SlotWork::Fork { parent, child } => Told::done(fork(slot, door, parent, child)),
+        SlotWork::Exit { task } => {
+            leave(slot, door, task);
+            Ok(Told::Done)
+        }
+        SlotWork::OfMount { home, event } => {
+            let mut reply = Ok(Told::Done);
+            act(slot, door, page_bytes, home, &event, room, &mut reply);
+            reply
+        }
+    }
+}
+
+/// What an event asks of the slot's mount, for a task with that home node. Refused as NoSuchSlot where the slot is not mounted,
+/// and else as the mount refuses it. The reply is put in its place: handed back, it would be copied once more.
+#[inline(always)]
+pub fn act<'a, N: Naming, D: PoolDoor<N>>(
+    slot: &mut Option<Mount<N>>,
+    door: &mut D,
+    page_bytes: u64,
+    home: u64,
+    event: &MountEvent<'_>,
+    room: &'a mut [u8],
+    reply: &mut Result<Told<'a>, Refusal>,
+)
+    requires ready { D.is_ready door.old }
+    requires page_bytes { page_bytes ≡ N.page_bytes }
+    requires room { shows_bytes event.now ≡ true → most_bytes ≤ length room.old }
+    ensures done { (k : ℕ) → IsDone D.took D.is_full N.page_bytes k slot.old door.old
+        (as_event home event.now) (told_reply reply.new) slot.new door.new }
+    ensures left { D.is_left door.new }
+    ensures memory { asks_memory slot.old (as_event home event.now) ≡ false
+        → told_reply reply.new ≢ Err Refusal.OutOfMemory }
+    ensures limits { is_usage (as_event home event.now) ≡ true
+        → IsWithinLimits (told_reply reply.new) }
+{
+    let Some(mount) = slot else {
+        *reply = Err(Refusal::NoSuchSlot);
+        return;
+    };
+    *reply = mount.apply(door, page_bytes, home, *event, room);
+}
+
+/// Whether a task has a map on the slot.
+pub fn has_maps<N: Naming>(slot: &Option<Mount<N>>, task: u64) -> bool
+    ensures { result ≡ has_maps_of task slot.now }
+{
+    match slot {
+        None => false,
+        Some(mount) => mount.has_maps(task),
+    }
+}
+
+/// Whether the slot has the maps that this goes by, if it goes by a task's maps.
+pub fn has_maps_for<N: Naming>(slot: &Option<Mount<N>>, work: &SlotWork<'_>) -> bool
+    ensures { result ≡ has_maps_for work.now slot.now }
+{
+    match *work {
+        SlotWork::Fork { parent, .. } => has_maps(slot, parent),
+        SlotWork::Exit { task } => has_maps(slot, task),
+        _ => true,
+    }
+}
+
+/// The maps of a task, which has some on the slot, become its child's as well. Refused as `Mount::fork_maps` is.
+pub fn fork<N: Naming, D: PoolDoor<N>>(
+    slot: &mut Option<Mount<N>>,
+    door: &mut D,
+    parent: u64,
+    child: u64,
+) -> Result<(), Refusal>
+    requires ready { D.is_ready door.old }
+    requires has { has_maps_of parent slot.old ≡ true }
+    requires apart { (parent == child) ≡ false }
+    ensures done { (size k : ℕ) → IsDone D.took (λ d. ⊥) size k slot.old door.old
+        (ForkMaps parent child) (done_reply result) slot.new door.new }
+    ensures left { D.is_left door.new }
+{
+    match slot {
+        None => unreachable!(),
+        Some(mount) => mount.fork_maps(door, parent, child),
+    }
+}
+
+/// The maps of a task, which has some on the slot, go. Never refused.
+pub fn leave<N: Naming, D: PoolDoor<N>>(slot: &mut Option<Mount<N>>, door: &mut D, task: u64)
+    requires ready { D.is_ready door.old }
+    requires has { has_maps_of task slot.old ≡ true }
+    ensures done { (size k : ℕ) → IsDone D.took (λ d. ⊥) size k slot.old door.old
+        (ExitMaps task) (Ok Done) slot.new door.new }
+    ensures left { D.is_left door.new }
+{
+    match slot {
+        None => unreachable!(),
+        Some(mount) => mount.exit_maps(door, task),
+    }
+}
