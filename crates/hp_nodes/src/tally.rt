@@ -31,7 +31,6 @@ impl<N: Naming> PageTally<N> {
     {
         let (frame, mut marks) = page.into_parts();
         frame.close();
-        // (whoever joins marks knows that no more are out than there are)
         let none = marks.split(0, 0);
         marks.join(none);
         PageTally { marks }
