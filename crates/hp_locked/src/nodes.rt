@@ -6,6 +6,7 @@ ghost use Rattle.hp_mount_door.specs.Filling.{AreRising, nodes_in};
 ghost use Rattle.hp_own_pool.specs.Parcel.{IsPart, claimed};
 
 use crate::gate::Gate;
+use crossbeam_utils::CachePadded;
 use hp_model::naming::Naming;
 use hp_nodes::{Frames, NodeFrames, Page, PageDraft};
 use hp_own_pool::Parcel;
@@ -14,12 +15,13 @@ use hp_permit::Claim;
 use hp_store::{PageBatch, PageStore};
 use std::sync::{Mutex, Wait};
 
-/// The frames of each node that nobody holds, under a lock of its own. No page is filled, read or written under one.
+/// The frames of each node that nobody holds, under a lock of its own, on cache lines of its own. No page is filled, read or
+/// written under one.
 pub struct NodeLocks<N: Naming> {
-    zero: Mutex<NodeFrames<N, 0>>,
-    one: Mutex<NodeFrames<N, 1>>,
-    two: Mutex<NodeFrames<N, 2>>,
-    three: Mutex<NodeFrames<N, 3>>,
+    zero: CachePadded<Mutex<NodeFrames<N, 0>>>,
+    one: CachePadded<Mutex<NodeFrames<N, 1>>>,
+    two: CachePadded<Mutex<NodeFrames<N, 2>>>,
+    three: CachePadded<Mutex<NodeFrames<N, 3>>>,
 }
 
 fn draw_at<N: Naming, R: Wait, G: Gate, const K: usize>(
@@ -79,10 +81,10 @@ impl<N: Naming> NodeLocks<N> {
     pub fn new(frames: Frames<N>) -> Self {
         let (zero, one, two, three) = frames.into_nodes();
         NodeLocks {
-            zero: Mutex::new(zero),
-            one: Mutex::new(one),
-            two: Mutex::new(two),
-            three: Mutex::new(three),
+            zero: CachePadded::new(Mutex::new(zero)),
+            one: CachePadded::new(Mutex::new(one)),
+            two: CachePadded::new(Mutex::new(two)),
+            three: CachePadded::new(Mutex::new(three)),
         }
     }
 
@@ -95,10 +97,10 @@ impl<N: Naming> NodeLocks<N> {
             three,
         } = self;
         Frames::from_nodes(
-            zero.into_inner(),
-            one.into_inner(),
-            two.into_inner(),
-            three.into_inner(),
+            zero.into_inner().into_inner(),
+            one.into_inner().into_inner(),
+            two.into_inner().into_inner(),
+            three.into_inner().into_inner(),
         )
     }
 

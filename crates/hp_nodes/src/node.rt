@@ -11,6 +11,8 @@ use std::marker::Model;
 #[derive(Drop)]
 pub struct Node {
     row: NodeRow,
+    // so that no two rows share a cache line: each session writes that of its own home
+    apart: [u64; 12],
 }
 
 impl Model for Node {
@@ -37,6 +39,7 @@ impl Node {
                 free: 0,
                 surp: 0,
             },
+            apart: [0; 12],
         }
     }
 

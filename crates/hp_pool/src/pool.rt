@@ -35,9 +35,10 @@ use std::sync::ledger::Blank;
 ///
 /// No call but `new` takes memory. It can't be dropped: `close` ends it.
 pub struct Pool<N: Naming> {
+    // first, so that it lies beside the word of a lock round the pool: both are written each time a page is taken
+    book: Book<N>,
     nr: u64,
     overcommit: u64,
-    book: Book<N>,
     lists: NodeLists<N>,
 }
 
