@@ -11,7 +11,7 @@ use crate::member::Member;
 use hp_events::copies::Copies;
 use hp_events::{Parts, SlotWork, TableTold};
 use hp_history::Places;
-use hp_locked::{Core, Gate};
+use hp_locked::{Core, Gate, hold};
 use hp_model::entry::{PoolEntry, SlotEntry, TableEntry};
 use hp_model::event::{PoolEvent, TableEvent};
 use hp_model::names::Names;
@@ -23,15 +23,6 @@ use hp_shared::{SeatedSlot, Shared, Table};
 use hp_trail::trace::Trace;
 use std::alloc::Global;
 use std::sync::{Mutex, MutexGuard, Wait};
-
-// Takes a lock. Where it is free no call is made.
-#[inline(always)]
-fn hold<'b, T, R: Wait>(lock: &'b Mutex<T>, rt: &R) -> MutexGuard<'b, T> {
-    match lock.try_lock() {
-        Some(guard) => guard,
-        None => lock.lock(rt),
-    }
-}
 
 // The lock of the slot of this number, where nobody holds it.
 #[inline(always)]
@@ -77,7 +68,7 @@ fn wait_for_slot<'b, N: Naming + Places, R: Wait, const K: usize>(
     ensures { (mutex_guard_value result).slot.number ≡ at }
 {
     for _ in rt.forever() {
-        let slot = shared.slot(at).lock(rt);
+        let slot = hold(shared.slot(at), rt);
         if slot.number() == at as u64 {
             return slot;
         }

@@ -11,6 +11,7 @@ use crate::gate::Gate;
 use crate::nodes::NodeLocks;
 use crate::noted::Notes;
 use crate::pool_core::Core;
+use crate::waiting::hold;
 use hp_history::{History, Places, Token};
 use hp_model::entry::{Asked, PoolEntry};
 use hp_model::limits::Limits;
@@ -123,11 +124,7 @@ impl<'a, N: Naming + Places, R: Wait, G: Gate, S: Notes, const K: usize> PoolDoo
 
     fn get(&mut self, share: &mut Subpool<N>, home: usize, k: u64) -> Result<(), Refusal> {
         let mine = &mut self.mine;
-        match self
-            .core
-            .lock(self.rt)
-            .get(self.history, mine, share, home, k)
-        {
+        match hold(self.core, self.rt).get(self.history, mine, share, home, k) {
             Err(_full) => Err(Refusal::TraceFull),
             Ok(None) => Ok(()),
             Ok(Some(asked)) => {
@@ -143,10 +140,7 @@ impl<'a, N: Naming + Places, R: Wait, G: Gate, S: Notes, const K: usize> PoolDoo
 
     fn get_page(&mut self, share: &mut Subpool<N>, home: usize) -> Result<Page<N>, Refusal> {
         let mine = &mut self.mine;
-        let got = self
-            .core
-            .lock(self.rt)
-            .get_page(self.history, mine, share, home);
+        let got = hold(self.core, self.rt).get_page(self.history, mine, share, home);
         match got {
             Err(_full) => Err(Refusal::TraceFull),
             Ok((claim, asked)) => match claim {
@@ -164,10 +158,7 @@ impl<'a, N: Naming + Places, R: Wait, G: Gate, S: Notes, const K: usize> PoolDoo
 
     fn take_page(&mut self, share: &mut Subpool<N>, home: usize) -> Result<Page<N>, Refusal> {
         let mine = &mut self.mine;
-        let got = self
-            .core
-            .lock(self.rt)
-            .take_page(self.history, mine, share, home);
+        let got = hold(self.core, self.rt).take_page(self.history, mine, share, home);
         match got {
             Err(_full) => Err(Refusal::TraceFull),
             Ok((claim, asked)) => {
@@ -185,10 +176,7 @@ impl<'a, N: Naming + Places, R: Wait, G: Gate, S: Notes, const K: usize> PoolDoo
         batch: &mut PageBatch<N>,
     ) -> Result<(), Refusal> {
         let mine = &mut self.mine;
-        let got = self
-            .core
-            .lock(self.rt)
-            .fill(self.history, mine, share, k, count);
+        let got = hold(self.core, self.rt).fill(self.history, mine, share, k, count);
         match got {
             Err(_full) => Err(Refusal::TraceFull),
             Ok((parcel, asked)) => match parcel {
@@ -207,7 +195,7 @@ impl<'a, N: Naming + Places, R: Wait, G: Gate, S: Notes, const K: usize> PoolDoo
 
     fn put(&mut self, share: &mut Subpool<N>, going: &mut PageStore<N>, reserves: u64) {
         let parcel = self.nodes.gather(self.rt, self.gate, going);
-        let mut value = self.core.lock(self.rt);
+        let mut value = hold(self.core, self.rt);
         let core: &mut Core<N, Trace<PoolEntry, K>> = &mut value;
         let asked = core.put(self.history, &mut self.mine, share, parcel, reserves);
         self.noted.note(asked);
@@ -215,10 +203,7 @@ impl<'a, N: Naming + Places, R: Wait, G: Gate, S: Notes, const K: usize> PoolDoo
 
     fn open(&mut self, page_bytes: u64, options: &[u8]) -> Result<(Subpool<N>, Limits), Refusal> {
         let mine = &mut self.mine;
-        let opened = self
-            .core
-            .lock(self.rt)
-            .open(self.history, mine, page_bytes, options);
+        let opened = hold(self.core, self.rt).open(self.history, mine, page_bytes, options);
         match opened {
             Err(_full) => Err(Refusal::TraceFull),
             Ok((share, asked)) => {
@@ -235,10 +220,7 @@ impl<'a, N: Naming + Places, R: Wait, G: Gate, S: Notes, const K: usize> PoolDoo
         options: &[u8],
     ) -> Result<Option<u64>, Refusal> {
         let mine = &mut self.mine;
-        let set = self
-            .core
-            .lock(self.rt)
-            .limits(self.history, mine, share, page_bytes, options);
+        let set = hold(self.core, self.rt).limits(self.history, mine, share, page_bytes, options);
         match set {
             Err(_full) => Err(Refusal::TraceFull),
             Ok((files, asked)) => {
@@ -250,7 +232,7 @@ impl<'a, N: Naming + Places, R: Wait, G: Gate, S: Notes, const K: usize> PoolDoo
 
     fn empty(&mut self, share: &mut Subpool<N>, going: &mut PageStore<N>) {
         let parcel = self.nodes.gather(self.rt, self.gate, going);
-        let mut value = self.core.lock(self.rt);
+        let mut value = hold(self.core, self.rt);
         let core: &mut Core<N, Trace<PoolEntry, K>> = &mut value;
         let asked = core.empty(self.history, &mut self.mine, share, parcel);
         self.noted.note(asked);

@@ -8,6 +8,7 @@ mod noted;
 mod noting;
 mod pool_core;
 mod pool_told;
+mod waiting;
 
 pub use door::{Door, SessionDoor};
 pub use gate::Gate;
@@ -15,3 +16,4 @@ pub use nodes::NodeLocks;
 pub use noted::{Entered, Noted, Notes};
 pub use pool_core::{Core, Full};
 pub use pool_told::PoolTold;
+pub use waiting::hold;

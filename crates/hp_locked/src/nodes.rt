@@ -6,6 +6,7 @@ ghost use Rattle.hp_mount_door.specs.Filling.{AreRising, nodes_in};
 ghost use Rattle.hp_own_pool.specs.Parcel.{IsPart, claimed};
 
 use crate::gate::Gate;
+use crate::waiting::hold;
 use crossbeam_utils::CachePadded;
 use hp_model::naming::Naming;
 use hp_nodes::{Frames, NodeFrames, Page, PageDraft};
@@ -34,7 +35,7 @@ fn draw_at<N: Naming, R: Wait, G: Gate, const K: usize>(
     requires one { claim.amount ≡ 1 }
     ensures { result.node ≡ claim.node }
 {
-    let mut frames = lock.lock(rt);
+    let mut frames = hold(lock, rt);
     gate.frame(K as u64);
     frames.draw(claim)
 }
@@ -54,7 +55,7 @@ fn add_part_at<N: Naming, R: Wait, G: Gate, const K: usize>(
     ensures room { batch.new.room + claimed part ≡ batch.old.room }
 {
     if let Some(claim) = part {
-        let mut value = lock.lock(rt);
+        let mut value = hold(lock, rt);
         gate.frame(K as u64);
         let frames: &mut NodeFrames<N, K> = &mut value;
         add_claim(frames, claim, batch);
@@ -71,7 +72,7 @@ fn give_at<N: Naming, R: Wait, G: Gate, const K: usize>(
     ensures claim { result ≡ record { node = page.node; amount = 1 } }
     ensures few { N.frames page.node < 2 ^ 64 }
 {
-    let mut frames = lock.lock(rt);
+    let mut frames = hold(lock, rt);
     gate.frame(K as u64);
     frames.give(page)
 }
