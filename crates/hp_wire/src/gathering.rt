@@ -100,14 +100,14 @@ impl Replies {
         writer: &mut W,
     ) -> Result<(), RunFault>
         requires ready { S.is_ready service.old }
-        requires few { length queue.old < 8 }
+        requires few { length queue.old < 16 }
         ensures taken { OnOk result ((waiting : List Line) → AreRead waiting queue.old
             → TakesLine S.may_answer W.contents (waiting ++ ended line.now ∷ [])
             service.old service.new writer.old writer.new self.old self.new queue.new) }
         ensures cut { IfErr result (λ fault. (waiting : List Line) → AreRead waiting queue.old
             → AnswersSome S.may_answer W.contents (waiting ++ ended line.now ∷ [])
             service.old service.new writer.old writer.new self.old fault) }
-        ensures few { OnOk result (length queue.new < 8) }
+        ensures few { OnOk result (length queue.new < 16) }
         ensures page { self.new.page ≡ self.old.page }
         ensures sure { W.is_sure writer.old → IsOk result }
         ensures stays { W.is_sure writer.old → W.is_sure writer.new }

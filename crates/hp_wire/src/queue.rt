@@ -11,10 +11,11 @@ use hp_model::queued::{QUEUED_BYTES, Queued};
 use hp_model::service::{Access, Service};
 use hp_wire_lines::accesses::{loading, storing};
 use hp_wire_lines::reading::{LineKind, kind_of_line};
+use std::array;
 use std::marker::Model;
 
 // How many loads and stores wait at most: nobody else waits long for a slot that does as many at once.
-const MOST: usize = 8;
+const MOST: usize = 16;
 
 /// Loads and stores that wait, in the order of their lines.
 #[derive(Drop)]
@@ -31,7 +32,7 @@ impl Model for Queue {
 
     ghost view = { λ q. take q.count q.items };
 
-    ghost invariant = { λ q. q.count ≤ 8 };
+    ghost invariant = { λ q. q.count ≤ 16 };
 }
 
 impl Queue {
@@ -40,16 +41,7 @@ impl Queue {
         ensures { result ≡ [] }
     {
         Queue {
-            items: [
-                Queued::new(),
-                Queued::new(),
-                Queued::new(),
-                Queued::new(),
-                Queued::new(),
-                Queued::new(),
-                Queued::new(),
-                Queued::new(),
-            ],
+            items: array::from_fn(|_at| Queued::new()),
             count: 0,
         }
     }
@@ -57,7 +49,7 @@ impl Queue {
     /// Whether as many wait as may.
     #[inline(always)]
     pub fn is_full(&self) -> bool
-        ensures { result ≡ false → length self.now < 8 }
+        ensures { result ≡ false → length self.now < 16 }
     {
         self.count == MOST
     }
@@ -92,7 +84,7 @@ impl Queue {
     /// Takes a line that is a load or a store, and says whether it is one.
     #[inline(always)]
     pub fn take(&mut self, line: &[u8], room: &mut [u8; 512]) -> bool
-        requires { length self.old < 8 }
+        requires { length self.old < 16 }
         ensures taken { result ≡ true → IsLineTaken (ended line.now) self.old self.new }
         ensures left { result ≡ false → self.new ≡ self.old }
     {
@@ -120,7 +112,7 @@ impl Queue {
 
     #[inline(always)]
     fn add_load(&mut self, access: Access, count: u64)
-        requires { length self.old < 8 }
+        requires { length self.old < 16 }
         ensures { IsAdded (load_step access count) self.old self.new }
     {
         self.items[self.count].set_load(access, count);
@@ -129,7 +121,7 @@ impl Queue {
 
     #[inline(always)]
     fn add_store(&mut self, access: Access, bytes: &[u8])
-        requires room { length self.old < 8 }
+        requires room { length self.old < 16 }
         requires few { length bytes.now ≤ 512 }
         ensures { IsAdded (store_step access bytes.now) self.old self.new }
     {

@@ -12,7 +12,7 @@ invariant-loop-after g l = (done : List Line) × (waiting : List Line) × record
   cut : CutOff l.bytes l.rest (done ++ waiting);
   count : l.count ≡ length (done ++ waiting);
   few : l.count + length l.rest ≤ length l.bytes;
-  places : length l.queue < 8;
+  places : length l.queue < 16;
   ready : g.S.Service.is_ready l.service;
   page : l.self.page ≡ l.fn.self.page;
   sure : g.W.Sink.is_sure l.fn.writer → g.W.Sink.is_sure l.writer;
