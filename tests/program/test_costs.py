@@ -52,6 +52,7 @@ def test_finds_tasks_of_any_numbers(must_take_less, most, numbers, absent):
 
 
 WIDE, TWO = "preallocate 0 a 0 65536", "preallocate 0 a 30000 95536"
+APART = [f"preallocate 0 a {at} {at + 65536}" for at in (0, 65536, 131072)]
 WHOLE = ["nr 65536", "create 0 a", WIDE]
 MAPPED = ["nr 4", "connect 1 0", "create 0 a"]
 ENTERED = ["nr 65536", "connect 1 0", "create 0 a", "map 1 0 a 0 65536 shared"]
@@ -60,8 +61,10 @@ SHORT = ["nr 65535", "create 0 a", "preallocate 0 a 0 65000", "preallocate 0 a 6
 
 @pytest.mark.parametrize("most, before, lines", [
     pytest.param(10, ["nr 4", "create 0 a", WIDE], [WIDE], id="refused"),
-    pytest.param(150, ["nr 4", "create 0 a", TWO], [TWO], id="refused in two blocks"),
+    pytest.param(15, ["nr 4", "create 0 a", TWO], [TWO], id="refused in two blocks"),
+    pytest.param(15, ["nr 4", "create 0 a"], APART, id="refused in one block after another"),
     pytest.param(15, WHOLE, [WIDE], id="whole"),
+    pytest.param(15, ["nr 65536", "create 0 a", TWO], [TWO], id="whole in two blocks"),
     pytest.param(15, [*WHOLE, "punch 0 a 65000 65001"], [WIDE, "punch 0 a 65000 65001"], id="a page short"),
     pytest.param(30, SHORT, [WIDE], id="refused a page"),
     pytest.param(8, ENTERED, ["map 1 0 a 0 65536 shared", "unmap 1 0 2 0 65536"], id="entered"),
@@ -70,6 +73,6 @@ SHORT = ["nr 65535", "create 0 a", "preallocate 0 a 0 65000", "preallocate 0 a 6
     pytest.param(5, MAPPED, ["anon 1 65536 private noreserve", "unmap 1 0 1 0 65536"], id="unmapped")])
 def test_passes_wide_ranges_by_words(must_take_less, most, before, lines):
     """Ranges of 65,536 indices that are refused, whole already, a page short, entered or empty are passed a word of 64 at a time, and words that are full or
-    empty in a run; the bounds are for a machine that is busy. The room that a refused range asks for before comes from what the program keeps of freed memory;
-    where it lies in two blocks, most of its time goes in the tables of the second."""
+    empty in a run; the bounds are for a machine that is busy. The room and the tables that a refused range asks for before come from what the program keeps of
+    freed memory, in a few pieces for each block."""
     must_take_less(most, before, 5000 * lines, ["--frames", "65536"])

@@ -6,6 +6,7 @@ mod CellFacts
 mod Dropped
 mod Reserved
 mod Tables
+mod Chunks
 mod Taken
 mod Spread
 mod Readying

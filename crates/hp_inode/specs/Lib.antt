@@ -1,4 +1,5 @@
 pub mod Blocks
+pub mod Chunks
 pub mod EntryBlock
 pub mod Form
 pub mod Kept

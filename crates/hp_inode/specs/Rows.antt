@@ -1,9 +1,9 @@
 -- The rows of a page table: for each chunk of 64 indices no slot yet, or one slot for each.
 --     slot_in rows j k      the page in slot k of chunk j
 --     page_in rows i, has_slot rows i      the page of an index, and whether there is a slot for it
---     IsFirstSlot row n k, IsFirstPage pages a i      the first with a page, of those from a place on
+--     IsFirstPage pages a i      the first with a page, of those from an index on
 --     IsTaken old new a b i page      the first page of those from a up to b was taken out, at index i
---     IsChunk row marks, IsTable rows marks      the marks say where there are pages
+--     IsTable rows words marks      the words and their marks say where there are pages
 use Rattle.std.specs.Prelude.{ℕ, ◌≡◌, ◌*◌, ◌/◌, ◌%◌, ◌<◌, ◌≤◌, ◌^◌, Bool, true, false, List, [], length, nat_lt, Option, None, Some, IsSome, MatchOption}
 use Rattle.std.specs.Option.{is_some}
 use Rattle.std.specs.List.{slice_index_or}
@@ -21,12 +21,6 @@ page_in rows i = slot_in rows (i / 64) (i % 64)
 abbrev pub has_slot : Rows → ℕ → Bool
 has_slot rows i = nat_lt (i % 64) (length (slice_index_or rows (i / 64) []))
 
-pub record IsFirstSlot (row : List (Option ℕ)) (n k : ℕ) : Type 0 where
-  pub from : n ≤ k
-  pub within : k < 64
-  pub here : IsSome (slice_index_or row k None)
-  pub none_before : (j : ℕ) → n ≤ j → j < k → slice_index_or row j None ≡ None
-
 pub record IsFirstPage (pages : ℕ → Option ℕ) (a i : ℕ) : Type 0 where
   pub from : a ≤ i
   pub here : IsSome (pages i)
@@ -40,29 +34,18 @@ pub record IsPageTaken (old new : ℕ → Option ℕ) (a b i page : ℕ) : Type 
   pub here : new i ≡ None
   pub others : (k : ℕ) → (k ≡ i → ⊥) → new k ≡ old k
 
--- a chunk has no slots or all, and a mark at each with a page
-pub record IsChunk (row : List (Option ℕ)) (marks : List ℕ) : Type 0 where
-  pub whole : 0 < length row → length row ≡ 64
-  pub pages : (k : ℕ) → marked marks k ≡ is_some (slice_index_or row k None)
-
--- a table has a place for the mark of each chunk, and a mark at those with a page
-pub record IsTable (rows : Rows) (marks : List ℕ) : Type 0 where
+-- a table has a bit for each index with a page, in words of which each chunk has one, and a mark at those that have a bit
+pub record IsTable (rows : Rows) (words marks : List ℕ) : Type 0 where
   pub few : length marks < 2 ^ 32
-  pub places : length rows ≤ 64 * length marks
-  pub some : (j : ℕ) → marked marks j ≡ true → ((k : ℕ) → slot_in rows j k ≡ None) → ⊥
-  pub none : (j k : ℕ) → marked marks j ≡ false → slot_in rows j k ≡ None
+  pub places : length words ≤ 64 * length marks
+  pub wide : length rows ≤ length words
+  pub pages : (i : ℕ) → marked words i ≡ is_some (page_in rows i)
+  pub some : (j : ℕ) → marked marks j ≡ true → ((i : ℕ) → i / 64 ≡ j → marked words i ≡ false) → ⊥
+  pub none : (i : ℕ) → marked marks (i / 64) ≡ false → marked words i ≡ false
 
--- the first with a page, of those from a place on, or none where there is none
-abbrev pub FindsSlot : List (Option ℕ) → ℕ → Option ℕ → Type 0
-FindsSlot row n found = MatchOption found ((k : ℕ) → n ≤ k → slice_index_or row k None ≡ None) (IsFirstSlot row n)
-
--- the first index with a page, of those from a on, in the chunk of this number, or none where there is none
-pub record IsFirstIn (rows : Rows) (a at i : ℕ) : Type 0 where
-  pub chunk : at ≡ i / 64
-  pub first : IsFirstPage (page_in rows) a i
-
-abbrev pub FindsPage : Rows → ℕ → Option (ℕ × ℕ) → Type 0
-FindsPage rows a found = MatchOption found ((k : ℕ) → a ≤ k → page_in rows k ≡ None) (λ p. IsFirstIn rows a p.0 p.1)
+-- the first index with a page, of those from a on, or none where there is none
+abbrev pub FindsPage : Rows → ℕ → Option ℕ → Type 0
+FindsPage rows a found = MatchOption found ((k : ℕ) → a ≤ k → page_in rows k ≡ None) (IsFirstPage (page_in rows) a)
 
 -- an index with its page, of those from a up to b, or none where none has one
 abbrev pub TakesFirst : (ℕ → Option ℕ) → (ℕ → Option ℕ) → ℕ → ℕ → Option (ℕ × ℕ) → Type 0

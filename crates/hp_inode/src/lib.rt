@@ -16,7 +16,7 @@ use std::marker::Model;
 
 mod block;
 mod block_list;
-mod chunk;
+mod chunk_list;
 mod entries;
 mod entry_block;
 mod form;

@@ -1,26 +1,28 @@
-use Rattle.std.proofs.Common.{◌≡◌, ◌+◌, ◌-◌, ◌/◌, ◌%◌, ◌<◌, ◌≤◌, [], None, get_or, length, ap, ◌∙◌, arith}
-use Rattle.std.specs.List.{count_by, range_with_len}
+use Rattle.std.proofs.Common.{◌≡◌, ◌+◌, ◌-◌, ◌*◌, ◌/◌, ◌<◌, ◌≤◌, ◌^◌, length, sym, ap, ◌∙◌, arith}
+use Rattle.std.specs.List.{range_with_len}
 use Rattle.std.specs.Option.{is_some}
-use Rattle.std.proofs.lemmas.List.{get_or_read}
+use Rattle.hp_model.proofs.Counting.{count_alike, count_outside}
+use Rattle.hp_marks.specs.Marks.{marked}
+use Rattle.hp_marks.proofs.Words.{unmarked_past}
 use Rattle.hp_inode.specs.Rows.{page_in}
-use Rattle.hp_inode.proofs.Counted.{counted_in_chunk, none_past_chunks}
+use Rattle.hp_inode.proofs.Removed.{counted_in_word}
 use Rattle.hp_inode.proofs.page_block.PageBlock.count.Goals as goal
 
-pub returns-then-at-len : goal.returns-then-at-len
-returns-then-at-len c =
-    let rows = c.self.inside.chunks.items in
-    let past : length rows ≤ c.args.a / 64 = omega (arith, c.if-at-len.true, c.len.ensures) in
-    none_past_chunks rows c.args.a (c.args.b - c.args.a) past
-    ∙ ap (λ rs. count_by (λ k. is_some (page_in rs k)) (range_with_len c.args.a (c.args.b - c.args.a))) c.self.view_is
+pub returns-then-at-words : goal.returns-then-at-words
+returns-then-at-words c =
+    let table = rw c.self.view_is at c.self.invariant in
+    let words = c.self.inside.words.items in
+    let past : 64 * length words ≤ c.args.a = omega (arith, c.if-at-words.true, ap length c.as_slice-words.ensures) in
+    sym (count_outside (λ k. is_some (page_in c.args.self.now k)) c.args.a (c.args.b - c.args.a) (λ k low high. sym (table.pages k) ∙ unmarked_past words k (omega (arith, past, low))))
 
 pub returns : goal.returns
 returns c =
-    let rows = c.self.inside.chunks.items in
+    let table = rw c.self.view_is at c.self.invariant in
+    let words = c.as_slice-words.result.now in
     let a = c.args.a in
-    let n = c.args.b - a in
-    let row = c.index.result.now in
-    let lt : a / 64 < length rows = omega (arith, c.if-at-len.false, c.len.ensures) in
-    let wide : a % 64 + n - a % 64 ≡ n = omega arith in
-    c.count.ensures ∙ ap (λ m. count_by (λ k. is_some (get_or row k None)) (range_with_len (a % 64) m)) wide
-    ∙ counted_in_chunk rows row a n (get_or_read rows (a / 64) row lt c.index.ensures []) (omega (arith, c.requires.some, c.requires.one))
-    ∙ ap (λ rs. count_by (λ k. is_some (page_in rs k)) (range_with_len a n)) c.self.view_is
+    let b = c.args.b in
+    let bits = c.bits_within.result in
+    let small : bits < 2 ^ 64 = omega arith in
+    let ones = counted_in_word words (a / 64) a b bits (omega arith) c.requires.some c.requires.one small c.bits_within.ensures in
+    c.from.ensures ∙ ones
+    ∙ count_alike (marked words) (λ k. is_some (page_in c.args.self.now k)) (λ k. ap (λ ws. marked ws k) c.as_slice-words.ensures ∙ table.pages k) (range_with_len a (b - a))

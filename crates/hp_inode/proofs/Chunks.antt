@@ -1,0 +1,367 @@
+-- The rows of chunks, by their homes.
+use Rattle.std.proofs.Common.{◌≡◌, ◌≢◌, ℕ, ◌+◌, ◌-◌, ◌*◌, ◌/◌, ◌<◌, ◌≤◌, ◌^◌, max, min, List, [], ◌++◌, length, replicate, get_or, set, cond, Option, None, refl, sym, ap, ◌∙◌, arith, subst, ⊎_elim}
+use Rattle.std.specs.Prelude.{nat_lt}
+use Rattle.std.proofs.Math.ListN.{get_or-map as get_or-mapped}
+use Rattle.std.proofs.lemmas.Bool.{cases_eq, cases_lt, lt-ltb, le-ltb}
+use Rattle.std.proofs.lemmas.List.{ext_get_or, get_or-replicate, get_or-set_same, get_or-set_other, get_or_past, get_or_append_left, get_or-append_right}
+use Rattle.std.proofs.lemmas.List.{length-append, length-map, length-replicate, length-set}
+use Rattle.std.proofs.lemmas.List.Folds.{sum_by-replicate}
+use Rattle.std.proofs.lemmas.List.FromFn.{get_or-map-range_with_len, length-map-range_with_len}
+use Rattle.std.proofs.lemmas.List.Sums.{count_by-le-length, sum_by-append, sum_by-le-sum_by, sum_by-set}
+use Rattle.hp_inode.specs.Rows.{slot_in}
+use Rattle.hp_inode.specs.Chunks.{AreHomes, IsPromised, bare, promised, row_of, rows_of, slot_count, slots_from, slotted_count, used_count}
+
+-- ---- a row
+
+module _ (slots : List (Option ℕ)) (home : ℕ) where
+  pub row_bare : bare ≤ home → row_of slots home ≡ []
+  row_bare le = rw (le-ltb home bare le) refl
+
+  row_slots : home < bare → row_of slots home ≡ slots_from slots home
+  row_slots lt = rw (lt-ltb home bare lt) refl
+
+  pub length_row : home < bare → length (row_of slots home) ≡ 64
+  length_row lt = ap length (row_slots lt) ∙ length-map-range_with_len (λ k. get_or slots (64 * home + k) None) 0 64
+
+  pub slot_there : (k : ℕ) → home < bare → k < 64 → get_or (row_of slots home) k None ≡ get_or slots (64 * home + k) None
+  slot_there k lt small = ap (λ r. get_or r k None) (row_slots lt) ∙ get_or-map-range_with_len (λ j. get_or slots (64 * home + j) None) 0 64 k k None small (omega arith)
+
+pub same_row : (slots new : List (Option ℕ)) (home other : ℕ) → home < bare → other < bare →
+    ((k : ℕ) → k < 64 → get_or new (64 * other + k) None ≡ get_or slots (64 * home + k) None) → row_of new other ≡ row_of slots home
+same_row slots new home other lt less same = ext_get_or None (row_of new other) (row_of slots home) (length_row new other less ∙ sym (length_row slots home lt)) (λ k below.
+    let small : k < 64 = omega (arith, below, length_row new other less) in
+    slot_there new other k less small ∙ same k small ∙ sym (slot_there slots home k lt small))
+
+-- the same home, where its slots stay
+pub row_stays : (slots new : List (Option ℕ)) (home : ℕ) → (home < bare → (k : ℕ) → k < 64 → get_or new (64 * home + k) None ≡ get_or slots (64 * home + k) None) → row_of new home ≡ row_of slots home
+row_stays slots new home same = ⊎_elim
+    (λ (lt : home < bare). same_row slots new home home lt lt (same lt))
+    (λ (le : bare ≤ home). row_bare new home le ∙ sym (row_bare slots home le))
+    (cases_lt home bare)
+
+module _ (homes : List ℕ) (slots : List (Option ℕ)) where
+  pub row_at : (j : ℕ) → get_or (rows_of homes slots) j [] ≡ row_of slots (get_or homes j bare)
+  row_at j = get_or-mapped (row_of slots) homes j bare
+
+  pub length_rows : length (rows_of homes slots) ≡ length homes
+  length_rows = length-map homes (row_of slots)
+
+  pub slots_there : (j : ℕ) → get_or homes j bare < bare → slot_count (rows_of homes slots) j ≡ 64
+  slots_there j lt = ap length (row_at j) ∙ length_row slots (get_or homes j bare) lt
+
+  pub no_slots : (j : ℕ) → bare ≤ get_or homes j bare → slot_count (rows_of homes slots) j ≡ 0
+  no_slots j le = ap length (row_at j ∙ row_bare slots (get_or homes j bare) le)
+
+  pub few_slots : (j : ℕ) → slot_count (rows_of homes slots) j ≤ 64
+  few_slots j = ⊎_elim
+      (λ (lt : get_or homes j bare < bare). omega (arith, slots_there j lt))
+      (λ (le : bare ≤ get_or homes j bare). omega (arith, no_slots j le))
+      (cases_lt (get_or homes j bare) bare)
+
+  pub has_home : (j k : ℕ) → k < slot_count (rows_of homes slots) j → get_or homes j bare < bare
+  has_home j k some = ⊎_elim
+      (λ (lt : get_or homes j bare < bare). lt)
+      (λ (le : bare ≤ get_or homes j bare). absurd (omega (arith, some, no_slots j le)))
+      (cases_lt (get_or homes j bare) bare)
+
+  pub home_within : (j : ℕ) → get_or homes j bare < bare → j < length homes
+  home_within j some = ⊎_elim
+      (λ (lt : j < length homes). lt)
+      (λ (le : length homes ≤ j). absurd (omega (arith, some, get_or_past homes j bare le)))
+      (cases_lt j (length homes))
+
+-- ---- counts
+
+abbrev is_used : ℕ → ℕ
+is_used home = cond {A = ℕ} (nat_lt home promised) 1 0
+
+abbrev is_slotted : ℕ → ℕ
+is_slotted home = cond {A = ℕ} (nat_lt home bare) 1 0
+
+used_one : (home : ℕ) → home < promised → is_used home ≡ 1
+used_one home lt = ap (λ t. cond {A = ℕ} t 1 0) (lt-ltb home promised lt)
+
+used_none : (home : ℕ) → promised ≤ home → is_used home ≡ 0
+used_none home le = ap (λ t. cond {A = ℕ} t 1 0) (le-ltb home promised le)
+
+slotted_one : (home : ℕ) → home < bare → is_slotted home ≡ 1
+slotted_one home lt = ap (λ t. cond {A = ℕ} t 1 0) (lt-ltb home bare lt)
+
+slotted_none : (home : ℕ) → bare ≤ home → is_slotted home ≡ 0
+slotted_none home le = ap (λ t. cond {A = ℕ} t 1 0) (le-ltb home bare le)
+
+used_few : (homes : List ℕ) → used_count homes ≤ slotted_count homes
+used_few homes = sum_by-le-sum_by is_used is_slotted homes (λ home. ⊎_elim
+    (λ (lt : home < promised). omega (arith, used_one home lt, slotted_one home (omega (arith, lt))))
+    (λ (le : promised ≤ home). omega (arith, used_none home le))
+    (cases_lt home promised))
+
+module _ (homes : List ℕ) (at home : ℕ) (lt : at < length homes) where
+  used_set : used_count (set homes at home) + is_used (get_or homes at bare) ≡ used_count homes + is_used home
+  used_set = sum_by-set is_used homes at home bare lt
+
+  slotted_set : slotted_count (set homes at home) + is_slotted (get_or homes at bare) ≡ slotted_count homes + is_slotted home
+  slotted_set = sum_by-set is_slotted homes at home bare lt
+
+pub slotted_few : (homes : List ℕ) → slotted_count homes ≤ length homes
+slotted_few homes = count_by-le-length (λ home. nat_lt home bare) homes
+
+-- ---- what is read
+
+module _ (homes : List ℕ) (slots : List (Option ℕ)) (are : AreHomes homes slots) where
+  pub all_few : length slots ≤ 2 ^ 32
+  all_few = omega (arith, are.used, are.few, count_by-le-length (λ home. nat_lt home promised) homes)
+
+  pub slot_at : (j k : ℕ) → k < 64 → slot_in (rows_of homes slots) j k ≡ get_or slots (64 * get_or homes j bare + k) None
+  slot_at j k small = ⊎_elim
+      (λ (lt : get_or homes j bare < bare). ap (λ r. get_or r k None) (row_at homes slots j) ∙ slot_there slots (get_or homes j bare) k lt small)
+      (λ (le : bare ≤ get_or homes j bare).
+      ap (λ r. get_or r k None) (row_at homes slots j ∙ row_bare slots (get_or homes j bare) le) ∙ get_or_past [] k None (omega arith)
+      ∙ sym (get_or_past slots (64 * get_or homes j bare + k) None (omega (arith, le, all_few))))
+      (cases_lt (get_or homes j bare) bare)
+
+  -- ---- a slot is written
+
+  module _ (at k slot : ℕ) (page : Option ℕ) (own : get_or homes at bare < promised) (small : k < 64) (slot_is : slot ≡ 64 * get_or homes at bare + k) where
+    pub slot_within : slot < length slots
+    slot_within = omega (arith, are.within at own, small, slot_is)
+
+    pub slot_was : get_or slots slot None ≡ slot_in (rows_of homes slots) at k
+    slot_was = ap (λ s. get_or slots s None) slot_is ∙ sym (slot_at at k small)
+
+    pub homes_set : AreHomes homes (set slots slot page)
+    homes_set = record {
+      few = are.few;
+      within = λ j lt. omega (arith, are.within j lt, length-set slots slot page);
+      apart = are.apart;
+      used = length-set slots slot page ∙ are.used;
+    }
+
+    row_written : row_of (set slots slot page) (get_or homes at bare) ≡ set (row_of slots (get_or homes at bare)) k page
+    row_written =
+        let home = get_or homes at bare in
+        let lt : home < bare = omega (arith, own) in
+        let old = row_of slots home in
+        let new = row_of (set slots slot page) home in
+        ext_get_or None new (set old k page) (length_row (set slots slot page) home lt ∙ sym (length-set old k page ∙ length_row slots home lt)) (λ i below.
+        let less : i < 64 = omega (arith, below, length_row (set slots slot page) home lt) in
+        slot_there (set slots slot page) home i lt less ∙ ⊎_elim
+        (λ (same : i ≡ k).
+        ap (λ s. get_or (set slots slot page) s None) {x = 64 * home + i} {y = slot} (omega (arith, same, slot_is)) ∙ get_or-set_same slots slot page None slot_within
+        ∙ sym (ap (λ n. get_or (set old k page) n None) same ∙ get_or-set_same old k page None (omega (arith, small, length_row slots home lt))))
+        (λ (other : i ≢ k).
+        get_or-set_other slots slot (64 * home + i) page None (λ e. other (omega (arith, e, slot_is)))
+        ∙ sym (get_or-set_other old k i page None other ∙ slot_there slots home i lt less))
+        (cases_eq i k))
+
+    pub rows_set : rows_of homes (set slots slot page) ≡ set (rows_of homes slots) at (set (get_or (rows_of homes slots) at []) k page)
+    rows_set =
+        let row = set (get_or (rows_of homes slots) at []) k page in
+        let inside : at < length (rows_of homes slots) = omega (arith, home_within homes slots at (omega (arith, own)), length_rows homes slots) in
+        ext_get_or [] (rows_of homes (set slots slot page)) (set (rows_of homes slots) at row)
+        (length_rows homes (set slots slot page) ∙ sym (length-set (rows_of homes slots) at row ∙ length_rows homes slots))
+        (λ j below. row_at homes (set slots slot page) j ∙ ⊎_elim
+        (λ (same : j ≡ at).
+        ap (λ i. row_of (set slots slot page) (get_or homes i bare)) same ∙ row_written ∙ ap (λ r. set r k page) (sym (row_at homes slots at))
+        ∙ sym (ap (λ i. get_or (set (rows_of homes slots) at row) i []) same ∙ get_or-set_same (rows_of homes slots) at row [] inside))
+        (λ (other : j ≢ at).
+        row_stays slots (set slots slot page) (get_or homes j bare) (λ lt i less. get_or-set_other slots slot (64 * get_or homes j bare + i) page None (λ e.
+        let home : get_or homes j bare ≡ get_or homes at bare = omega (arith, e, slot_is, less, small) in
+        other (are.apart j at home (omega (arith, home, own)))))
+        ∙ sym (get_or-set_other (rows_of homes slots) at j row [] other ∙ row_at homes slots j))
+        (cases_eq j at))
+
+-- ---- a chunk gets its slots
+
+pub get_or_replicated : {X : Type 0} (n k : ℕ) (d : X) → get_or (replicate n d) k d ≡ d
+get_or_replicated n k d = ⊎_elim (λ (lt : k < n). get_or-replicate n k d d lt) (λ (le : n ≤ k). get_or_past (replicate n d) k d (omega (arith, le, length-replicate n d))) (cases_lt k n)
+
+-- the default behind a list is the default past its end
+pub get_or_followed : {X : Type 0} (xs : List X) (n k : ℕ) (d : X) → get_or (xs ++ replicate n d) k d ≡ get_or xs k d
+get_or_followed xs n k d = ⊎_elim
+    (λ (lt : k < length xs). get_or_append_left xs (replicate n d) d k lt)
+    (λ (le : length xs ≤ k). get_or-append_right xs (replicate n d) (length xs) k d refl le ∙ get_or_replicated n (k - length xs) d ∙ sym (get_or_past xs k d le))
+    (cases_lt k (length xs))
+
+module _ (homes : List ℕ) (slots : List (Option ℕ)) (at home : ℕ) (are : AreHomes homes slots) (none : get_or homes at bare ≡ promised) (home_is : home ≡ length slots / 64) where
+  abbrev more : List ℕ
+  more = set homes at home
+
+  abbrev longer : List (Option ℕ)
+  longer = slots ++ replicate 64 None
+
+  pub at_within : at < length homes
+  at_within = home_within homes slots at (omega (arith, none))
+
+  whole : length slots ≡ 64 * home
+  whole = omega (arith, are.used, home_is)
+
+  pub home_few : home ≤ 2 ^ 26
+  home_few = omega (arith, are.used, are.few, home_is, count_by-le-length (λ n. nat_lt n promised) homes)
+
+  length_longer : length longer ≡ 64 * home + 64
+  length_longer = omega (arith, whole, length-append slots (replicate 64 None), length-replicate {A = Option ℕ} 64 None)
+
+  pub home_here : get_or more at bare ≡ home
+  home_here = get_or-set_same homes at home bare at_within
+
+  elsewhere : (j : ℕ) → j ≢ at → get_or more j bare ≡ get_or homes j bare
+  elsewhere j other = get_or-set_other homes at j home bare other
+
+  used_more : used_count more ≡ used_count homes + 1
+  used_more = omega (arith, used_set homes at home at_within, used_none (get_or homes at bare) (omega (arith, none)), used_one home (omega (arith, home_few)))
+
+  pub slotted_more : slotted_count more ≡ slotted_count homes
+  slotted_more = omega (arith, slotted_set homes at home at_within, slotted_one (get_or homes at bare) (omega (arith, none)), slotted_one home (omega (arith, home_few)))
+
+  -- there was room for it
+  pub room_there : (capacity : ℕ) → 64 * slotted_count homes ≤ capacity → length slots + 64 ≤ capacity
+  room_there capacity room = omega (arith, room, are.used, used_more, slotted_more, used_few more)
+
+  lower : (j : ℕ) → get_or homes j bare < promised → get_or homes j bare < home
+  lower j lt = omega (arith, are.within j lt, whole)
+
+  pub homes_more : AreHomes more longer
+  homes_more = record {
+    few = omega (arith, are.few, length-set homes at home);
+    within = λ j lt. ⊎_elim
+        (λ (same : j ≡ at). omega (arith, ap (λ i. get_or more i bare) same, home_here, length_longer))
+        (λ (other : j ≢ at). omega (arith, elsewhere j other, are.within j (omega (arith, elsewhere j other, lt)), length_longer, whole))
+        (cases_eq j at);
+    apart = λ j k is lt. ⊎_elim
+        (λ (same : j ≡ at). ⊎_elim
+        (λ (also : k ≡ at). same ∙ sym also)
+        (λ (other : k ≢ at).
+        let here = ap (λ i. get_or more i bare) same in
+        absurd (omega (arith, is, here, home_here, elsewhere k other, lower k (omega (arith, is, here, home_here, elsewhere k other, home_few)))))
+        (cases_eq k at))
+        (λ (other : j ≢ at). ⊎_elim
+        (λ (also : k ≡ at).
+        let here = ap (λ i. get_or more i bare) also in
+        absurd (omega (arith, is, here, home_here, elsewhere j other, lower j (omega (arith, elsewhere j other, lt)))))
+        (λ (both : k ≢ at). are.apart j k (sym (elsewhere j other) ∙ is ∙ elsewhere k both) (omega (arith, elsewhere j other, lt)))
+        (cases_eq k at))
+        (cases_eq j at);
+    used = omega (arith, length_longer, whole, are.used, used_more);
+  }
+
+  row_more : (j : ℕ) → row_of longer (get_or more j bare) ≡ row_of slots (get_or homes j bare)
+  row_more j = ⊎_elim
+      (λ (same : j ≡ at).
+      let here : get_or more j bare ≡ home = ap (λ i. get_or more i bare) same ∙ home_here in
+      let was : get_or homes j bare ≡ promised = ap (λ i. get_or homes i bare) same ∙ none in
+      same_row slots longer (get_or homes j bare) (get_or more j bare) (omega (arith, was)) (omega (arith, here, home_few)) (λ k lt.
+      get_or_followed slots 64 (64 * get_or more j bare + k) None
+      ∙ get_or_past slots (64 * get_or more j bare + k) None (omega (arith, here, whole))
+      ∙ sym (get_or_past slots (64 * get_or homes j bare + k) None (omega (arith, was, whole, home_few)))))
+      (λ (other : j ≢ at).
+      ap (row_of longer) (elsewhere j other) ∙ row_stays slots longer (get_or homes j bare) (λ lt k small. get_or_followed slots 64 (64 * get_or homes j bare + k) None))
+      (cases_eq j at)
+
+  pub rows_more : rows_of more longer ≡ rows_of homes slots
+  rows_more = ext_get_or [] (rows_of more longer) (rows_of homes slots) (length_rows more longer ∙ length-set homes at home ∙ sym (length_rows homes slots))
+      (λ j below. row_at more longer j ∙ row_more j ∙ sym (row_at homes slots j))
+
+-- ---- places for more chunks
+
+pub used_followed : (homes : List ℕ) (n : ℕ) → used_count (homes ++ replicate n bare) ≡ used_count homes
+used_followed homes n = omega (arith, sum_by-append is_used homes (replicate n bare), sum_by-replicate is_used n bare, used_none bare (omega arith))
+
+pub slotted_followed : (homes : List ℕ) (n : ℕ) → slotted_count (homes ++ replicate n bare) ≡ slotted_count homes
+slotted_followed homes n = omega (arith, sum_by-append is_slotted homes (replicate n bare), sum_by-replicate is_slotted n bare, slotted_none bare (omega arith))
+
+module _ (homes new : List ℕ) (slots : List (Option ℕ)) (same : (j : ℕ) → get_or new j bare ≡ get_or homes j bare) where
+  pub homes_alike : length new ≤ 2 ^ 26 → used_count new ≡ used_count homes → AreHomes homes slots → AreHomes new slots
+  homes_alike few used are = record {
+    few = few;
+    within = λ j lt. omega (arith, same j, are.within j (omega (arith, same j, lt)));
+    apart = λ j k is lt. are.apart j k (sym (same j) ∙ is ∙ same k) (omega (arith, same j, lt));
+    used = are.used ∙ ap (λ n. 64 * n) (sym used);
+  }
+
+  pub row_alike : (j : ℕ) → get_or (rows_of new slots) j [] ≡ get_or (rows_of homes slots) j []
+  row_alike j = row_at new slots j ∙ ap (row_of slots) (same j) ∙ sym (row_at homes slots j)
+
+-- ---- slots that are promised
+
+module _ (from end : ℕ) (homes new : List ℕ) (is : IsPromised from end homes new) where
+  promised_or_same : (P : ℕ → Type 0) (j : ℕ) → P (min promised (get_or homes j bare)) → P (get_or homes j bare) → P (get_or new j bare)
+  promised_or_same P j one two = ⊎_elim
+      (λ (below : j < from). subst P (sym (is.others j (λ low high. absurd (omega (arith, below, low))))) two)
+      (λ (le : from ≤ j). ⊎_elim
+      (λ (lt : j < end). subst P (sym (is.here j le lt)) one)
+      (λ (past : end ≤ j). subst P (sym (is.others j (λ low high. absurd (omega (arith, past, high))))) two)
+      (cases_lt j end))
+      (cases_lt j from)
+
+  lower_stays : (j : ℕ) → get_or new j bare < promised → get_or new j bare ≡ get_or homes j bare
+  lower_stays j = promised_or_same (λ n. n < promised → n ≡ get_or homes j bare) j (λ lt. omega (arith, lt)) (λ lt. refl)
+
+  module _ (slots : List (Option ℕ)) (are : AreHomes homes slots) (used : used_count new ≡ used_count homes) where
+    pub homes_promised : AreHomes new slots
+    homes_promised = record {
+      few = omega (arith, are.few, is.len);
+      within = λ j lt. omega (arith, lower_stays j lt, are.within j (omega (arith, lower_stays j lt, lt)));
+      apart = λ j k same lt. are.apart j k (sym (lower_stays j lt) ∙ same ∙ lower_stays k (omega (arith, same, lt))) (omega (arith, lower_stays j lt, lt));
+      used = are.used ∙ ap (λ n. 64 * n) (sym used);
+    }
+
+    pub page_promised : (j k : ℕ) → k < 64 → slot_in (rows_of new slots) j k ≡ slot_in (rows_of homes slots) j k
+    page_promised j k small = slot_at new slots homes_promised j k small ∙ ⊎_elim
+        (λ (lt : get_or new j bare < promised). ap (λ n. get_or slots (64 * n + k) None) (lower_stays j lt))
+        (λ (le : promised ≤ get_or new j bare).
+        let was = promised_or_same (λ n. promised ≤ n → promised ≤ get_or homes j bare) j (λ past. omega (arith, past)) (λ past. past) le in
+        get_or_past slots (64 * get_or new j bare + k) None (omega (arith, le, all_few homes slots are))
+        ∙ sym (get_or_past slots (64 * get_or homes j bare + k) None (omega (arith, was, all_few homes slots are))))
+        (cases_lt (get_or new j bare) promised) ∙ sym (slot_at homes slots are j k small)
+
+    pub more_promised : (j : ℕ) → slot_count (rows_of homes slots) j ≤ slot_count (rows_of new slots) j
+    more_promised j = ⊎_elim
+        (λ (lt : get_or homes j bare < bare).
+        let now = promised_or_same (λ n. n < bare) j (omega (arith, lt)) lt in
+        omega (arith, slots_there homes slots j lt, slots_there new slots j now))
+        (λ (le : bare ≤ get_or homes j bare). omega (arith, no_slots homes slots j le))
+        (cases_lt (get_or homes j bare) bare)
+
+  pub all_promised : (slots : List (Option ℕ)) (j : ℕ) → from ≤ j → j < end → slot_count (rows_of new slots) j ≡ 64
+  all_promised slots j low high = slots_there new slots j (omega (arith, is.here j low high))
+
+  pub none_promised : (slots : List (Option ℕ)) (j : ℕ) → j < from → slot_count (rows_of new slots) j ≡ slot_count (rows_of homes slots) j
+  none_promised slots j below =
+      ap length (row_at new slots j ∙ ap (row_of slots) (is.others j (λ low high. absurd (omega (arith, below, low)))) ∙ sym (row_at homes slots j))
+
+module _ (from at : ℕ) (homes new : List ℕ) (low : from ≤ at) (is : IsPromised from at homes new) where
+  -- a chunk that had none
+  pub promised_next : at < length new → get_or new at bare ≡ bare → IsPromised from (at + 1) homes (set new at promised)
+  promised_next lt none = record {
+    len = length-set new at promised ∙ is.len;
+    here = λ j from_j below. ⊎_elim
+        (λ (same : j ≡ at).
+        let was : get_or homes j bare ≡ bare = sym (is.others j (λ above less. absurd (omega (arith, same, less)))) ∙ ap (λ i. get_or new i bare) same ∙ none in
+        omega (arith, ap (λ i. get_or (set new at promised) i bare) same, get_or-set_same new at promised bare lt, was))
+        (λ (other : j ≢ at). get_or-set_other new at j promised bare other ∙ is.here j from_j (omega (arith, below, other)))
+        (cases_eq j at);
+    others = λ j outside.
+        let other : j ≢ at = λ same. outside (omega (arith, low, same)) (omega (arith, same)) in
+        get_or-set_other new at j promised bare other ∙ is.others j (λ above less. outside above (omega (arith, less)));
+  }
+
+  -- and one that had some
+  pub promised_there : get_or new at bare ≤ promised → IsPromised from (at + 1) homes new
+  promised_there some = record {
+    len = is.len;
+    here = λ j from_j below. ⊎_elim
+        (λ (same : j ≡ at).
+        let was = is.others j (λ above less. absurd (omega (arith, same, less))) in
+        omega (arith, was, some, ap (λ i. get_or new i bare) same))
+        (λ (other : j ≢ at). is.here j from_j (omega (arith, below, other)))
+        (cases_eq j at);
+    others = λ j outside. is.others j (λ above less. outside above (omega (arith, less)));
+  }
+
+module _ (homes : List ℕ) (at : ℕ) (lt : at < length homes) (none : get_or homes at bare ≡ bare) where
+  pub slotted_next : slotted_count (set homes at promised) ≡ slotted_count homes + 1
+  slotted_next = omega (arith, slotted_set homes at promised lt, slotted_none (get_or homes at bare) (omega (arith, none)), slotted_one promised (omega arith))
+
+  pub used_next : used_count (set homes at promised) ≡ used_count homes
+  used_next = omega (arith, used_set homes at promised lt, used_none (get_or homes at bare) (omega (arith, none)), used_none promised (omega arith))
