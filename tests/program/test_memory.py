@@ -129,6 +129,28 @@ def test_gives_room_for_pages_back(held):
     assert most < 16 << 20, "for 64 children at a time"
 
 
+@pytest.mark.parametrize("lines, kilobytes", [
+    pytest.param(["map 1 {0} a 0 65536 private", "unmap 1 {0} 1 0 65536"], 4, id="unmapped"),
+    pytest.param(["map 1 {0} a 0 65536 shared", "unmap 1 {0} 1 0 65536", "truncate {0} a 0"], 4, id="cut"),
+    pytest.param(["map 1 {0} a 0 65536 shared", "unmap 1 {0} 1 0 65536", "unlink {0} a"], 4, id="unlinked"),
+    pytest.param(["preallocate {0} a 0 65536", "unlink {0} a"], 4, id="filled and unlinked"),
+    pytest.param(["preallocate {0} a 0 65536", "punch {0} a 0 65536"], 600, id="filled and punched")])
+def test_gives_room_back_with_what_needed_it(held, lines, kilobytes):
+    """The room for pages that were reserved, or there, goes with them, and not with the mount: on one slot after another no more is held than on one,
+    but for the tables of one block that a file without pages keeps."""
+    start, words = ["nr 65536", "connect 1 0"], ["--slots", "33", "--frames", "65536"]
+    few, many = (held([*start, *(line.format(slot) for slot in range(1, slots) for line in ("mount {0} -", "create {0} a", *lines))], words) for slots in (2, 33))
+    assert [it for it in many[2] if it.startswith("error")] == []
+    assert many[0] - few[0] < 31 * kilobytes * 1024
+
+
+def test_asks_no_memory_for_a_few_pages_again(held):
+    """Pages of which a few come and go together take memory for their room once."""
+    turn = [*(f"fault 1 0 1 {at} write" for at in range(64)), "punch 0 a 0 64"]
+    few, many = (held(["nr 64", "connect 1 0", "create 0 a", "map 1 0 a 0 64 shared noreserve", *turns * turn], ["--frames", "64"])[1] for turns in (10, 100))
+    assert few == many
+
+
 def test_has_room_for_no_more_pages_than_frames(held):
     """Each child of a map that was touched may copy all of it, but no more pages than frames are ever in use: a child takes 8 bytes for each
     place of its map, and room for no page beyond the frames."""
@@ -138,6 +160,8 @@ def test_has_room_for_no_more_pages_than_frames(held):
     refused = ["nr 8", "connect 1 0", *(f"anon 1 {pages} private" for pages in (1024, 65536))]
     few, many = (held(lines, ["--frames", "8"])[0] for lines in (refused[:-1], refused))
     assert many - few < 65536 * 9, "of a map that is refused, its places alone"
+    few, many = (held(["nr 8", "create 0 a", f"preallocate 0 a 0 {pages}"], ["--frames", "8"])[0] for pages in (1024, 65536))
+    assert many - few < 65536 * 16, "of a preallocation that is refused, the tables of its block alone"
 
 
 def test_forks_a_wide_map_in_little_address_space(program):

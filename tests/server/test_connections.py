@@ -58,6 +58,15 @@ def test_waits_out_errors_of_accepting(serve, error):
         assert (session.nr(4), session.nr(0)) == (4, 0)
 
 
+@by_strace
+def test_waits_longer_each_time(serve):
+    """Between tries that fail the server waits, 10 ms first and then twice as long each time: 630 ms for six."""
+    begun = time.monotonic()
+    with serve(1, 1, under=failing(ACCEPT, "EMFILE:when=1..6")) as server, server.session() as session:
+        assert session.nr(0) == 0
+    assert time.monotonic() - begun >= 0.63
+
+
 def test_serves_again_after_descriptors_ran_out(serve):
     """With too few descriptors for all that connect, the server goes on once some have left: 40 hold it up, and the next is served."""
     with serve(62, 8, prepared=few_descriptors(16)) as server:

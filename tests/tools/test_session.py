@@ -1,4 +1,5 @@
 """The client, where a wrong one would go unseen: it judges the tests of the server."""
+import os
 import socket
 import struct
 import subprocess
@@ -40,16 +41,16 @@ def test_host_is_kept():
 
 
 def test_end_goes_on_after_a_reset():
-    """A session that the server resets is no end: the next one is opened, until no more are taken."""
+    """A session that the server resets, before or after it has the client's end, is no end: the next one is opened, until no more are taken."""
     with socket.create_server(("127.0.0.1", 0)) as listens:
         def serves():
-            for number in range(4):
+            for number in range(60):
                 link, _ = listens.accept()
-                if number == 3:
+                if number == 59:
                     listens.close()
-                if number in (0, 2):
+                if number % 3 > 0:
                     link.setsockopt(socket.SOL_SOCKET, socket.SO_LINGER, struct.pack("ii", 1, 0))
-                else:
+                if number % 3 < 2:
                     link.recv(1)
                 link.close()
         thread = threading.Thread(target=serves)
@@ -65,7 +66,9 @@ def test_watch_writes_each_line_at_once():
     program = subprocess.Popen([PROGRAM, *words], stdout=subprocess.PIPE, text=True)
     try:
         port = program.stdout.readline().split()[1]
-        watch = subprocess.Popen([sys.executable, TOOL, "--watch", port, "--seconds", "60"], stdout=subprocess.PIPE, text=True)
+        # (with PYTHONUNBUFFERED a line comes at once whoever writes it)
+        environment = {name: value for name, value in os.environ.items() if name != "PYTHONUNBUFFERED"}
+        watch = subprocess.Popen([sys.executable, TOOL, "--watch", port, "--seconds", "60"], stdout=subprocess.PIPE, text=True, env=environment)
         found = []
         reader = threading.Thread(target=lambda: found.extend([watch.stdout.readline(), watch.stdout.readline()]))
         reader.start()

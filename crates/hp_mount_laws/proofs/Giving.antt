@@ -1,5 +1,5 @@
 -- A file that gives back, by what code did.
-use Rattle.std.proofs.Common.{◌≡◌, ℕ, ◌+◌, ◌<◌, ◌≤◌, ◌==◌, ⊎_elim, ◌⊎◌, nat_lt, Bool, true, false, not, List, [], ◌∷◌, Option, Some, None, Ok, Err, length, refl, sym, ap, subst, ◌∙◌, arith}
+use Rattle.std.proofs.Common.{◌≡◌, ℕ, ◌+◌, ◌<◌, ◌≤◌, ◌==◌, ⊎_elim, ◌⊎◌, nat_lt, Bool, true, false, not, List, [], ◌∷◌, Option, Some, None, Ok, Err, length, min, refl, sym, ap, subst, ◌∙◌, arith}
 use Rattle.std.specs.Prelude.{slice_set}
 use Rattle.std.specs.List.{count_by, sum_by}
 use Rattle.std.proofs.lemmas.Bool.Decides.{nat_tests}
@@ -53,15 +53,16 @@ module _ (s : Subpool) (v w : Files) (inodes : Option ℕ) (c : IsKept s v (moun
   enough_held = (let all = held_are in omega (arith, all))
 
   pub keeps : (new : Subpool) (last : Files) → length gs ≤ length v.files → new ≡ with_less (length w.going) reserves s →
-      last ≡ record w { going = [] } → IsKept new last (mount_from new inodes last.files)
+      last ≡ record w { going = []; room = min w.room new.held } → IsKept new last (mount_from new inodes last.files)
   keeps new last fewer new_is last_is =
       let pages = pages_are in
       let held = held_are in
       let room = c.room in
       let more = left.room in
       let few = c.few in
+      let files_are = last_is ∙ ap (λ (x : Subpool). record w { going = []; room = min w.room x.held }) new_is in
       subst (λ x. IsKept x last (mount_from x inodes last.files)) (sym new_is) (subst
-      (λ x. IsKept (with_less (length w.going) reserves s) x (mount_from (with_less (length w.going) reserves s) inodes x.files)) (sym last_is)
+      (λ x. IsKept (with_less (length w.going) reserves s) x (mount_from (with_less (length w.going) reserves s) inodes x.files)) (sym files_are)
       (record {
         pages = omega (arith, pages);
         used = omega (arith, pages, held);
@@ -70,7 +71,7 @@ module _ (s : Subpool) (v w : Files) (inodes : Option ℕ) (c : IsKept s v (moun
         few = subst (λ fs. length fs ≤ most_files) (sym w_is) (omega (arith, few, fewer));
       }))
 
-  pub leaves : (new : Subpool) (last : Files) → new ≡ with_less (length w.going) reserves s → last ≡ record w { going = [] } → mount_from new inodes last.files ≡ n
+  pub leaves : (new : Subpool) (last : Files) → new ≡ with_less (length w.going) reserves s → last ≡ record w { going = []; room = min w.room new.held } → mount_from new inodes last.files ≡ n
   leaves new last new_is last_is = ap (λ (x : Subpool). mount_from x inodes last.files) new_is ∙ ap (λ (x : Files). mount_from s inodes x.files) last_is ∙ ap (mount_from s inodes) w_is
 
   falls : fall s (length w.going + reserves) ≡ fall_of (Some m) (Some (mount_from s inodes w.files))
@@ -85,12 +86,13 @@ module _ (s : Subpool) (v w : Files) (inodes : Option ℕ) (c : IsKept s v (moun
 -- one file for another, or gone
 module _ (s : Subpool) (v w : Files) (inodes : Option ℕ) (c : IsKept s v (mount_from s inodes v.files)) (k : ℕ) (g : File) (reserves : ℕ)
     (left : IsLeft reserves v w) (w_is : w.files ≡ edited_at k g v.files) where
-  pub kept : (new : Subpool) (last : Files) → new ≡ with_less (length w.going) reserves s → last ≡ record w { going = [] } → IsKept new last (mount_from new inodes last.files)
+  pub kept : (new : Subpool) (last : Files) → new ≡ with_less (length w.going) reserves s → last ≡ record w { going = []; room = min w.room new.held } →
+      IsKept new last (mount_from new inodes last.files)
   kept new last new_is last_is =
       keeps s v w inodes c (edited_at k g v.files) reserves left w_is new last
       (let both = length-filter_both is_kept (λ x. not (is_kept x)) (λ x. refl) (slice_set v.files k g) in let long = length-set v.files k g in omega (arith, both, long)) new_is last_is
 
-  pub left_is : (new : Subpool) (last : Files) → new ≡ with_less (length w.going) reserves s → last ≡ record w { going = [] } →
+  pub left_is : (new : Subpool) (last : Files) → new ≡ with_less (length w.going) reserves s → last ≡ record w { going = []; room = min w.room new.held } →
       mount_from new inodes last.files ≡ swept (with_file (mount_from s inodes v.files) k g)
   left_is = leaves s v w inodes c (edited_at k g v.files) reserves left w_is
 

@@ -7,6 +7,7 @@ use Rattle.std.specs.Option.{option_map}
 use Rattle.hp_store.specs.Store.{Holding, Lengthens, at_slot, held_count, holders_of, one_if_held}
 use Rattle.hp_store.specs.Kept.{with_free}
 use Rattle.hp_store.proofs.Empty.{none_past, some_within}
+use Rattle.hp_store.proofs.Free.{none_held}
 
 pub held_some : (o : Option Holding) → holders_of o ≡ 1 → is_some o ≡ true
 held_some None e = absurd (omega (arith, e))
@@ -52,6 +53,17 @@ module _ (count : ℕ) (first : List (Option Holding)) where
       ap (λ k. first ++ replicate k None) all
       ∙ ap (λ xs. first ++ xs) (sym (replicate-append-replicate (count - length first) more None))
       ∙ sym (append_assoc first rest (replicate more None))
+
+-- where none has a page it is as if none was used
+pub none_used : (count : ℕ) (first : List (Option Holding)) → length first ≤ count → held_count first ≡ 0 → with_free count [] ≡ with_free count first
+none_used count first fits none =
+    let left : ℕ = count - length first in
+    let all : length first + left ≡ count - length {A = Option Holding} [] = omega (arith, fits) in
+    sym (
+    ap (λ xs. xs ++ replicate left None) (none_held first none)
+    ∙ replicate-append-replicate (length first) left None
+    ∙ ap (λ k. replicate k None) all
+    )
 
 pub lengthens : (old new : ℕ) (first : List (Option Holding)) → length first ≤ old → old ≤ new → Lengthens (with_free old first) (with_free new first)
 lengthens old new first fits more =

@@ -1,8 +1,9 @@
 //! Pages on their way into a store.
-ghost use Rattle.std.specs.Prelude.{◌≡◌, ◌-◌, ◌<◌, [], ◌∷◌, ◌++◌, IfNone, IfOk, option_to_list};
+ghost use Rattle.std.specs.Prelude.{◌≡◌, ◌+◌, ◌-◌, ◌<◌, ◌≤◌, [], ◌∷◌, ◌++◌, length, IfNone, IfOk, option_to_list};
+ghost use Rattle.hp_nodes.specs.Ledgers.{all_frames};
 
 use hp_model::naming::Naming;
-use hp_nodes::{Page, PageDraft};
+use hp_nodes::{Page, PageDraft, PageTally};
 use std::alloc::{AllocError, Global};
 use std::marker::Model;
 
@@ -14,23 +15,27 @@ pub struct PageBatch<N: Naming> {
 }
 
 impl<N: Naming> Model for PageBatch<N> {
-    ghost use Rattle.std.specs.Prelude.{◌≤◌, ◌+◌, vec_len, vec_capacity, reverse};
+    ghost use Rattle.std.specs.Prelude.{◌≤◌, ◌+◌, min, vec_len, vec_capacity, reverse};
+    ghost use Rattle.hp_nodes.specs.Ledgers.{all_frames};
     ghost use Rattle.hp_store.specs.Batch.{Batch};
 
     ghost Value = { Batch };
 
     ghost view = { λ b. record { pages = reverse b.pages.items; room = b.room } };
 
-    ghost invariant = { λ b. vec_len b.pages + b.room ≤ vec_capacity b.pages };
+    ghost invariant = { λ b.
+        min (vec_len b.pages + b.room) (all_frames N.frames) ≤ vec_capacity b.pages };
 }
 
 impl<N: Naming> PageBatch<N> {
-    /// No page, and room for `count` of them.
-    pub fn new(alloc: Global, count: usize) -> Result<Self, AllocError>
+    /// No page, and room for `count` of them, in a machine with so many frames. Memory is asked for no more pages than these,
+    /// as no more come.
+    pub fn new(alloc: Global, count: usize, frames: usize) -> Result<Self, AllocError>
+        requires { frames ≡ all_frames N.frames }
         ensures { IfOk result (λ b. b ≡ record { pages = []; room = count }) }
     {
         Ok(PageBatch {
-            pages: Vec::with_capacity(alloc, count)?,
+            pages: Vec::with_capacity(alloc, count.min(frames))?,
             room: count,
         })
     }
@@ -43,6 +48,11 @@ impl<N: Naming> PageBatch<N> {
           room = self.old.room - 1;
         } }
     {
+        if self.pages.len() == self.pages.capacity() {
+            // (with a place for each frame: then this page was one too many)
+            spend_drafts(&mut self.pages, page);
+            unreachable!()
+        }
         self.room -= 1;
         self.pages.push_reserved(page);
     }
@@ -64,4 +74,17 @@ impl<N: Naming> PageBatch<N> {
         let PageBatch { pages, room: _ } = self;
         pages.destroy_empty();
     }
+}
+
+// Spends the pages with one more, and shows how few they were: for what never runs.
+#[cold]
+#[inline(never)]
+fn spend_drafts<N: Naming>(pages: &mut Vec<PageDraft<N>>, page: PageDraft<N>)
+    ensures { length pages.old.items + 1 ≤ all_frames N.frames }
+{
+    let mut tally = PageTally::new(page.into_page());
+    while let Some(page) = pages.pop() {
+        tally.add(page.into_page());
+    }
+    tally.close();
 }

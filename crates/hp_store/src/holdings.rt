@@ -196,16 +196,26 @@ impl<N: Naming> Holdings<N> {
         tally.close();
     }
 
+    /// No slot was used any more, where none has a page.
+    pub(crate) fn clear(&mut self)
+        requires { held_count self.old.slots ≡ 0 }
+        ensures { self.new ≡ record self.old { slots = [] } }
+    {
+        clear_pages(&mut self.pages);
+        self.holders.clear();
+    }
+
     /// Ends slots without a page.
     pub(crate) fn close(self)
         requires { (n : ℕ) → slice_index_or self.slots n None ≡ None }
     {
         let Holdings {
-            pages,
+            mut pages,
             holders: _,
             room: _,
         } = self;
-        close_pages(pages);
+        clear_pages(&mut pages);
+        pages.destroy_empty();
     }
 }
 
@@ -221,8 +231,10 @@ fn spend_pages<N: Naming>(pages: &mut Vec<Option<Page<N>>>, tally: &mut PageTall
     }
 }
 
-fn close_pages<N: Naming>(mut pages: Vec<Option<Page<N>>>)
-    requires { (n : ℕ) → slice_index_or pages.items n None ≡ None }
+fn clear_pages<N: Naming>(pages: &mut Vec<Option<Page<N>>>)
+    requires { (n : ℕ) → slice_index_or pages.old.items n None ≡ None }
+    ensures none { pages.new.items ≡ [] }
+    ensures capacity { vec_capacity pages.new ≡ vec_capacity pages.old }
 {
     while let Some(slot) = pages.pop() {
         match slot {
@@ -230,5 +242,4 @@ fn close_pages<N: Naming>(mut pages: Vec<Option<Page<N>>>)
             Some(_) => unreachable!(),
         }
     }
-    pages.destroy_empty();
 }

@@ -5,7 +5,7 @@ ghost use Rattle.hp_nodes.specs.Ledgers.{all_frames};
 ghost use Rattle.hp_store.specs.Store.{holders_of, first_held, held_once_more, held_once_less, held_page, written_in, held_count, at_slot, Lengthens};
 
 use crate::holdings::Holdings;
-use crate::widening::widen;
+use crate::widening::{is_much, widen};
 use hp_model::naming::Naming;
 use hp_model::page_no::PageNo;
 use hp_nodes::Page;
@@ -72,7 +72,8 @@ impl<N: Naming> Slots<N> {
         Ok(())
     }
 
-    /// Keeps `count` slots free at least, which are, or as many slots as there are frames, and gives the memory of others back.
+    /// Keeps `count` slots free at least, which are, or as many slots as there are frames. Gives the memory of others back,
+    /// where that is much of what there is.
     pub(crate) fn lower(&mut self, count: usize, frames: usize)
         requires free { min (held_count self.old + count) frames ≤ length self.old }
         requires few { held_count self.old + count ≤ 2 ^ 32 }
@@ -82,10 +83,24 @@ impl<N: Naming> Slots<N> {
         ensures held { held_count self.new ≡ held_count self.old }
         ensures same { (n : ℕ) → slice_index_or self.new n None ≡ slice_index_or self.old n None }
     {
-        let used = self.used.used();
-        let room = (used - self.free.len() + count).min(frames).max(used);
+        let most = (self.held() + count).min(frames);
+        if !is_much(self.used.room(), most) {
+            return;
+        }
+        self.forget_used();
+        let room = most.max(self.used.used());
         self.used.narrow(room);
         self.free.shrink_to(room);
+    }
+
+    // Where no slot has a page, none was used any more.
+    fn forget_used(&mut self)
+        ensures { self.new ≡ self.old }
+    {
+        if self.held() == 0 {
+            self.free.clear();
+            self.used.clear();
+        }
     }
 
     /// Whether each slot has a page.

@@ -5,15 +5,12 @@ ghost use Rattle.hp_nodes.specs.Ledgers.{all_frames};
 ghost use Rattle.hp_store.specs.Store.{Store, page_at, held_page, holders_of, bytes_of, held_count, inserted, shared, dropped, overwritten, Lengthens};
 
 use crate::slots::Slots;
-use crate::widening::widen;
+use crate::widening::{narrow, widen};
 use hp_model::naming::Naming;
 use hp_model::page_no::PageNo;
 use hp_nodes::{Page, PageTally};
 use std::alloc::{AllocError, Global};
 use std::marker::Model;
-
-// Memory is given back where there is more than so many times what is wanted.
-const MUCH: usize = 4;
 
 /// Pages in use, each under a number. It has to be closed, and is empty by then.
 pub struct PageStore<N: Naming> {
@@ -73,6 +70,13 @@ impl<N: Naming> PageStore<N> {
         Ok(())
     }
 
+    /// The frames of all nodes.
+    pub fn frames(&self) -> usize
+        ensures { result ≡ all_frames N.frames }
+    {
+        self.frames
+    }
+
     /// How many pages there is room for.
     #[inline(always)]
     pub fn room(&self) -> usize
@@ -88,15 +92,11 @@ impl<N: Naming> PageStore<N> {
         ensures pages { Lengthens self.new.pages self.old.pages }
         ensures same { (n : ℕ) → page_at self.new n ≡ page_at self.old n }
     {
-        if count >= self.room {
-            return;
-        }
-        let most = (self.slots.held() + count + self.going.len()).min(self.frames);
-        if self.going.capacity() / MUCH > most {
-            self.slots.lower(count, self.frames);
-            self.going.shrink_to(most);
-        }
-        self.room = count;
+        let room = self.room.min(count);
+        let most = (self.slots.held() + room + self.going.len()).min(self.frames);
+        self.slots.lower(room, self.frames);
+        narrow(&mut self.going, most);
+        self.room = room;
     }
 
     /// Puts a page in under a number that was free.

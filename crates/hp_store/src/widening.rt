@@ -1,7 +1,12 @@
-//! Room in lists that never hold more than so many.
-ghost use Rattle.std.specs.Prelude.{◌≡◌, ◌≤◌, vec_len, vec_capacity, OnOk, OnErr};
+//! Room in lists: never for more than so many, nor for much more than is wanted.
+ghost use Rattle.std.specs.Prelude.{◌≡◌, ◌<◌, ◌≤◌, IsTrue, min, vec_len, vec_capacity, OnOk, OnErr};
 
 use std::alloc::AllocError;
+
+// Room is much where it is more than so many times what is wanted, and than what so few want.
+const MUCH: usize = 4;
+
+const FEW: usize = 64;
 
 /// Room for `count` values in all: for twice as many as before, if that is more, so that lists which grow by little are seldom
 /// moved, but never for more than `most`.
@@ -21,4 +26,23 @@ pub(crate) fn widen<T>(list: &mut Vec<T>, count: usize, most: usize) -> Result<(
     let wanted = capacity.saturating_mul(2).max(count).min(most);
     list.reserve_exact(wanted - list.len())?;
     Ok(())
+}
+
+/// Whether room is much more than is wanted.
+pub(crate) fn is_much(room: usize, wanted: usize) -> bool
+    ensures { IsTrue result → wanted < room }
+{
+    room / MUCH > wanted.max(FEW)
+}
+
+/// Gives the room for more than `count` values back, where that is much.
+pub(crate) fn narrow<T>(list: &mut Vec<T>, count: usize)
+    ensures items { list.new.items ≡ list.old.items }
+    ensures len { vec_len list.new ≡ vec_len list.old }
+    ensures room { min count (vec_capacity list.old) ≤ vec_capacity list.new }
+    ensures less { vec_capacity list.new ≤ vec_capacity list.old }
+{
+    if is_much(list.capacity(), count) {
+        list.shrink_to(count);
+    }
 }

@@ -66,8 +66,11 @@ impl<N: Naming> Files<N> {
         self.unmap(at, task, number, start, end)
     }
 
-    // As `exit`, with the room of copies that went left.
-    fn drop_all_of(&mut self, task: u64) -> u64
+    /// All maps of a task go, with their private copies and what their owners have not consumed. Files that are left
+    /// without name and maps go, with their pages and entries, and the others move down. Answers how many reservations
+    /// went. It takes a step for each number up to the greatest of the task's maps, for each index that they had, and for
+    /// each page that went; and no memory.
+    pub fn exit(&mut self, task: u64) -> u64
         requires { sum_by file_reserves self.old.files < 2 ^ 64 }
         ensures files { self.new.files ≡ filter is_kept (map (file_without task) self.old.files) }
         ensures left { IsLeft result self.old self.new }
@@ -79,21 +82,6 @@ impl<N: Naming> Files<N> {
             number += 1;
         }
         reserves + self.exit_among_all(task)
-    }
-
-    /// All maps of a task go, with their private copies and what their owners have not consumed. Files that are left
-    /// without name and maps go, with their pages and entries, and the others move down. Answers how many reservations
-    /// went. It takes a step for each number up to the greatest of the task's maps, for each index that they had, and for
-    /// each page that went; and no memory.
-    pub fn exit(&mut self, task: u64) -> u64
-        requires { sum_by file_reserves self.old.files < 2 ^ 64 }
-        ensures files { self.new.files ≡ filter is_kept (map (file_without task) self.old.files) }
-        ensures left { IsLeft result self.old self.new }
-    {
-        let room = self.spare_room();
-        let reserves = self.drop_all_of(task);
-        self.lower_room(room);
-        reserves
     }
 
     /// The file's indices from `a` up to `b` leave a task's map, with its private copies of them and what its owner has not

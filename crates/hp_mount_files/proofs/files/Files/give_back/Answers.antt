@@ -1,4 +1,4 @@
-use Rattle.std.proofs.Common.{[], ◌-◌, refl, ap, ◌∙◌}
+use Rattle.std.proofs.Common.{[], ◌-◌, min, refl, ap, ◌∙◌}
 use Rattle.hp_store.specs.Store.{Store}
 use Rattle.hp_lookup.specs.Files.{Files}
 use Rattle.hp_lookup.proofs.Staying.{files_stay}
@@ -9,6 +9,10 @@ pub returns-clause-going : goal.returns-clause-going
 returns-clause-going g c =
     let s = c.self.inside in
     let empty : Store = record s.store { going = [] } in
+    c.lower_room.ensures
+    ∙ ap (λ (v : Files). record v { room = min v.room c.held.result }) (
     ap (λ (t : Store). view t s.more s.list.files) c.put.ensures.going
     ∙ ap (λ fs. record { files = fs; going = []; room = empty.room - s.more }) (files_stay s.store empty s.list.files (λ n some. refl))
     ∙ ap (λ (v : Files). record v { going = [] }) c.self.view_is
+    )
+    ∙ ap (λ n. record c.args.self.now { going = []; room = min c.args.self.now.room n }) c.held.ensures

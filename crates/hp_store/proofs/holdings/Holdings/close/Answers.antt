@@ -1,5 +1,5 @@
 use Rattle.hp_store.proofs.Counted.{none_page}
 use Rattle.hp_store.proofs.holdings.Holdings.close.Goals as goal
 
-pub close_pages-requires : goal.close_pages-requires
-close_pages-requires g c = λ n. none_page _ _ c.self.invariant.counted n (rw (← c.self.view_is) at (c.requires n))
+pub clear_pages-requires : goal.clear_pages-requires
+clear_pages-requires g c = λ n. none_page _ _ c.self.invariant.counted n (rw (← c.self.view_is) at (c.requires n))

@@ -2,7 +2,7 @@ use Rattle.std.proofs.Common.{◌≡◌, ◌-◌, ◌≤◌, map}
 use Rattle.std.specs.List.{filter}
 use Rattle.hp_model.specs.files.GiveBack.{file_without, is_kept}
 use Rattle.hp_lookup.specs.Dropping.{IsLeft}
-use Rattle.hp_mount_files.proofs.files.Files.drop_all_of.Given as goal
+use Rattle.hp_mount_files.proofs.files.Files.exit.Given as goal
 
 abbrev pub invariant-loop-number : goal.invariant-loop-number
 invariant-loop-number g l = record {
