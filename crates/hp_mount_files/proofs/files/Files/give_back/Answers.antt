@@ -8,7 +8,7 @@ use Rattle.hp_mount_files.proofs.files.Files.give_back.Goals as goal
 pub returns-clause-going : goal.returns-clause-going
 returns-clause-going g c =
     let s = c.self.inside in
-    let empty : Store = record s.store { going = [] } in
-    ap (λ (t : Store). view t s.more s.list.files) c.put.ensures.going
-    ∙ ap (λ fs. record { files = fs; going = []; room = empty.room - s.more }) (files_stay s.store empty s.list.files (λ n some. refl))
+    let empty : Store = record s.pages.store { going = [] } in
+    ap (λ (t : Store). view t s.pages.more s.list.files) c.put.ensures.going
+    ∙ ap (λ fs. record { files = fs; going = []; room = empty.room - s.pages.more }) (files_stay s.pages.store empty s.list.files (λ n some. refl))
     ∙ ap (λ (v : Files). record v { going = [] }) c.self.view_is
