@@ -14,13 +14,13 @@ use Rattle.hp_model.specs.files.File.{cells_to}
 use Rattle.hp_model.specs.files.Mapping.{Mapping, is_of, is_unconsumed, map_punched, without_range}
 use Rattle.hp_model.specs.files.MountCounts.{is_waiting}
 use Rattle.hp_model.specs.Lists.{edit_range}
-use Rattle.hp_store.specs.Store.{Store}
-use Rattle.hp_lookup.specs.Dropping.{IsDropping}
 use Rattle.hp_lookup.specs.Held.{in_cell, in_file, in_map}
 use Rattle.hp_lookup.specs.Leaving.{emptied, ended_for, file_owed, is_used, left_by, owed}
 use Rattle.hp_lookup.specs.Numbered.{NumberedFile, with_truncated}
+use Rattle.hp_file.specs.HeldPages.{AreDropped}
+use Rattle.hp_file.specs.declared.held_pages.HeldPages.{HeldPages}
 use Rattle.hp_file.proofs.Cutting.{no_copies, none_all}
-use Rattle.hp_file.proofs.Drops.{drop_as}
+use Rattle.hp_file.proofs.Counting.{dropped_as}
 use Rattle.hp_file.proofs.Leaves.{left_holds}
 
 -- ---- a map that loses all its indices
@@ -118,9 +118,8 @@ module _ (task : ℕ) (old : NumberedFile) (name : Option (List ℕ)) (cells : L
   sum_left : (c : Mapping ℕ → ℕ) → ((m : Mapping ℕ) → c (without_range m.start (m.start + length m.places) m) ≡ 0) → sum_by c ended ≡ sum_by c x.maps
   sum_left c none = ap (sum_by c) ended_is ∙ others_sum task c none old.maps ∙ sym (ap (λ (f : NumberedFile). sum_by c f.maps) left_is)
 
-  pub left_dropping : (s t : Store) → IsDropping (λ n. sum_by (in_map n) raw) (λ n. sum_by (in_map n) ended) s t → IsDropping (λ n. in_file n old) (λ n. in_file n x) s t
-  left_dropping s t d = drop_as (λ n. sum_by (in_map n) raw) (λ n. sum_by (in_map n) ended) (λ n. in_file n old) (λ n. in_file n x) s t d
-      (λ n. (let maps = sum_left (in_map n) (ended_holds n) in let was = ap (sum_by (in_map n)) raw_old in
+  pub left_dropping : {N : Type 0} {s t : HeldPages N} → AreDropped (λ n. sum_by (in_map n) raw) (λ n. sum_by (in_map n) ended) s t → AreDropped (λ n. in_file n old) (λ n. in_file n x) s t
+  left_dropping d = dropped_as d (λ n. (let maps = sum_left (in_map n) (ended_holds n) in let was = ap (sum_by (in_map n)) raw_old in
       let cells = ap (λ (f : NumberedFile). sum_by (in_cell n) f.cells) x_is in omega (arith, maps, was, cells)))
 
   pub left_reserves : (r : ℕ) → r + sum_by owed ended ≡ sum_by owed raw → r + file_owed x ≡ file_owed old

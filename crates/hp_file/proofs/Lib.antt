@@ -8,6 +8,7 @@ pub mod FileLeaves
 pub mod FirstTask
 pub mod Ended
 pub mod Sharing
+pub mod Counting
 pub mod Noting
 pub mod Runs
 pub mod Filling

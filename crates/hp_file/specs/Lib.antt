@@ -4,3 +4,4 @@ pub mod Taking
 pub mod NewMap
 pub mod FileList
 pub mod Lends
+pub mod HeldPages

@@ -7,12 +7,13 @@ ghost use Rattle.hp_model.specs.files.Mapping.{copy_of, is_map, map_punched, wit
 ghost use Rattle.hp_mapping.specs.Mapped.{reserves_in};
 ghost use Rattle.hp_model.specs.Lists.{edit_range};
 ghost use Rattle.hp_store.specs.Store.{dropped, holders_of, page_at};
-ghost use Rattle.hp_lookup.specs.Dropping.{HasHolders, IsDropping};
 ghost use Rattle.hp_lookup.specs.Held.{in_cell, in_map, in_place, more_in};
 ghost use Rattle.hp_lookup.specs.Numbered.{no_mapping};
+ghost use Rattle.hp_file.specs.HeldPages.{AreDropped, AreHeld};
 ghost use Rattle.hp_file.specs.Taking.{robbed_at};
 ghost use Rattle.hp_lookup.specs.Leaving.{IsMoreButTask, ended_for, one_if_named, owed};
 
+use crate::held_pages::HeldPages;
 use hp_inode::Inode;
 use hp_lookup::Hints;
 use hp_mapping::{Mapping, PackedPlace, copy_in};
@@ -20,38 +21,27 @@ use hp_model::naming::Naming;
 use hp_model::page_no::PageNo;
 use hp_store::PageStore;
 
-/// A holder of a page goes, and with its last one the page. `more` counts holders beyond the first of each page.
-pub fn drop_holder<N: Naming>(number: PageNo, store: &mut PageStore<N>, more: &mut usize)
-    requires held { 0 < holders_of (page_at store.old number) }
-    requires counted { more.old ≡ more_in store.old.pages }
-    ensures dropped { store.new ≡ dropped number store.old }
-    ensures counted { more.new ≡ more_in store.new.pages }
+/// A holder of a page goes, and with its last one the page.
+pub fn drop_holder<N: Naming>(number: PageNo, pages: &mut HeldPages<N>)
+    requires held { 0 < holders_of (page_at pages.old.store number) }
+    requires counted { pages.old.more ≡ more_in pages.old.store.pages }
+    ensures dropped { pages.new.store ≡ dropped number pages.old.store }
+    ensures counted { pages.new.more ≡ more_in pages.new.store.pages }
 {
-    if !store.drop_one(number) {
-        *more -= 1;
+    if !pages.store.drop_one(number) {
+        pages.more -= 1;
     }
 }
 
 /// Takes the pages of a file's indices from `a` up to `b`, with their entries. Entries without a page stay. It takes a
 /// step for each page that was there.
-pub fn drop_pages<N: Naming>(
-    inode: &mut Inode,
-    a: u64,
-    b: u64,
-    store: &mut PageStore<N>,
-    more: &mut usize,
-)
-    requires held { (n : ℕ) → sum_by (in_cell n) inode.old ≤ holders_of (page_at store.old n) }
-    requires some { HasHolders store.old }
-    requires counted { more.old ≡ more_in store.old.pages }
+pub fn drop_pages<N: Naming>(inode: &mut Inode, a: u64, b: u64, pages: &mut HeldPages<N>)
+    requires { AreHeld (λ n. sum_by (in_cell n) inode.old) pages.old }
     ensures cells { inode.new ≡ edit_range cell_punched a b inode.old }
-    ensures dropping { IsDropping (λ n. sum_by (in_cell n) inode.old)
-        (λ n. sum_by (in_cell n) inode.new)
-        store.old store.new }
-    ensures counted { more.new ≡ more_in store.new.pages }
+    ensures dropping { AreDropped (λ n. sum_by (in_cell n) inode.old) (λ n. sum_by (in_cell n) inode.new) pages.old pages.new }
 {
     while let Some(number) = inode.take_page(a, b) {
-        drop_holder(number, store, more);
+        drop_holder(number, pages);
     }
 }
 
@@ -69,15 +59,11 @@ fn drop_counting<N: Naming>(number: PageNo, store: &mut PageStore<N>, gone: &mut
 }
 
 // The copies of some places go, up to the first place without a copy, which is answered.
-fn drop_run<N: Naming>(places: &[PackedPlace], store: &mut PageStore<N>, more: &mut usize) -> usize
-    requires held { (n : ℕ) → sum_by (in_place n) places.now ≤ holders_of (page_at store.old n) }
-    requires some { HasHolders store.old }
-    requires counted { more.old ≡ more_in store.old.pages }
+fn drop_run<N: Naming>(places: &[PackedPlace], pages: &mut HeldPages<N>) -> usize
+    requires { AreHeld (λ n. sum_by (in_place n) places.now) pages.old }
     ensures past { IsSome (copy_of (slice_index_or places.now 0 Gone)) → 0 < result }
     ensures within { result ≤ length places.now }
-    ensures dropping { IsDropping (λ n. sum_by (in_place n) places.now)
-        (λ n. sum_by (in_place n) (drop result places.now)) store.old store.new }
-    ensures counted { more.new ≡ more_in store.new.pages }
+    ensures dropping { AreDropped (λ n. sum_by (in_place n) places.now) (λ n. sum_by (in_place n) (drop result places.now)) pages.old pages.new }
 {
     let mut at = 0;
     let mut gone = 0;
@@ -85,93 +71,59 @@ fn drop_run<N: Naming>(places: &[PackedPlace], store: &mut PageStore<N>, more: &
         let Some(number) = copy_in(&places[at]) else {
             break;
         };
-        drop_counting(number, store, &mut gone);
+        drop_counting(number, &mut pages.store, &mut gone);
         at += 1;
     }
-    *more -= at - gone;
+    pages.more -= at - gone;
     at
 }
 
 /// The copies of a map that is gone go. It takes a step for each.
-pub fn drop_map<N: Naming>(map: &Mapping, store: &mut PageStore<N>, more: &mut usize)
-    requires held { (n : ℕ) → in_map n map.now ≤ holders_of (page_at store.old n) }
-    requires some { HasHolders store.old }
-    requires counted { more.old ≡ more_in store.old.pages }
-    ensures dropping { IsDropping (λ n. in_map n map.now) (λ n. 0) store.old store.new }
-    ensures counted { more.new ≡ more_in store.new.pages }
+pub fn drop_map<N: Naming>(map: &Mapping, pages: &mut HeldPages<N>)
+    requires { AreHeld (λ n. in_map n map.now) pages.old }
+    ensures { AreDropped (λ n. in_map n map.now) (λ n. 0) pages.old pages.new }
 {
     let end = map.end();
     let mut from = map.start();
     while let Some(at) = map.lowest_copy(from, end) {
-        let past = drop_run(map.run_from(at), store, more);
+        let past = drop_run(map.run_from(at), pages);
         from = at + past as u64;
     }
 }
 
 /// Takes a map's private copies of the indices from `a` up to `b`. It takes a step for each copy that was there.
-pub fn drop_copies<N: Naming>(
-    map: &mut Mapping,
-    a: u64,
-    b: u64,
-    store: &mut PageStore<N>,
-    more: &mut usize,
-)
-    requires held { (n : ℕ) → in_map n map.old ≤ holders_of (page_at store.old n) }
-    requires some { HasHolders store.old }
-    requires counted { more.old ≡ more_in store.old.pages }
+pub fn drop_copies<N: Naming>(map: &mut Mapping, a: u64, b: u64, pages: &mut HeldPages<N>)
+    requires { AreHeld (λ n. in_map n map.old) pages.old }
     ensures map { map.new ≡ map_punched a b map.old }
-    ensures dropping { IsDropping (λ n. in_map n map.old) (λ n. in_map n map.new) store.old
-        store.new }
-    ensures counted { more.new ≡ more_in store.new.pages }
+    ensures dropping { AreDropped (λ n. in_map n map.old) (λ n. in_map n map.new) pages.old pages.new }
 {
     while let Some(number) = map.take_copy(a, b) {
-        drop_holder(number, store, more);
+        drop_holder(number, pages);
     }
 }
 
 /// The same of each of some maps.
-pub fn drop_all_copies<N: Naming>(
-    maps: &mut [Mapping],
-    a: u64,
-    b: u64,
-    store: &mut PageStore<N>,
-    more: &mut usize,
-)
-    requires held { (n : ℕ) → sum_by (in_map n) maps.old ≤ holders_of (page_at store.old n) }
-    requires some { HasHolders store.old }
-    requires counted { more.old ≡ more_in store.old.pages }
+pub fn drop_all_copies<N: Naming>(maps: &mut [Mapping], a: u64, b: u64, pages: &mut HeldPages<N>)
+    requires { AreHeld (λ n. sum_by (in_map n) maps.old) pages.old }
     ensures maps { maps.new ≡ map (map_punched a b) maps.old }
-    ensures dropping { IsDropping (λ n. sum_by (in_map n) maps.old)
-        (λ n. sum_by (in_map n) maps.new)
-        store.old store.new }
-    ensures counted { more.new ≡ more_in store.new.pages }
+    ensures dropping { AreDropped (λ n. sum_by (in_map n) maps.old) (λ n. sum_by (in_map n) maps.new) pages.old pages.new }
 {
     for map in maps.iter_mut() {
-        drop_copies(map, a, b, store, more);
+        drop_copies(map, a, b, pages);
     }
 }
 
 // A map that has the page as its copy at an index loses it, and is marked.
-fn take_from<N: Naming>(
-    map: &mut Mapping,
-    index: u64,
-    number: PageNo,
-    store: &mut PageStore<N>,
-    more: &mut usize,
-)
-    requires held { (n : ℕ) → in_map n map.old ≤ holders_of (page_at store.old n) }
-    requires some { HasHolders store.old }
-    requires counted { more.old ≡ more_in store.old.pages }
+fn take_from<N: Naming>(map: &mut Mapping, index: u64, number: PageNo, pages: &mut HeldPages<N>)
+    requires { AreHeld (λ n. in_map n map.old) pages.old }
     ensures map { map.new ≡ robbed_at number index map.old }
-    ensures dropping { IsDropping (λ n. in_map n map.old) (λ n. in_map n map.new) store.old
-        store.new }
-    ensures counted { more.new ≡ more_in store.new.pages }
+    ensures dropping { AreDropped (λ n. in_map n map.old) (λ n. in_map n map.new) pages.old pages.new }
 {
     if map.copy_at(index) != Some(number) {
         return;
     }
     map.take_away(index);
-    drop_holder(number, store, more);
+    drop_holder(number, pages);
 }
 
 /// All maps but one lose the page as their copy at an index, and are marked. It takes a step for each.
@@ -180,48 +132,32 @@ pub fn take_from_others<N: Naming>(
     keeper: usize,
     index: u64,
     number: PageNo,
-    store: &mut PageStore<N>,
-    more: &mut usize,
+    pages: &mut HeldPages<N>,
 )
     requires keeper { keeper < length maps.old }
-    requires held { (n : ℕ) → sum_by (in_map n) maps.old ≤ holders_of (page_at store.old n) }
-    requires some { HasHolders store.old }
-    requires counted { more.old ≡ more_in store.old.pages }
+    requires held { AreHeld (λ n. sum_by (in_map n) maps.old) pages.old }
     ensures maps { maps.new ≡ slice_set (map (robbed_at number index) maps.old) keeper
         (slice_index_or maps.old keeper no_mapping) }
-    ensures dropping { IsDropping (λ n. sum_by (in_map n) maps.old)
-        (λ n. sum_by (in_map n) maps.new)
-        store.old store.new }
-    ensures counted { more.new ≡ more_in store.new.pages }
+    ensures dropping { AreDropped (λ n. sum_by (in_map n) maps.old) (λ n. sum_by (in_map n) maps.new) pages.old pages.new }
 {
     for (at, map) in maps.iter_mut().enumerate() {
         if at == keeper {
             continue;
         }
-        take_from(map, index, number, store, more);
+        take_from(map, index, number, pages);
     }
 }
 
 /// A file's indices from `a` up to `b` leave a map, with its copies of them. Answers how many reservations that frees. It
 /// takes a step for each index that was there.
-pub fn leave_range<N: Naming>(
-    map: &mut Mapping,
-    a: u64,
-    b: u64,
-    store: &mut PageStore<N>,
-    more: &mut usize,
-) -> u64
+pub fn leave_range<N: Naming>(map: &mut Mapping, a: u64, b: u64, pages: &mut HeldPages<N>) -> u64
     requires order { a ≤ b }
-    requires held { (n : ℕ) → in_map n map.old ≤ holders_of (page_at store.old n) }
-    requires some { HasHolders store.old }
-    requires counted { more.old ≡ more_in store.old.pages }
+    requires held { AreHeld (λ n. in_map n map.old) pages.old }
     ensures map { map.new ≡ without_range a b map.old }
-    ensures dropping { IsDropping (λ n. in_map n map.old) (λ n. in_map n map.new) store.old
-        store.new }
-    ensures counted { more.new ≡ more_in store.new.pages }
+    ensures dropping { AreDropped (λ n. in_map n map.old) (λ n. in_map n map.new) pages.old pages.new }
     ensures freed { result ≡ reserves_in a b map.old }
 {
-    drop_copies(map, a, b, store, more);
+    drop_copies(map, a, b, pages);
     map.unmap(a, b)
 }
 
@@ -230,16 +166,11 @@ fn end_map_of<N: Naming>(
     task: u64,
     map: &mut Mapping,
     hints: &mut Hints,
-    store: &mut PageStore<N>,
-    more: &mut usize,
+    pages: &mut HeldPages<N>,
 ) -> u64
-    requires held { (n : ℕ) → in_map n map.old ≤ holders_of (page_at store.old n) }
-    requires some { HasHolders store.old }
-    requires counted { more.old ≡ more_in store.old.pages }
+    requires { AreHeld (λ n. in_map n map.old) pages.old }
     ensures map { map.new ≡ ended_for task map.old }
-    ensures dropping { IsDropping (λ n. in_map n map.old) (λ n. in_map n map.new) store.old
-        store.new }
-    ensures counted { more.new ≡ more_in store.new.pages }
+    ensures dropping { AreDropped (λ n. in_map n map.old) (λ n. in_map n map.new) pages.old pages.new }
     ensures reserves { result + owed map.new ≡ owed map.old }
     ensures hints { IsMoreButTask task (one_if_named task map.old) hints.old hints.new }
 {
@@ -249,7 +180,7 @@ fn end_map_of<N: Naming>(
     hints.forget_map(task, map.number());
     let start = map.start();
     let end = map.end();
-    leave_range(map, start, end, store, more)
+    leave_range(map, start, end, pages)
 }
 
 /// The maps of a task lose all their indices, with what they hold, and are noted no more. Answers how many reservations
@@ -258,38 +189,29 @@ pub fn end_maps_of<N: Naming>(
     task: u64,
     maps: &mut [Mapping],
     hints: &mut Hints,
-    store: &mut PageStore<N>,
-    more: &mut usize,
+    pages: &mut HeldPages<N>,
 ) -> u64
-    requires held { (n : ℕ) → sum_by (in_map n) maps.old ≤ holders_of (page_at store.old n) }
-    requires some { HasHolders store.old }
-    requires counted { more.old ≡ more_in store.old.pages }
+    requires held { AreHeld (λ n. sum_by (in_map n) maps.old) pages.old }
     requires few { sum_by owed maps.old < 2 ^ 64 }
     ensures maps { maps.new ≡ map (ended_for task) maps.old }
-    ensures dropping { IsDropping (λ n. sum_by (in_map n) maps.old)
-        (λ n. sum_by (in_map n) maps.new)
-        store.old store.new }
-    ensures counted { more.new ≡ more_in store.new.pages }
+    ensures dropping { AreDropped (λ n. sum_by (in_map n) maps.old) (λ n. sum_by (in_map n) maps.new) pages.old pages.new }
     ensures reserves { result + sum_by owed maps.new ≡ sum_by owed maps.old }
     ensures hints { IsMoreButTask task (λ number. count_by (is_map task number) maps.old)
         hints.old hints.new }
 {
     let mut reserves = 0;
     for map in maps.iter_mut() {
-        reserves += end_map_of(task, map, hints, store, more);
+        reserves += end_map_of(task, map, hints, pages);
     }
     reserves
 }
 
 /// The copies of maps that are gone go. It takes a step for each map and copy.
-pub fn drop_maps<N: Naming>(maps: &[Mapping], store: &mut PageStore<N>, more: &mut usize)
-    requires held { (n : ℕ) → sum_by (in_map n) maps.now ≤ holders_of (page_at store.old n) }
-    requires some { HasHolders store.old }
-    requires counted { more.old ≡ more_in store.old.pages }
-    ensures dropping { IsDropping (λ n. sum_by (in_map n) maps.now) (λ n. 0) store.old store.new }
-    ensures counted { more.new ≡ more_in store.new.pages }
+pub fn drop_maps<N: Naming>(maps: &[Mapping], pages: &mut HeldPages<N>)
+    requires { AreHeld (λ n. sum_by (in_map n) maps.now) pages.old }
+    ensures { AreDropped (λ n. sum_by (in_map n) maps.now) (λ n. 0) pages.old pages.new }
 {
     for map in maps {
-        drop_map(map, store, more);
+        drop_map(map, pages);
     }
 }

@@ -3,9 +3,8 @@ ghost use Rattle.std.specs.Prelude.{◌≡◌, ◌^◌, ◌-◌, drop, take, ◌
 ghost use Rattle.hp_model.specs.declared.cell.Cell.TheVariants.{Hole, Entered, Present};
 ghost use Rattle.std.specs.List.{list_any, position_or_len, slice_index_or};
 ghost use Rattle.hp_model.specs.files.Mapping.{is_map};
-ghost use Rattle.hp_store.specs.Store.{holders_of, page_at};
-ghost use Rattle.hp_lookup.specs.Dropping.{HasHolders, IsDropping};
-ghost use Rattle.hp_lookup.specs.Held.{in_file, more_in};
+ghost use Rattle.hp_file.specs.HeldPages.{AreDropped, AreHeld};
+ghost use Rattle.hp_lookup.specs.Held.{in_file};
 ghost use Rattle.hp_model.specs.files.MountCounts.{is_waiting};
 ghost use Rattle.hp_lookup.specs.Keyed.{is_name_of};
 ghost use Rattle.hp_lookup.specs.Numbered.{mapping_at, with_punched, with_truncated};
@@ -20,13 +19,13 @@ mod forking;
 mod leaving;
 
 use crate::dropping::{drop_all_copies, drop_maps, drop_pages};
+use crate::held_pages::HeldPages;
 pub use filling::word_end;
 use hp_inode::Inode;
 use hp_lookup::FileName;
 use hp_mapping::Mapping;
 use hp_model::naming::Naming;
 use hp_model::page_no::PageNo;
-use hp_store::PageStore;
 use std::alloc::{AllocError, Global};
 use std::marker::Model;
 
@@ -88,12 +87,9 @@ impl File {
     }
 
     /// Ends the file with its maps. What they hold goes. Answers how many entries without a page it had.
-    pub fn close<N: Naming>(self, store: &mut PageStore<N>, more: &mut usize) -> u64
-        requires held { (n : ℕ) → in_file n self ≤ holders_of (page_at store.old n) }
-        requires some { HasHolders store.old }
-        requires counted { more.old ≡ more_in store.old.pages }
-        ensures dropping { IsDropping (λ n. in_file n self) (λ n. 0) store.old store.new }
-        ensures counted { more.new ≡ more_in store.new.pages }
+    pub fn close<N: Naming>(self, pages: &mut HeldPages<N>) -> u64
+        requires { AreHeld (λ n. in_file n self) pages.old }
+        ensures dropping { AreDropped (λ n. in_file n self) (λ n. 0) pages.old pages.new }
         ensures entries { result ≡ count_by is_waiting self.cells }
     {
         let File {
@@ -102,8 +98,8 @@ impl File {
             maps,
         } = self;
         let len = inode.len();
-        drop_pages(&mut inode, 0, len, store, more);
-        drop_maps(&maps, store, more);
+        drop_pages(&mut inode, 0, len, pages);
+        drop_maps(&maps, pages);
         inode.drop_entries(0, len)
     }
 
@@ -116,39 +112,26 @@ impl File {
 
     /// The pages of the indices from `a` up to `b` go with their entries, and so do private copies of them. Entries
     /// without a page stay.
-    pub fn punch<N: Naming>(&mut self, a: u64, b: u64, store: &mut PageStore<N>, more: &mut usize)
-        requires held { (n : ℕ) → in_file n self.old ≤ holders_of (page_at store.old n) }
-        requires some { HasHolders store.old }
-        requires counted { more.old ≡ more_in store.old.pages }
+    pub fn punch<N: Naming>(&mut self, a: u64, b: u64, pages: &mut HeldPages<N>)
+        requires { AreHeld (λ n. in_file n self.old) pages.old }
         ensures file { self.new ≡ with_punched a b self.old }
-        ensures dropping { IsDropping (λ n. in_file n self.old) (λ n. in_file n self.new)
-            store.old store.new }
-        ensures counted { more.new ≡ more_in store.new.pages }
+        ensures dropping { AreDropped (λ n. in_file n self.old) (λ n. in_file n self.new) pages.old pages.new }
     {
-        drop_pages(&mut self.inode, a, b, store, more);
-        drop_all_copies(&mut self.maps, a, b, store, more);
+        drop_pages(&mut self.inode, a, b, pages);
+        drop_all_copies(&mut self.maps, a, b, pages);
     }
 
     /// Makes the file `len` indices long. Pages, entries and private copies from there on go. Answers how many entries
     /// without a page went.
-    pub fn truncate<N: Naming>(
-        &mut self,
-        len: u64,
-        store: &mut PageStore<N>,
-        more: &mut usize,
-    ) -> u64
-        requires held { (n : ℕ) → in_file n self.old ≤ holders_of (page_at store.old n) }
-        requires some { HasHolders store.old }
-        requires counted { more.old ≡ more_in store.old.pages }
+    pub fn truncate<N: Naming>(&mut self, len: u64, pages: &mut HeldPages<N>) -> u64
+        requires held { AreHeld (λ n. in_file n self.old) pages.old }
         requires small { len < 2 ^ 32 }
         ensures file { self.new ≡ with_truncated len self.old }
-        ensures dropping { IsDropping (λ n. in_file n self.old) (λ n. in_file n self.new)
-            store.old store.new }
-        ensures counted { more.new ≡ more_in store.new.pages }
+        ensures dropping { AreDropped (λ n. in_file n self.old) (λ n. in_file n self.new) pages.old pages.new }
         ensures entries { result ≡ count_by is_waiting (drop len self.old.cells) }
     {
         let end = self.inode.len();
-        self.punch(len, len + end, store, more);
+        self.punch(len, len + end, pages);
         let inode = &mut self.inode;
         let entries = inode.drop_entries(len.min(end), end);
         inode.set_len(len);

@@ -1,20 +1,18 @@
 //! A child's maps of all files.
 ghost use Rattle.std.specs.Prelude.{◌≡◌, ◌^◌, ◌+◌, ◌-◌, ◌<◌, ◌≤◌, length, ℕ, IfOk, OnOk};
 ghost use Rattle.std.specs.List.{filter, sum_by};
-ghost use Rattle.hp_store.specs.Store.{holders_of, page_at};
-ghost use Rattle.hp_lookup.specs.Dropping.{HasHolders};
-ghost use Rattle.hp_lookup.specs.Forking.{AreFilled, AreReady, HasNoted, HasRoom, HaveJoined, HaveNoted, HaveRoom, IsSharing, in_list, in_lists, joined, joined_at, list_copies, list_length, maps_by, with_list};
-ghost use Rattle.hp_lookup.specs.Held.{more_in};
+ghost use Rattle.hp_lookup.specs.Forking.{AreFilled, AreReady, HasNoted, HasRoom, HaveJoined, HaveNoted, HaveRoom, in_list, in_lists, joined, joined_at, list_copies, list_length, maps_by, with_list};
+ghost use Rattle.hp_file.specs.HeldPages.{AreHeld, AreShared};
 ghost use Rattle.hp_lookup.specs.Leaving.{is_used};
 ghost use Rattle.hp_lookup.specs.Numbered.{numbered_at};
 
 use crate::copies_of;
 use crate::file_list::FileList;
+use crate::held_pages::HeldPages;
 use hp_lookup::{FileTag, Hints, Tags};
 use hp_mapping::Mapping;
 use hp_model::naming::Naming;
 use hp_model::profile::MOST_MAPS;
-use hp_store::PageStore;
 use std::alloc::{AllocError, Global};
 
 // So many empty lists.
@@ -147,28 +145,23 @@ fn join_at<N: Naming>(
     list: Vec<Mapping>,
     files: &mut FileList,
     hints: &mut Hints,
-    store: &mut PageStore<N>,
-    more: &mut usize,
+    pages: &mut HeldPages<N>,
 )
     requires within { at < length files.old.files }
     requires room { HasRoom (numbered_at files.old.files at) list }
     requires none { maps_by child (numbered_at files.old.files at) ≡ 0 }
     requires keys { maps_by child (with_list (numbered_at files.old.files at) list)
         ≤ hints.old.room }
-    requires held { (n : ℕ) → in_list n list ≤ holders_of (page_at store.old n) }
-    requires some { HasHolders store.old }
-    requires counted { more.old ≡ more_in store.old.pages }
-    requires few { more.old + list_copies list ≤ 2 ^ 32 }
+    requires held { AreHeld (λ n. in_list n list) pages.old }
+    requires few { pages.old.more + list_copies list ≤ 2 ^ 32 }
     ensures files { files.new.files ≡ joined_at at list files.old.files }
     ensures noted { HasNoted child (numbered_at files.new.files at) hints.old hints.new }
-    ensures sharing { IsSharing (λ n. in_list n list) store.old store.new }
-    ensures counted { more.new ≡ more_in store.new.pages }
-    ensures more { more.new ≡ more.old + list_copies list }
+    ensures sharing { AreShared (λ n. in_list n list) (list_copies list) pages.old pages.new }
 {
     if list.is_empty() {
         return;
     }
-    files[at].join(list, store, more);
+    files[at].join(list, pages);
     let tag = files.tag(at);
     files[at].note_maps(child, FileTag::new(at, tag), hints);
 }
@@ -180,23 +173,20 @@ pub fn join_all<N: Naming>(
     mut lists: Vec<Vec<Mapping>>,
     files: &mut FileList,
     hints: &mut Hints,
-    store: &mut PageStore<N>,
-    more: &mut usize,
+    pages: &mut HeldPages<N>,
 )
     requires room { HaveRoom files.old.files lists.items }
     requires none { sum_by (maps_by child) files.old.files ≡ 0 }
     requires keys { sum_by (maps_by child) (joined files.old.files lists.items) ≤ hints.old.room }
-    requires held { (n : ℕ) → in_lists n lists.items ≤ holders_of (page_at store.old n) }
-    requires some { HasHolders store.old }
-    requires counted { more.old ≡ more_in store.old.pages }
-    requires few { more.old + sum_by list_copies lists.items ≤ 2 ^ 32 }
-    ensures joined { HaveJoined lists.items files.old.files files.new.files store.old store.new
-        more.old more.new }
+    requires held { AreHeld (λ n. in_lists n lists.items) pages.old }
+    requires few { pages.old.more + sum_by list_copies lists.items ≤ 2 ^ 32 }
+    ensures joined { HaveJoined lists.items files.old.files files.new.files pages.old.store
+        pages.new.store pages.old.more pages.new.more }
     ensures noted { HaveNoted child files.new.files hints.old hints.new }
 {
     while let Some(list) = lists.pop() {
         let at = lists.len();
-        join_at(child, at, list, files, hints, store, more);
+        join_at(child, at, list, files, hints, pages);
     }
 }
 

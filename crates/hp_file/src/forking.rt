@@ -8,7 +8,9 @@ ghost use Rattle.hp_store.specs.Store.{holders_of, page_at};
 ghost use Rattle.hp_lookup.specs.Dropping.{HasHolders};
 ghost use Rattle.hp_lookup.specs.Forking.{IsShared, IsSharing, children_of, copies_in};
 ghost use Rattle.hp_lookup.specs.Held.{in_map, in_place, more_in};
+ghost use Rattle.hp_file.specs.HeldPages.{AreHeld, AreShared};
 
+use crate::held_pages::HeldPages;
 use hp_lookup::Tags;
 use hp_mapping::{Mapping, PackedPlace, copy_in};
 use hp_model::naming::Naming;
@@ -28,16 +30,14 @@ fn add_holder<N: Naming>(number: PageNo, store: &mut PageStore<N>)
 }
 
 // The copies of some places have a holder more, up to the first place without a copy, which is answered.
-fn share_run<N: Naming>(places: &[PackedPlace], store: &mut PageStore<N>, more: &mut usize) -> usize
-    requires held { (n : ℕ) → sum_by (in_place n) places.now ≤ holders_of (page_at store.old n) }
-    requires some { HasHolders store.old }
-    requires counted { more.old ≡ more_in store.old.pages }
-    requires few { more.old + count_by has_copy places.now ≤ 2 ^ 32 }
+fn share_run<N: Naming>(places: &[PackedPlace], pages: &mut HeldPages<N>) -> usize
+    requires held { AreHeld (λ n. sum_by (in_place n) places.now) pages.old }
+    requires few { pages.old.more + count_by has_copy places.now ≤ 2 ^ 32 }
     ensures past { IsSome (copy_of (slice_index_or places.now 0 Gone)) → 0 < result }
     ensures within { result ≤ length places.now }
-    ensures shared { IsShared places.now (drop result places.now) store.old store.new }
-    ensures counted { more.new ≡ more_in store.new.pages }
-    ensures more { more.new + count_by has_copy (drop result places.now) ≡ more.old
+    ensures shared { IsShared places.now (drop result places.now) pages.old.store pages.new.store }
+    ensures counted { pages.new.more ≡ more_in pages.new.store.pages }
+    ensures more { pages.new.more + count_by has_copy (drop result places.now) ≡ pages.old.more
         + count_by has_copy places.now }
 {
     let mut at = 0;
@@ -45,27 +45,23 @@ fn share_run<N: Naming>(places: &[PackedPlace], store: &mut PageStore<N>, more: 
         let Some(number) = copy_in(&places[at]) else {
             break;
         };
-        add_holder(number, store);
+        add_holder(number, &mut pages.store);
         at += 1;
     }
-    *more += at;
+    pages.more += at;
     at
 }
 
 // Each copy of a map has a holder more. It takes a step for each.
-fn share_map<N: Naming>(map: &Mapping, store: &mut PageStore<N>, more: &mut usize)
-    requires held { (n : ℕ) → in_map n map.now ≤ holders_of (page_at store.old n) }
-    requires some { HasHolders store.old }
-    requires counted { more.old ≡ more_in store.old.pages }
-    requires few { more.old + copies_in map.now ≤ 2 ^ 32 }
-    ensures sharing { IsSharing (λ n. in_map n map.now) store.old store.new }
-    ensures counted { more.new ≡ more_in store.new.pages }
-    ensures more { more.new ≡ more.old + copies_in map.now }
+fn share_map<N: Naming>(map: &Mapping, pages: &mut HeldPages<N>)
+    requires held { AreHeld (λ n. in_map n map.now) pages.old }
+    requires few { pages.old.more + copies_in map.now ≤ 2 ^ 32 }
+    ensures { AreShared (λ n. in_map n map.now) (copies_in map.now) pages.old pages.new }
 {
     let end = map.end();
     let mut from = map.start();
     while let Some(at) = map.lowest_copy(from, end) {
-        let past = share_run(map.run_from(at), store, more);
+        let past = share_run(map.run_from(at), pages);
         from = at + past as u64;
     }
 }
@@ -82,17 +78,13 @@ pub fn copies_of(maps: &[Mapping]) -> u64
 }
 
 /// Each copy of some maps has a holder more. It takes a step for each map and copy.
-pub fn share_all<N: Naming>(maps: &[Mapping], store: &mut PageStore<N>, more: &mut usize)
-    requires held { (n : ℕ) → sum_by (in_map n) maps.now ≤ holders_of (page_at store.old n) }
-    requires some { HasHolders store.old }
-    requires counted { more.old ≡ more_in store.old.pages }
-    requires few { more.old + sum_by copies_in maps.now ≤ 2 ^ 32 }
-    ensures sharing { IsSharing (λ n. sum_by (in_map n) maps.now) store.old store.new }
-    ensures counted { more.new ≡ more_in store.new.pages }
-    ensures more { more.new ≡ more.old + sum_by copies_in maps.now }
+pub fn share_all<N: Naming>(maps: &[Mapping], pages: &mut HeldPages<N>)
+    requires held { AreHeld (λ n. sum_by (in_map n) maps.now) pages.old }
+    requires few { pages.old.more + sum_by copies_in maps.now ≤ 2 ^ 32 }
+    ensures { AreShared (λ n. sum_by (in_map n) maps.now) (sum_by copies_in maps.now) pages.old pages.new }
 {
     for map in maps {
-        share_map(map, store, more);
+        share_map(map, pages);
     }
 }
 

@@ -1,38 +1,34 @@
 //! Maps that leave all files.
 ghost use Rattle.std.specs.Prelude.{◌≡◌, ◌^◌, ◌+◌, ◌<◌, ◌≤◌, ℕ, length, true};
 ghost use Rattle.std.specs.List.{All, sum_by};
-ghost use Rattle.hp_store.specs.Store.{holders_of, page_at};
-ghost use Rattle.hp_lookup.specs.Dropping.{HasHolders, IsDropping};
-ghost use Rattle.hp_lookup.specs.Held.{in_files, more_in};
+ghost use Rattle.hp_file.specs.HeldPages.{AreDropped, AreHeld};
+ghost use Rattle.hp_lookup.specs.Held.{in_files};
 ghost use Rattle.hp_lookup.specs.Keyed.{is_listed, labels_of, maps_for};
 ghost use Rattle.hp_lookup.specs.Leaving.{HaveMapsLeft, file_owed, map_sum, swept_at};
 
 use crate::file_list::FileList;
+use crate::held_pages::HeldPages;
 use hp_lookup::{Departed, Hints};
 use hp_model::naming::Naming;
-use hp_store::PageStore;
 
 /// All maps of a task go from each of some files. A file that is left without name and maps loses its pages and entries.
 pub fn drop_maps_of<N: Naming>(
     task: u64,
     files: &mut FileList,
     hints: &mut Hints,
-    store: &mut PageStore<N>,
-    more: &mut usize,
+    pages: &mut HeldPages<N>,
 ) -> Departed
-    requires held { (n : ℕ) → in_files n files.old.files ≤ holders_of (page_at store.old n) }
-    requires some { HasHolders store.old }
-    requires counted { more.old ≡ more_in store.old.pages }
+    requires held { AreHeld (λ n. in_files n files.old.files) pages.old }
     requires few { sum_by file_owed files.old.files < 2 ^ 64 }
     requires few_maps { map_sum files.old.files < 2 ^ 64 }
-    ensures { HaveMapsLeft task files.old.files files.new.files hints.old hints.new store.old
-        store.new more.new
+    ensures { HaveMapsLeft task files.old.files files.new.files hints.old hints.new
+        pages.old.store pages.new.store pages.new.more
         result.maps result.reserves }
 {
     let mut maps = 0;
     let mut reserves = 0;
     for at in 0..files.len() {
-        let gone = files[at].drop_maps_of(task, hints, store, more);
+        let gone = files[at].drop_maps_of(task, hints, pages);
         maps += gone.maps;
         reserves += gone.reserves;
     }
@@ -45,18 +41,15 @@ pub fn drop_some_maps_of<N: Naming>(
     count: u64,
     files: &mut FileList,
     hints: &mut Hints,
-    store: &mut PageStore<N>,
-    more: &mut usize,
+    pages: &mut HeldPages<N>,
 ) -> Departed
     requires count { count ≡ sum_by (maps_for task) (labels_of files.old.files) }
     requires listed { All (λ label. is_listed label ≡ true) (labels_of files.old.files) }
-    requires held { (n : ℕ) → in_files n files.old.files ≤ holders_of (page_at store.old n) }
-    requires some { HasHolders store.old }
-    requires counted { more.old ≡ more_in store.old.pages }
+    requires held { AreHeld (λ n. in_files n files.old.files) pages.old }
     requires few { sum_by file_owed files.old.files < 2 ^ 64 }
     requires few_maps { map_sum files.old.files < 2 ^ 64 }
-    ensures { HaveMapsLeft task files.old.files files.new.files hints.old hints.new store.old
-        store.new more.new
+    ensures { HaveMapsLeft task files.old.files files.new.files hints.old hints.new
+        pages.old.store pages.new.store pages.new.more
         result.maps result.reserves }
 {
     if count == 0 {
@@ -65,26 +58,16 @@ pub fn drop_some_maps_of<N: Naming>(
             reserves: 0,
         };
     }
-    drop_maps_of(task, files, hints, store, more)
+    drop_maps_of(task, files, hints, pages)
 }
 
 /// A file without name and maps goes, with its pages and entries, and those behind it move down. Answers how many of its
 /// entries had no page.
-pub fn sweep_file<N: Naming>(
-    files: &mut FileList,
-    at: usize,
-    store: &mut PageStore<N>,
-    more: &mut usize,
-) -> u64
+pub fn sweep_file<N: Naming>(files: &mut FileList, at: usize, pages: &mut HeldPages<N>) -> u64
     requires within { at < length files.old.files }
-    requires held { (n : ℕ) → in_files n files.old.files ≤ holders_of (page_at store.old n) }
-    requires some { HasHolders store.old }
-    requires counted { more.old ≡ more_in store.old.pages }
+    requires held { AreHeld (λ n. in_files n files.old.files) pages.old }
     ensures files { files.new.files ≡ swept_at at files.old.files }
-    ensures dropping { IsDropping (λ n. in_files n files.old.files)
-        (λ n. in_files n files.new.files)
-        store.old store.new }
-    ensures counted { more.new ≡ more_in store.new.pages }
+    ensures dropping { AreDropped (λ n. in_files n files.old.files) (λ n. in_files n files.new.files) pages.old pages.new }
     ensures reserves { result + sum_by file_owed files.new.files
         ≡ sum_by file_owed files.old.files }
 {
@@ -92,21 +75,18 @@ pub fn sweep_file<N: Naming>(
         return 0;
     }
     let gone = files.remove(at);
-    gone.close(store, more)
+    gone.close(pages)
 }
 
 impl FileList {
     /// Ends the files with their maps. What they hold goes.
-    pub fn close<N: Naming>(self, store: &mut PageStore<N>, more: &mut usize)
-        requires held { (n : ℕ) → in_files n self.files ≤ holders_of (page_at store.old n) }
-        requires some { HasHolders store.old }
-        requires counted { more.old ≡ more_in store.old.pages }
-        ensures dropping { IsDropping (λ n. in_files n self.files) (λ n. 0) store.old store.new }
-        ensures counted { more.new ≡ more_in store.new.pages }
+    pub fn close<N: Naming>(self, pages: &mut HeldPages<N>)
+        requires { AreHeld (λ n. in_files n self.files) pages.old }
+        ensures { AreDropped (λ n. in_files n self.files) (λ n. 0) pages.old pages.new }
     {
         let mut files = self;
         while let Some(file) = files.pop() {
-            file.close(store, more);
+            file.close(pages);
         }
     }
 }

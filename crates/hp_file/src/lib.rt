@@ -6,6 +6,7 @@ mod file;
 mod file_list;
 mod fork_lists;
 mod forking;
+mod held_pages;
 mod leaving;
 
 pub use dropping::drop_holder;
@@ -13,4 +14,5 @@ pub use file::{CellState, File, word_end};
 pub use file_list::FileList;
 pub use fork_lists::{children, join_all, retain_some_used, room_for};
 pub use forking::copies_of;
+pub use held_pages::HeldPages;
 pub use leaving::{drop_maps_of, drop_some_maps_of, sweep_file};

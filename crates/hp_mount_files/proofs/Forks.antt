@@ -22,6 +22,7 @@ use Rattle.hp_lookup.specs.Keyed.{IsKeyed, Label, is_listed, keys_in, label_of, 
 use Rattle.hp_lookup.specs.Leaving.{HaveMapsLeft, emptied, is_used, left_by, map_sum}
 use Rattle.hp_lookup.specs.Numbered.{NumberedFile, files_shown, with_truncated}
 use Rattle.hp_lookup.specs.Places.{all_maps}
+use Rattle.hp_file.specs.HeldPages.{AreHeld}
 use Rattle.hp_file.proofs.Entering.{room_keeps, room_view}
 use Rattle.hp_mount_files.proofs.Exiting.{exit_files, exit_keeps, exit_keys, exit_left, keys_gone, named_labelled}
 use Rattle.hp_file.proofs.FileLeaves.{empty_file}
@@ -266,8 +267,12 @@ module _ {n dropped : Noted} {s t : Store} {more now maps held : ℕ} {tally : �
   pub join_room : HaveRoom ended lists
   join_room = ready_room parent child apart ended lists ready_now
 
-  pub join_held : (m : ℕ) → in_lists m lists ≤ holders_of (page_at t m)
-  join_held m = (let all = lists_in m in let few = few_kids parent child apart m K in let held = left.held.held m in omega (arith, all, few, held))
+  pub join_held : {N : Type 0} → AreHeld {N = N} (λ m. in_lists m lists) (record { store = t; more = now })
+  join_held = record {
+    held = λ m. (let all = lists_in m in let few = few_kids parent child apart m K in let held = left.held.held m in omega (arith, all, few, held));
+    some = left.held.some;
+    counted = went.counted;
+  }
 
   pub join_few : now + sum_by list_copies lists ≤ 2 ^ 32
   join_few = (let was = set.is.held.counted in let less = went.dropping.fewer in let few = set.few in omega (arith, was, less, few, went.counted))

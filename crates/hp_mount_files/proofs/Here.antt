@@ -7,15 +7,17 @@ use Rattle.hp_model.specs.declared.place.Place.TheVariants.{Gone, Live}
 use Rattle.hp_model.specs.files.File.{File}
 use Rattle.hp_model.specs.files.Mapping.{Map, copy_of, is_live, place_at}
 use Rattle.hp_model.specs.files.Page.{Copy}
-use Rattle.hp_store.specs.Store.{Store, holders_of, page_at}
+use Rattle.hp_store.specs.Store.{Store}
 use Rattle.hp_lookup.specs.declared.copy_state.CopyState.{CopyState}
 use Rattle.hp_lookup.specs.Files.{Files, file_at}
-use Rattle.hp_lookup.specs.Held.{IsHeld, in_file}
+use Rattle.hp_lookup.specs.Held.{IsHeld, in_file, in_files}
 use Rattle.hp_lookup.specs.Numbered.{NumberedFile, files_shown, map_shown, mapping_at, no_mapping, numbered_at, place_shown}
 use Rattle.hp_lookup.specs.Places.{map_among}
 use Rattle.hp_lookup.proofs.Cells.{file_is, no_file}
 use Rattle.hp_lookup.proofs.Lifting.{at_most}
 use Rattle.hp_lookup.proofs.Views.{files_len, map_seen, place_seen, read_is, view}
+use Rattle.hp_file.specs.HeldPages.{AreHeld}
+use Rattle.hp_file.proofs.Counting.{part_held}
 use Rattle.hp_file.specs.States.{IsCopyState}
 use Rattle.hp_mount_files.proofs.Lent.{live_shown}
 
@@ -41,6 +43,10 @@ some_shown s Gone some = some
 some_shown s (Live c None) some = some
 some_shown s (Live c (Some n)) some = some
 
+-- what the files hold is held
+pub all_held : {N : Type 0} (s : Store) (more : ℕ) (fs : List NumberedFile) → IsHeld s more fs → AreHeld {N = N} (λ n. in_files n fs) (record { store = s; more = more })
+all_held s more fs h = record { held = λ n. (let all = h.held n in omega (arith, all)); some = h.some; counted = h.counted }
+
 module _ (s : Store) (more : ℕ) (fs : List NumberedFile) {w : Files} (same : view s more fs ≡ w) (k : ℕ) (below : k < length w.files) where
   pub file_inside : k < length fs
   file_inside = (let here : k < length (files_shown s fs) = file_here same k below in let wide = files_len s fs in omega (arith, here, wide))
@@ -50,12 +56,9 @@ module _ (s : Store) (more : ℕ) (fs : List NumberedFile) {w : Files} (same : v
     x_is = read_is fs k x file_inside read
 
     -- its pages and copies are held
-    pub held_inside : IsHeld s more fs → (n : ℕ) → in_file n x ≤ holders_of (page_at s n)
-    held_inside h n =
-        let most = at_most (λ (f : NumberedFile). f) (λ f. f) (in_file n) (λ f e. refl) fs k no_file file_inside in
-        let own = ap (in_file n) x_is in
-        let all = h.held n in
-        omega (arith, most, own, all)
+    pub held_inside : {N : Type 0} → IsHeld s more fs → AreHeld {N = N} (λ n. in_file n x) (record { store = s; more = more })
+    held_inside h = part_held (all_held s more fs h)
+        (λ n. (let most = at_most (λ (f : NumberedFile). f) (λ f. f) (in_file n) (λ f e. refl) fs k no_file file_inside in let own = ap (in_file n) x_is in omega (arith, most, own)))
 
     module _ (j : ℕ) (there : j < length (file_at w.files k).maps) where
       pub map_inside : j < length x.maps

@@ -3,16 +3,15 @@ ghost use Rattle.std.specs.Prelude.{◌≡◌, ◌≤◌, ℕ, ◌<◌, length, 
 ghost use Rattle.hp_model.specs.files.Mapping.{copy_of, is_live, place_at};
 ghost use Rattle.hp_mapping.specs.Mapped.{at_place, with_copy};
 ghost use Rattle.hp_file.specs.Taking.{first_copy, with_taken_back};
-ghost use Rattle.hp_store.specs.Store.{holders_of, page_at};
-ghost use Rattle.hp_lookup.specs.Dropping.{HasHolders, IsDropping};
-ghost use Rattle.hp_lookup.specs.Held.{in_file, more_in};
+ghost use Rattle.hp_file.specs.HeldPages.{AreDropped, AreHeld};
+ghost use Rattle.hp_lookup.specs.Held.{in_file};
 ghost use Rattle.hp_lookup.specs.Numbered.{mapping_at};
 
 use super::File;
 use crate::dropping::take_from_others;
+use crate::held_pages::HeldPages;
 use hp_model::naming::Naming;
 use hp_model::page_no::PageNo;
-use hp_store::PageStore;
 
 impl File {
     /// The page is the copy at a map's index, and an owner's reservation for it is consumed.
@@ -49,26 +48,16 @@ impl File {
     }
 
     /// All other maps lose a map's copy at an index, and are marked.
-    pub fn take_back<N: Naming>(
-        &mut self,
-        map: usize,
-        index: u64,
-        store: &mut PageStore<N>,
-        more: &mut usize,
-    )
+    pub fn take_back<N: Naming>(&mut self, map: usize, index: u64, pages: &mut HeldPages<N>)
         requires within { map < length self.old.maps }
         requires copy { IsSome (copy_of (place_at (mapping_at self.old map) index)) }
-        requires held { (n : ℕ) → in_file n self.old ≤ holders_of (page_at store.old n) }
-        requires some { HasHolders store.old }
-        requires counted { more.old ≡ more_in store.old.pages }
+        requires held { AreHeld (λ n. in_file n self.old) pages.old }
         ensures file { (number : ℕ) → copy_of (place_at (mapping_at self.old map) index)
             ≡ Some number
             → self.new ≡ with_taken_back number map index self.old }
-        ensures dropping { IsDropping (λ n. in_file n self.old) (λ n. in_file n self.new)
-            store.old store.new }
-        ensures counted { more.new ≡ more_in store.new.pages }
+        ensures dropping { AreDropped (λ n. in_file n self.old) (λ n. in_file n self.new) pages.old pages.new }
     {
         let number = self.maps[map].copy_at(index).unwrap();
-        take_from_others(&mut self.maps, map, index, number, store, more);
+        take_from_others(&mut self.maps, map, index, number, pages);
     }
 }

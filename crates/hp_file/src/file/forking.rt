@@ -1,16 +1,14 @@
 //! A child's maps of a file.
 ghost use Rattle.std.specs.Prelude.{◌≡◌, ◌++◌, ◌^◌, ◌+◌, ◌≤◌, ℕ, length, vec_capacity, IfOk};
-ghost use Rattle.hp_store.specs.Store.{holders_of, page_at};
-ghost use Rattle.hp_lookup.specs.Dropping.{HasHolders};
-ghost use Rattle.hp_lookup.specs.Forking.{HasNoted, IsReady, IsSharing, in_list, list_copies, maps_by, with_list};
-ghost use Rattle.hp_lookup.specs.Held.{more_in};
+ghost use Rattle.hp_lookup.specs.Forking.{HasNoted, IsReady, in_list, list_copies, maps_by, with_list};
+ghost use Rattle.hp_file.specs.HeldPages.{AreHeld, AreShared};
 
 use super::File;
 use crate::forking::{children, share_all};
+use crate::held_pages::HeldPages;
 use hp_lookup::{FileTag, Hints, MapPlace, MapTag, Tags};
 use hp_mapping::Mapping;
 use hp_model::naming::Naming;
-use hp_store::PageStore;
 use std::alloc::{AllocError, Global};
 
 impl File {
@@ -29,23 +27,14 @@ impl File {
     }
 
     /// Maps come behind its own, and each of their copies has a holder more.
-    pub fn join<N: Naming>(
-        &mut self,
-        mut list: Vec<Mapping>,
-        store: &mut PageStore<N>,
-        more: &mut usize,
-    )
+    pub fn join<N: Naming>(&mut self, mut list: Vec<Mapping>, pages: &mut HeldPages<N>)
         requires room { length list.items + length self.old.maps ≤ vec_capacity list }
-        requires held { (n : ℕ) → in_list n list ≤ holders_of (page_at store.old n) }
-        requires some { HasHolders store.old }
-        requires counted { more.old ≡ more_in store.old.pages }
-        requires few { more.old + list_copies list ≤ 2 ^ 32 }
+        requires held { AreHeld (λ n. in_list n list) pages.old }
+        requires few { pages.old.more + list_copies list ≤ 2 ^ 32 }
         ensures file { self.new ≡ with_list self.old list }
-        ensures sharing { IsSharing (λ n. in_list n list) store.old store.new }
-        ensures counted { more.new ≡ more_in store.new.pages }
-        ensures more { more.new ≡ more.old + list_copies list }
+        ensures sharing { AreShared (λ n. in_list n list) (list_copies list) pages.old pages.new }
     {
-        share_all(&list, store, more);
+        share_all(&list, pages);
         let added = list.len();
         list.append(&mut self.maps).unwrap();
         list.rotate_left(added);

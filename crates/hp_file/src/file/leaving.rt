@@ -2,18 +2,17 @@
 ghost use Rattle.std.specs.Prelude.{◌≡◌, ◌^◌, ◌+◌, ◌<◌, ◌≤◌, ℕ, length, map, if◌then◌else◌};
 ghost use Rattle.std.specs.List.{remove};
 ghost use Rattle.hp_model.specs.files.Mapping.{is_mapped, without_range};
-ghost use Rattle.hp_store.specs.Store.{holders_of, page_at};
-ghost use Rattle.hp_lookup.specs.Dropping.{HasHolders, IsDropping};
+ghost use Rattle.hp_file.specs.HeldPages.{AreDropped, AreHeld};
 ghost use Rattle.hp_lookup.specs.Forking.{maps_named};
-ghost use Rattle.hp_lookup.specs.Held.{in_file, more_in};
+ghost use Rattle.hp_lookup.specs.Held.{in_file};
 ghost use Rattle.hp_lookup.specs.Numbered.{mapping_at};
 ghost use Rattle.hp_lookup.specs.Leaving.{IsMoreButTask, cut_at, emptied, file_owed, is_used, least_among, lesser_task, left_at, left_by};
 
 use super::File;
 use crate::dropping::{drop_map, end_maps_of, leave_range};
+use crate::held_pages::HeldPages;
 use hp_lookup::{Departed, Hints};
 use hp_model::naming::Naming;
-use hp_store::PageStore;
 
 // The lesser of a task and one that is known, if any.
 fn lesser(known: Option<u64>, task: u64) -> u64
@@ -50,17 +49,12 @@ impl File {
         &mut self,
         task: u64,
         hints: &mut Hints,
-        store: &mut PageStore<N>,
-        more: &mut usize,
+        pages: &mut HeldPages<N>,
     ) -> Departed
-        requires held { (n : ℕ) → in_file n self.old ≤ holders_of (page_at store.old n) }
-        requires some { HasHolders store.old }
-        requires counted { more.old ≡ more_in store.old.pages }
+        requires held { AreHeld (λ n. in_file n self.old) pages.old }
         requires few { file_owed self.old < 2 ^ 64 }
         ensures file { self.new ≡ emptied (left_by task self.old) }
-        ensures dropping { IsDropping (λ n. in_file n self.old) (λ n. in_file n self.new)
-            store.old store.new }
-        ensures counted { more.new ≡ more_in store.new.pages }
+        ensures dropping { AreDropped (λ n. in_file n self.old) (λ n. in_file n self.new) pages.old pages.new }
         ensures reserves { result.reserves + file_owed self.new ≡ file_owed self.old }
         ensures maps { result.maps + length self.new.maps ≡ length self.old.maps }
         ensures hints { IsMoreButTask task (λ number. maps_named task number self.old) hints.old
@@ -68,13 +62,13 @@ impl File {
     {
         let list = &mut self.maps;
         let before = list.len();
-        let reserves = end_maps_of(task, list, hints, store, more);
+        let reserves = end_maps_of(task, list, hints, pages);
         list.retain(|m| m.task() != task);
         let maps = (before - list.len()) as u64;
         if self.is_used() {
             return Departed { maps, reserves };
         }
-        let entries = self.truncate(0, store, more);
+        let entries = self.truncate(0, pages);
         Departed {
             maps,
             reserves: reserves + entries,
@@ -82,44 +76,29 @@ impl File {
     }
 
     // A map goes, with its copies. Answers how many reservations went. It takes a step for each copy.
-    fn end_map<N: Naming>(&mut self, map: usize, store: &mut PageStore<N>, more: &mut usize) -> u64
+    fn end_map<N: Naming>(&mut self, map: usize, pages: &mut HeldPages<N>) -> u64
         requires within { map < length self.old.maps }
-        requires held { (n : ℕ) → in_file n self.old ≤ holders_of (page_at store.old n) }
-        requires some { HasHolders store.old }
-        requires counted { more.old ≡ more_in store.old.pages }
+        requires held { AreHeld (λ n. in_file n self.old) pages.old }
         ensures file { self.new ≡ record self.old { maps = remove self.old.maps map } }
-        ensures dropping { IsDropping (λ n. in_file n self.old) (λ n. in_file n self.new)
-            store.old store.new }
-        ensures counted { more.new ≡ more_in store.new.pages }
+        ensures dropping { AreDropped (λ n. in_file n self.old) (λ n. in_file n self.new) pages.old pages.new }
         ensures reserves { result + file_owed self.new ≡ file_owed self.old }
     {
         let gone = self.maps.remove(map);
-        drop_map(&gone, store, more);
+        drop_map(&gone, pages);
         gone.reserve_count()
     }
 
     // The file's indices from `a` up to `b` leave a map, with its copies of them. Answers how many reservations went.
-    fn cut_map<N: Naming>(
-        &mut self,
-        map: usize,
-        a: u64,
-        b: u64,
-        store: &mut PageStore<N>,
-        more: &mut usize,
-    ) -> u64
+    fn cut_map<N: Naming>(&mut self, map: usize, a: u64, b: u64, pages: &mut HeldPages<N>) -> u64
         requires within { map < length self.old.maps }
         requires order { a ≤ b }
-        requires held { (n : ℕ) → in_file n self.old ≤ holders_of (page_at store.old n) }
-        requires some { HasHolders store.old }
-        requires counted { more.old ≡ more_in store.old.pages }
+        requires held { AreHeld (λ n. in_file n self.old) pages.old }
         ensures file { self.new ≡ cut_at map a b self.old }
-        ensures dropping { IsDropping (λ n. in_file n self.old) (λ n. in_file n self.new)
-            store.old store.new }
-        ensures counted { more.new ≡ more_in store.new.pages }
+        ensures dropping { AreDropped (λ n. in_file n self.old) (λ n. in_file n self.new) pages.old pages.new }
         ensures reserves { result + file_owed self.new ≡ file_owed self.old }
     {
         let at = &mut self.maps[map];
-        leave_range(at, a, b, store, more)
+        leave_range(at, a, b, pages)
     }
 
     /// The file's indices from `a` up to `b` leave a map, with its copies of them. A map without indices goes, and those
@@ -129,28 +108,23 @@ impl File {
         map: usize,
         a: u64,
         b: u64,
-        store: &mut PageStore<N>,
-        more: &mut usize,
+        pages: &mut HeldPages<N>,
     ) -> Departed
         requires within { map < length self.old.maps }
         requires order { a ≤ b }
-        requires held { (n : ℕ) → in_file n self.old ≤ holders_of (page_at store.old n) }
-        requires some { HasHolders store.old }
-        requires counted { more.old ≡ more_in store.old.pages }
+        requires held { AreHeld (λ n. in_file n self.old) pages.old }
         ensures file { self.new ≡ left_at map a b self.old }
         ensures maps { result.maps
             ≡ (if is_mapped (without_range a b (mapping_at self.old map)) then 0 else 1) }
-        ensures dropping { IsDropping (λ n. in_file n self.old) (λ n. in_file n self.new)
-            store.old store.new }
-        ensures counted { more.new ≡ more_in store.new.pages }
+        ensures dropping { AreDropped (λ n. in_file n self.old) (λ n. in_file n self.new) pages.old pages.new }
         ensures reserves { result.reserves + file_owed self.new ≡ file_owed self.old }
     {
         let at = &self.maps[map];
         if a <= at.start() && at.end() <= b {
-            let reserves = self.end_map(map, store, more);
+            let reserves = self.end_map(map, pages);
             return Departed { maps: 1, reserves };
         }
-        let reserves = self.cut_map(map, a, b, store, more);
+        let reserves = self.cut_map(map, a, b, pages);
         if self.maps[map].is_mapped() {
             return Departed { maps: 0, reserves };
         }

@@ -18,7 +18,7 @@ impl<N: Naming> Files<N> {
         ensures left { IsLeft 0 self.old self.new }
     {
         let at = &mut self.list[file];
-        at.punch(a, b, &mut self.store, &mut self.more);
+        at.punch(a, b, &mut self.pages);
     }
 
     /// Makes a file `pages` indices long. Pages, entries and private copies from there on go. Answers how many entries
@@ -32,7 +32,7 @@ impl<N: Naming> Files<N> {
         ensures left { IsLeft result self.old self.new }
     {
         let at = &mut self.list[file];
-        at.truncate(pages, &mut self.store, &mut self.more)
+        at.truncate(pages, &mut self.pages)
     }
 
     /// Takes the name of a file away. Without maps the file goes, with its pages and entries, and those behind it move down
@@ -50,6 +50,6 @@ impl<N: Naming> Files<N> {
             return 0;
         }
         let gone = self.list.remove(file);
-        gone.close(&mut self.store, &mut self.more)
+        gone.close(&mut self.pages)
     }
 }

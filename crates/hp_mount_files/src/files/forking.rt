@@ -53,23 +53,21 @@ impl<N: Naming> Files<N> {
         )?;
         self.hints.reserve(count)?;
         self.counts.make_room()?;
-        let room = room_for(held, self.more, &lists);
-        self.store.make_room(room)?;
+        let room = room_for(held, self.pages.more, &lists);
+        self.pages.store.make_room(room)?;
         let gone = drop_some_maps_of(
             child,
             self.counts.count(child),
             &mut self.list,
             &mut self.hints,
-            &mut self.store,
-            &mut self.more,
+            &mut self.pages,
         );
         join_all(
             child,
             lists,
             &mut self.list,
             &mut self.hints,
-            &mut self.store,
-            &mut self.more,
+            &mut self.pages,
         );
         retain_some_used(gone.maps, &mut self.list);
         self.maps -= gone.maps;

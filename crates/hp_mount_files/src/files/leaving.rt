@@ -37,13 +37,7 @@ impl<N: Naming> Files<N> {
         if !self.has_maps(task) {
             return 0;
         }
-        let gone = drop_maps_of(
-            task,
-            &mut self.list,
-            &mut self.hints,
-            &mut self.store,
-            &mut self.more,
-        );
+        let gone = drop_maps_of(task, &mut self.list, &mut self.hints, &mut self.pages);
         self.list.retain_used();
         self.maps -= gone.maps;
         self.counts.set(task, 0);
@@ -97,12 +91,12 @@ impl<N: Naming> Files<N> {
         ensures left { IsLeft result self.old self.new }
     {
         let file = &mut self.list[at.file];
-        let gone = file.unmap(at.map, a, b, &mut self.store, &mut self.more);
+        let gone = file.unmap(at.map, a, b, &mut self.pages);
         if gone.maps == 0 {
             return gone.reserves;
         }
         self.hints.forget_map(task, number);
-        let entries = sweep_file(&mut self.list, at.file, &mut self.store, &mut self.more);
+        let entries = sweep_file(&mut self.list, at.file, &mut self.pages);
         self.maps -= 1;
         self.counts.remove_one(task);
         gone.reserves + entries

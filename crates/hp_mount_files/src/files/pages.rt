@@ -16,16 +16,16 @@ impl<N: Naming> Files<N> {
     pub(super) fn spare_room(&self) -> usize
         ensures { result ≡ self.now.room }
     {
-        self.store.room() - self.more
+        self.pages.store.room() - self.pages.more
     }
 
     // Gives back the room for more pages than these.
     pub(super) fn lower_room(&mut self, room: usize)
         ensures { self.new ≡ record self.old { room = min self.old.room room } }
     {
-        let most = self.store.room();
-        let all = self.more.saturating_add(room).min(most);
-        self.store.lower_room(all);
+        let most = self.pages.store.room();
+        let all = self.pages.more.saturating_add(room).min(most);
+        self.pages.store.lower_room(all);
     }
 
     // Enters an index that is a hole. Refused where memory is, and then nothing changes.
@@ -67,16 +67,16 @@ impl<N: Naming> FilePages<Page<N>> for Files<N> {
     fn bytes(&self, file: usize, index: u64) -> Option<&[u8]> {
         let at = &self.list[file];
         match at.page_at(index) {
-            Some(page) => Some(self.store.bytes(page)),
+            Some(page) => Some(self.pages.store.bytes(page)),
             None => None,
         }
     }
 
     fn make_room(&mut self, count: usize) -> Result<(), AllocError> {
-        let Some(all) = self.more.checked_add(count) else {
+        let Some(all) = self.pages.more.checked_add(count) else {
             return Err(AllocError);
         };
-        self.store.make_room(all)?;
+        self.pages.store.make_room(all)?;
         Ok(())
     }
 
@@ -92,7 +92,7 @@ impl<N: Naming> FilePages<Page<N>> for Files<N> {
     }
 
     fn fill(&mut self, file: usize, index: u64, page: Page<N>) {
-        let number = self.store.insert(page);
+        let number = self.pages.store.insert(page);
         let at = &mut self.list[file];
         at.fill(index, number);
     }
@@ -102,7 +102,7 @@ impl<N: Naming> FilePages<Page<N>> for Files<N> {
         let at = &self.list[file];
         match at.page_at(index) {
             Some(number) => {
-                self.store.write(number, offset, bytes);
+                self.pages.store.write(number, offset, bytes);
                 true
             }
             None => false,

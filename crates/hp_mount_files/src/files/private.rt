@@ -19,9 +19,9 @@ impl<N: Naming> MapPages<Page<N>> for Files<N> {
         let file = &self.list[at.file];
         let map = file.map(at.map);
         match map.copy_at(index) {
-            Some(copy) => Some(self.store.page(copy)),
+            Some(copy) => Some(self.pages.store.page(copy)),
             None => match file.page_at(index) {
-                Some(page) => Some(self.store.page(page)),
+                Some(page) => Some(self.pages.store.page(page)),
                 None => None,
             },
         }
@@ -32,7 +32,7 @@ impl<N: Naming> MapPages<Page<N>> for Files<N> {
         let Some(number) = map.copy_at(index) else {
             return CopyState::Missing;
         };
-        if self.store.holders(number) == 1 {
+        if self.pages.store.holders(number) == 1 {
             CopyState::HeldOnce
         } else {
             CopyState::HeldBySeveral
@@ -40,28 +40,28 @@ impl<N: Naming> MapPages<Page<N>> for Files<N> {
     }
 
     fn put_copy(&mut self, at: MapPlace, index: u64, page: Page<N>) -> PageNo {
-        let number = self.store.insert(page);
+        let number = self.pages.store.insert(page);
         let file = &mut self.list[at.file];
         file.put_copy(at.map, index, number);
         number
     }
 
     fn part(&mut self, at: MapPlace, index: u64, page: Page<N>) -> PageNo {
-        let number = self.store.insert(page);
+        let number = self.pages.store.insert(page);
         let file = &mut self.list[at.file];
         let old = file.replace_copy(at.map, index, number);
-        drop_holder(old, &mut self.store, &mut self.more);
+        drop_holder(old, &mut self.pages);
         number
     }
 
     fn take_back(&mut self, at: MapPlace, index: u64) {
         let file = &mut self.list[at.file];
-        file.take_back(at.map, index, &mut self.store, &mut self.more);
+        file.take_back(at.map, index, &mut self.pages);
     }
 
     fn write_copy(&mut self, at: MapPlace, index: u64, offset: usize, bytes: &[u8]) {
         let map = self.list[at.file].map(at.map);
         let number = map.copy_at(index).unwrap();
-        self.store.write(number, offset, bytes);
+        self.pages.store.write(number, offset, bytes);
     }
 }

@@ -1,10 +1,8 @@
 use Rattle.std.proofs.Common.{arith, ◌<◌, length}
-use Rattle.std.specs.Prelude.{slice_index_or, slice_set}
-use Rattle.std.specs.List.{sum_by}
 use Rattle.std.proofs.lemmas.List.Sums.{sum_by-set}
 use Rattle.hp_model.specs.files.Mapping.{map_punched}
 use Rattle.hp_lookup.specs.Held.{in_map}
-use Rattle.hp_file.proofs.Drops.{drop_then}
+use Rattle.hp_file.proofs.Counting.{dropped_then}
 use Rattle.hp_file.proofs.Punched.{first_step}
 use Rattle.hp_file.proofs.dropping.drop_all_copies.Goals as goal
 
@@ -12,13 +10,9 @@ pub loop-map-preserved : goal.loop-map-preserved
 loop-map-preserved g c =
     let was = c.loop-map in
     let i = was.map-index in
-    let m = slice_index_or was.maps i c.map-item.result in
     let n = c.drop_copies.new.map in
     let inside : i < length was.maps = omega (arith, c.loop-map-test.true, was.auto.maps) in (
-      drop_then (λ k. sum_by (in_map k) c.args.maps.now) (λ k. sum_by (in_map k) was.maps) (λ k. in_map k m) (λ k. in_map k n)
-          (λ k. sum_by (in_map k) c.args.maps.now) (λ k. sum_by (in_map k) (slice_set was.maps i n))
-          c.args.store.now was.store c.drop_copies.new.store was.invariant.0 c.drop_copies.ensures.dropping
+      dropped_then was.invariant.0 c.drop_copies.ensures.dropping
           (λ k. (let step = sum_by-set (in_map k) was.maps i n c.map-item.result inside in omega (arith, step))),
       first_step (map_punched c.args.a c.args.b) i c.args.maps.now was.maps c.map-item.result n c.loop-map-test.true was.invariant.1 c.drop_copies.ensures.map,
-      c.drop_copies.ensures.counted,
     )

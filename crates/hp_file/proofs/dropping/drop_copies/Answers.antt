@@ -1,6 +1,7 @@
 use Rattle.std.proofs.Common.{ℕ, sym, ◌∙◌}
 use Rattle.hp_lookup.specs.Held.{in_map}
-use Rattle.hp_file.proofs.Drops.{IsCopyTaken, copy_taken, drop_next, still_held, uncopied}
+use Rattle.hp_file.proofs.Counting.{one_dropped, one_held}
+use Rattle.hp_file.proofs.Drops.{IsCopyTaken, copy_taken, uncopied}
 use Rattle.hp_file.proofs.dropping.drop_copies.Goals as goal
 
 pub drop_holder-requires-clause-held : goal.drop_holder-requires-clause-held
@@ -8,7 +9,7 @@ drop_holder-requires-clause-held g c =
     let was = c.loop-number in
     let number : ℕ = c.in-Some.number in
     let t : IsCopyTaken c.args.a c.args.b was.map c.take_copy.new.self number = copy_taken c.args.a c.args.b number was.map c.take_copy.new.self c.in-Some.ensures.some in
-    still_held (λ n. in_map n c.args.map.now) (λ n. in_map n was.map) (λ n. in_map n c.take_copy.new.self) c.args.store.now was.store was.invariant.0 number (c.requires.held number) t.parts
+    one_held c.requires was.invariant.0 number (λ n. in_map n c.take_copy.new.self) t.parts
 
 pub loop-number-smaller : goal.loop-number-smaller
 loop-number-smaller g c =
@@ -22,10 +23,8 @@ loop-number-preserved g c =
     let was = c.loop-number in
     let number : ℕ = c.in-Some.number in
     let t : IsCopyTaken c.args.a c.args.b was.map c.take_copy.new.self number = copy_taken c.args.a c.args.b number was.map c.take_copy.new.self c.in-Some.ensures.some in (
-      drop_next (λ n. in_map n c.args.map.now) (λ n. in_map n was.map) (λ n. in_map n c.take_copy.new.self) c.args.store.now was.store was.invariant.0 number (c.requires.held number) t.parts
-          c.drop_holder.new.store c.drop_holder.ensures.dropped,
+      one_dropped c.requires was.invariant.0 number (λ n. in_map n c.take_copy.new.self) t.parts c.drop_holder.ensures.dropped c.drop_holder.ensures.counted,
       t.same ∙ was.invariant.1,
-      c.drop_holder.ensures.counted,
     )
 
 pub returns-clause-map : goal.returns-clause-map

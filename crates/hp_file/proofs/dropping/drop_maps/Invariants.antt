@@ -1,11 +1,9 @@
-use Rattle.std.specs.Prelude.{◌≡◌}
 use Rattle.std.proofs.Common.{drop}
 use Rattle.std.specs.List.{sum_by}
-use Rattle.hp_lookup.specs.Dropping.{IsDropping}
-use Rattle.hp_lookup.specs.Held.{in_map, more_in}
+use Rattle.hp_lookup.specs.Held.{in_map}
+use Rattle.hp_file.specs.HeldPages.{AreDropped}
 use Rattle.hp_file.proofs.dropping.drop_maps.Given as goal
 
 abbrev pub invariant-loop-map : goal.invariant-loop-map
 invariant-loop-map g l =
-    IsDropping (λ n. sum_by (in_map n) l.maps) (λ n. sum_by (in_map n) (drop l.map-index l.maps)) l.initial.store l.store
-    × (l.more ≡ more_in l.store.pages)
+    AreDropped (λ n. sum_by (in_map n) l.maps) (λ n. sum_by (in_map n) (drop l.map-index l.maps)) l.initial.pages l.pages

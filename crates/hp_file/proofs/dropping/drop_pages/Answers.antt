@@ -1,7 +1,8 @@
 use Rattle.std.proofs.Common.{ℕ, ap, arith, sym, ◌∙◌}
 use Rattle.std.specs.List.{sum_by}
 use Rattle.hp_lookup.specs.Held.{in_cell}
-use Rattle.hp_file.proofs.Drops.{IsTaken, drop_as, drop_next, still_held, taken, unchanged, untaken}
+use Rattle.hp_file.proofs.Counting.{dropped_as, one_dropped, one_held}
+use Rattle.hp_file.proofs.Drops.{IsTaken, taken, unchanged, untaken}
 use Rattle.hp_file.proofs.dropping.drop_pages.Goals as goal
 
 pub drop_holder-requires-clause-held : goal.drop_holder-requires-clause-held
@@ -11,8 +12,7 @@ drop_holder-requires-clause-held g c =
     let t : IsTaken c.args.a c.args.b was.inode c.take_page.new.self number =
     taken c.args.a c.args.b was.inode c.take_page.new.self c.take_page.result c.take_page.ensures.page c.take_page.ensures.cells number
     c.in-Some.is in
-    still_held (λ n. sum_by (in_cell n) c.args.inode.now) (λ n. sum_by (in_cell n) was.inode) (λ n. sum_by (in_cell n) c.take_page.new.self)
-    c.args.store.now was.store was.invariant.0 number (c.requires.held number) t.parts
+    one_held c.requires was.invariant.0 number (λ n. sum_by (in_cell n) c.take_page.new.self) t.parts
 
 pub loop-number-smaller : goal.loop-number-smaller
 loop-number-smaller g c =
@@ -30,11 +30,9 @@ loop-number-preserved g c =
     let t : IsTaken c.args.a c.args.b was.inode c.take_page.new.self number =
     taken c.args.a c.args.b was.inode c.take_page.new.self c.take_page.result c.take_page.ensures.page c.take_page.ensures.cells number
     c.in-Some.is in (
-      drop_next (λ n. sum_by (in_cell n) c.args.inode.now) (λ n. sum_by (in_cell n) was.inode) (λ n. sum_by (in_cell n) c.take_page.new.self)
-          c.args.store.now was.store was.invariant.0 number (c.requires.held number) t.parts
-          c.drop_holder.new.store c.drop_holder.ensures.dropped,
+      one_dropped c.requires was.invariant.0 number (λ n. sum_by (in_cell n) c.take_page.new.self) t.parts
+          c.drop_holder.ensures.dropped c.drop_holder.ensures.counted,
       t.same ∙ was.invariant.1,
-      c.drop_holder.ensures.counted,
     )
 
 pub returns-clause-cells : goal.returns-clause-cells
@@ -48,6 +46,4 @@ pub returns-clause-dropping : goal.returns-clause-dropping
 returns-clause-dropping g c =
     let was = c.loop-number in
     let same = unchanged c.args.a c.args.b was.inode c.take_page.new.self c.take_page.result c.take_page.ensures.page c.take_page.ensures.cells c.in_default.is in
-    drop_as (λ n. sum_by (in_cell n) c.args.inode.now) (λ n. sum_by (in_cell n) was.inode) (λ n. sum_by (in_cell n) c.args.inode.now)
-    (λ n. sum_by (in_cell n) c.take_page.new.self) c.args.store.now was.store was.invariant.0
-    (λ n. (let left = ap (sum_by (in_cell n)) same in omega (arith, left)))
+    dropped_as was.invariant.0 (λ n. (let left = ap (sum_by (in_cell n)) same in omega (arith, left)))

@@ -2,14 +2,14 @@ use Rattle.std.specs.Prelude.{◌≡◌}
 use Rattle.std.specs.List.{count_by, sum_by}
 use Rattle.hp_model.specs.files.File.{cell_punched, has_page}
 use Rattle.hp_model.specs.Lists.{edit_range}
-use Rattle.hp_lookup.specs.Dropping.{IsDropping}
-use Rattle.hp_lookup.specs.Held.{in_cell, more_in}
+use Rattle.hp_lookup.specs.Held.{in_cell}
+use Rattle.hp_file.specs.HeldPages.{AreDropped}
 use Rattle.hp_file.proofs.dropping.drop_pages.Given as goal
 
 abbrev pub invariant-loop-number : goal.invariant-loop-number
 invariant-loop-number g l =
-    IsDropping (λ n. sum_by (in_cell n) l.initial.inode) (λ n. sum_by (in_cell n) l.inode) l.initial.store l.store
-    × (edit_range cell_punched l.a l.b l.inode ≡ edit_range cell_punched l.a l.b l.initial.inode) × (l.more ≡ more_in l.store.pages)
+    AreDropped (λ n. sum_by (in_cell n) l.initial.inode) (λ n. sum_by (in_cell n) l.inode) l.initial.pages l.pages
+    × (edit_range cell_punched l.a l.b l.inode ≡ edit_range cell_punched l.a l.b l.initial.inode)
 
 abbrev pub decreases-loop-number : goal.decreases-loop-number
 decreases-loop-number g l = count_by has_page l.inode

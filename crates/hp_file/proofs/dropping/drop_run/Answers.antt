@@ -8,7 +8,7 @@ use Rattle.hp_file.proofs.dropping.drop_run.Goals as goal
 pub loop-at-init : goal.loop-at-init
 loop-at-init g c = record {
   high = omega arith;
-  dropping = drop_start (λ n. sum_by (in_place n) c.args.places.now) c.args.store.now c.requires.some;
+  dropping = drop_start (λ n. sum_by (in_place n) c.args.places.now) c.args.pages.now.store c.requires.some;
   counted = omega (arith, c.requires.counted);
   fewer = omega arith;
 }
@@ -20,8 +20,8 @@ drop_counting-requires-clause-held g c =
     let i = c.loop-at.at in
     let p = c.index-places-at.result in
     let number = c.in-Some.number in
-    still_held (λ n. sum_by (in_place n) ps) (λ n. sum_by (in_place n) (drop i ps)) (λ n. sum_by (in_place n) (drop (i + 1) ps)) c.args.store.now
-    c.loop-at.store was.dropping number (c.requires.held number)
+    still_held (λ n. sum_by (in_place n) ps) (λ n. sum_by (in_place n) (drop i ps)) (λ n. sum_by (in_place n) (drop (i + 1) ps)) c.args.pages.now.store
+    c.loop-at.pages.store was.dropping number (c.requires.held number)
     (λ n. (let step = sum_read (in_place n) ps i p c.loop-at-test.true c.index-places-at.is in let here = copied_in n number p (sym c.copy_in.ensures ∙ c.in-Some.is) in omega (arith, step, here)))
 
 pub loop-at-preserved : goal.loop-at-preserved
@@ -34,7 +34,7 @@ loop-at-preserved g c =
     record {
       high = omega (arith, c.loop-at-test.true);
       dropping = drop_next (λ n. sum_by (in_place n) ps) (λ n. sum_by (in_place n) (drop i ps)) (λ n. sum_by (in_place n) (drop (i + 1) ps))
-          c.args.store.now c.loop-at.store was.dropping number (c.requires.held number)
+          c.args.pages.now.store c.loop-at.pages.store was.dropping number (c.requires.held number)
           (λ n. (let step = sum_read (in_place n) ps i p c.loop-at-test.true c.index-places-at.is in
           let here = copied_in n number p (sym c.copy_in.ensures ∙ c.in-Some.is) in omega (arith, step, here))) c.drop_counting.new.store
           c.drop_counting.ensures.dropped;

@@ -7,8 +7,8 @@ use Rattle.hp_file.proofs.dropping.drop_run.Given as goal
 abbrev pub invariant-loop-at : goal.invariant-loop-at
 invariant-loop-at g l = record {
   high : l.at ≤ length l.places;
-  dropping : IsDropping (λ n. sum_by (in_place n) l.places) (λ n. sum_by (in_place n) (drop l.at l.places)) l.initial.store l.store;
-  counted : l.more + l.gone ≡ more_in l.store.pages + l.at;
+  dropping : IsDropping (λ n. sum_by (in_place n) l.places) (λ n. sum_by (in_place n) (drop l.at l.places)) l.initial.pages.store l.pages.store;
+  counted : l.pages.more + l.gone ≡ more_in l.pages.store.pages + l.at;
   fewer : l.gone ≤ l.at;
 }
 

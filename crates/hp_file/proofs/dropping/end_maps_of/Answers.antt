@@ -1,11 +1,11 @@
 use Rattle.std.proofs.Common.{arith, ℕ, ◌+◌, ◌<◌, cond, length, take, ap, ◌∙◌}
-use Rattle.std.specs.Prelude.{slice_index_or, slice_set}
+use Rattle.std.specs.Prelude.{slice_index_or}
 use Rattle.std.specs.List.{count_by, sum_by}
 use Rattle.std.proofs.lemmas.List.Sums.{get_or-le-sum_by, sum_by-set, sum_by_more}
 use Rattle.hp_model.specs.files.Mapping.{Mapping, is_map}
 use Rattle.hp_lookup.specs.Held.{in_map}
 use Rattle.hp_lookup.specs.Leaving.{ended_for, one_if_named, owed}
-use Rattle.hp_file.proofs.Drops.{drop_then}
+use Rattle.hp_file.proofs.Counting.{dropped_then, left_held, part_held}
 use Rattle.hp_file.proofs.Leaves.{gone_then}
 use Rattle.hp_file.proofs.Punched.{first_next, first_step}
 use Rattle.hp_file.proofs.dropping.end_maps_of.Goals as goal
@@ -18,34 +18,28 @@ loop-map-preserved g c =
     let one = c.end_map_of-reserves in
     let n = one.new.map in
     let inside : i < length was.maps = omega (arith, c.loop-map-test.true, was.auto.maps) in (
-      drop_then (λ k. sum_by (in_map k) c.args.maps.now) (λ k. sum_by (in_map k) was.maps) (λ k. in_map k m) (λ k. in_map k n)
-          (λ k. sum_by (in_map k) c.args.maps.now) (λ k. sum_by (in_map k) (slice_set was.maps i n))
-          c.args.store.now was.store one.new.store was.invariant.0 one.ensures.dropping
+      dropped_then was.invariant.0 one.ensures.dropping
           (λ k. (let step = sum_by-set (in_map k) was.maps i n c.map-item.result inside in omega (arith, step))),
       first_step (ended_for c.args.task) i c.args.maps.now was.maps c.map-item.result n c.loop-map-test.true was.invariant.1 one.ensures.map,
-      one.ensures.counted,
-      (let step = sum_by-set owed was.maps i n c.map-item.result inside in let had = was.invariant.3 in let left = one.ensures.reserves in omega (arith, step, had, left)),
+      (let step = sum_by-set owed was.maps i n c.map-item.result inside in let had = was.invariant.2 in let left = one.ensures.reserves in omega (arith, step, had, left)),
       gone_then c.args.task (λ n. count_by (is_map c.args.task n) (take i c.args.maps.now)) (one_if_named c.args.task m) (λ n. count_by (is_map c.args.task n) (take (i + 1) c.args.maps.now))
-          c.args.hints.now was.hints one.new.hints was.invariant.4 one.ensures.hints
+          c.args.hints.now was.hints one.new.hints was.invariant.3 one.ensures.hints
           (λ n. (let step = sum_by_more (λ (q : Mapping ℕ). cond {A = ℕ} (is_map c.args.task n q) 1 0) c.args.maps.now i c.map-item.result c.loop-map-test.true in
           let here = ap (λ (q : Mapping ℕ). one_if_named c.args.task q n) (ap (λ qs. slice_index_or qs i c.map-item.result) was.invariant.1
           ∙ first_next (ended_for c.args.task) i c.args.maps.now c.map-item.result c.loop-map-test.true) in omega (arith, step, here))),
     )
 
-pub end_map_of-reserves-requires-clause-held : goal.end_map_of-reserves-requires-clause-held
-end_map_of-reserves-requires-clause-held g c n =
+pub end_map_of-reserves-requires : goal.end_map_of-reserves-requires
+end_map_of-reserves-requires g c =
     let was = c.loop-map in
     let inside : was.map-index < length was.maps = omega (arith, c.loop-map-test.true, was.auto.maps) in
-    let part = get_or-le-sum_by (in_map n) was.maps was.map-index c.map-item.result inside in
-    let had = was.invariant.0.held n in
-    let all = c.requires.held n in
-    omega (arith, part, had, all)
+    part_held (left_held c.requires.held was.invariant.0) (λ n. get_or-le-sum_by (in_map n) was.maps was.map-index c.map-item.result inside)
 
 pub overflow_add-reserves : goal.overflow_add-reserves
 overflow_add-reserves g c =
     let was = c.loop-map in
     let inside : was.map-index < length was.maps = omega (arith, c.loop-map-test.true, was.auto.maps) in
     let step = sum_by-set owed was.maps was.map-index c.end_map_of-reserves.new.map c.map-item.result inside in
-    let had = was.invariant.3 in
+    let had = was.invariant.2 in
     let left = c.end_map_of-reserves.ensures.reserves in
     omega (arith, step, had, left, c.requires.few)

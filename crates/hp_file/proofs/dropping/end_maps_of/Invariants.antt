@@ -1,14 +1,14 @@
 use Rattle.std.specs.Prelude.{◌≡◌, ◌+◌, take}
 use Rattle.std.specs.List.{count_by, sum_by}
 use Rattle.hp_model.specs.files.Mapping.{is_map}
-use Rattle.hp_lookup.specs.Dropping.{IsDropping}
-use Rattle.hp_lookup.specs.Held.{in_map, more_in}
+use Rattle.hp_lookup.specs.Held.{in_map}
+use Rattle.hp_file.specs.HeldPages.{AreDropped}
 use Rattle.hp_lookup.specs.Leaving.{IsMoreButTask, ended_for, owed}
 use Rattle.hp_file.proofs.Punched.{first_mapped}
 use Rattle.hp_file.proofs.dropping.end_maps_of.Given as goal
 
 abbrev pub invariant-loop-map : goal.invariant-loop-map
 invariant-loop-map g l =
-    IsDropping (λ n. sum_by (in_map n) l.initial.maps) (λ n. sum_by (in_map n) l.maps) l.initial.store l.store
-    × (l.maps ≡ first_mapped (ended_for l.task) l.map-index l.initial.maps) × (l.more ≡ more_in l.store.pages)
+    AreDropped (λ n. sum_by (in_map n) l.initial.maps) (λ n. sum_by (in_map n) l.maps) l.initial.pages l.pages
+    × (l.maps ≡ first_mapped (ended_for l.task) l.map-index l.initial.maps)
     × (l.reserves + sum_by owed l.maps ≡ sum_by owed l.initial.maps) × IsMoreButTask l.task (λ n. count_by (is_map l.task n) (take l.map-index l.initial.maps)) l.initial.hints l.hints

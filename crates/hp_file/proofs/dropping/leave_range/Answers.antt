@@ -2,7 +2,7 @@ use Rattle.std.proofs.Common.{ℕ, ap, subst, sym, ◌∙◌, arith}
 use Rattle.hp_mapping.specs.Mapped.{IsClear, reserves_in}
 use Rattle.hp_model.specs.files.Mapping.{Mapping, without_range}
 use Rattle.hp_lookup.specs.Held.{in_map}
-use Rattle.hp_file.proofs.Drops.{drop_as}
+use Rattle.hp_file.proofs.Counting.{dropped_as}
 use Rattle.hp_file.proofs.Leaves.{left_holds, punched_clear, punched_left, punched_reserves}
 use Rattle.hp_file.proofs.dropping.leave_range.Goals as goal
 
@@ -17,9 +17,7 @@ returns-clause-dropping g c =
     let a = c.args.a in
     let b = c.args.b in
     let old = c.args.map.now in
-    let bare = c.drop_copies.new.map in
-    drop_as (λ n. in_map n old) (λ n. in_map n bare) (λ n. in_map n old) (λ n. in_map n c.unmap.new.self) c.args.store.now c.drop_copies.new.store c.drop_copies.ensures.dropping
-    (λ n.
+    dropped_as c.drop_copies.ensures.dropping (λ n.
     let new = ap (in_map n) (c.unmap.ensures.left ∙ ap (without_range a b) c.drop_copies.ensures.map ∙ punched_left a b old) in
     let same = left_holds n a b old in
     let was = ap (in_map n) c.drop_copies.ensures.map in

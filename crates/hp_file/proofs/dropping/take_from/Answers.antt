@@ -1,13 +1,14 @@
 use Rattle.std.proofs.Common.{rules, ◌≡◌, ℕ, Some, ap}
 use Rattle.hp_model.specs.files.Mapping.{Mapping, copy_of, place_at}
 use Rattle.hp_lookup.specs.Held.{in_map}
-use Rattle.hp_file.proofs.Drops.{drop_next, drop_start, less_copy}
+use Rattle.hp_file.proofs.Counting.{none_dropped, one_dropped}
+use Rattle.hp_file.proofs.Drops.{less_copy}
 use Rattle.hp_file.proofs.dropping.take_from.Goals as goal
 
 pub returns-clause-dropping : goal.returns-clause-dropping
 returns-clause-dropping g c =
     let m = c.args.map.now in
     let copy : copy_of (place_at m c.args.index) ≡ Some c.args.number = search rules in
-    drop_next (λ n. in_map n m) (λ n. in_map n m) (λ n. in_map n c.take_away.new.self) c.args.store.now c.args.store.now
-    (drop_start (λ n. in_map n m) c.args.store.now c.requires.some) c.args.number (c.requires.held c.args.number)
-    (less_copy m c.args.index c.args.number c.take_away.new.self.places copy (ap (λ (x : Mapping ℕ). x.places) c.take_away.ensures)) c.drop_holder.new.store c.drop_holder.ensures.dropped
+    one_dropped c.requires (none_dropped c.requires) c.args.number (λ n. in_map n c.take_away.new.self)
+    (less_copy m c.args.index c.args.number c.take_away.new.self.places copy (ap (λ (x : Mapping ℕ). x.places) c.take_away.ensures))
+    c.drop_holder.ensures.dropped c.drop_holder.ensures.counted

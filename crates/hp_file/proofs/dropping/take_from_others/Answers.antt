@@ -6,7 +6,7 @@ use Rattle.hp_model.specs.files.Mapping.{Mapping}
 use Rattle.hp_lookup.specs.Held.{in_map}
 use Rattle.hp_lookup.specs.Numbered.{no_mapping}
 use Rattle.hp_file.specs.Taking.{robbed_at}
-use Rattle.hp_file.proofs.Drops.{drop_as, drop_then}
+use Rattle.hp_file.proofs.Counting.{dropped_as, dropped_then, left_held, part_held}
 use Rattle.hp_lookup.proofs.Keys.{set_read}
 use Rattle.hp_lookup.proofs.Lifting.{at_most}
 use Rattle.hp_file.proofs.Punched.{first_mapped, kept_one, next_but_one}
@@ -19,39 +19,28 @@ loop-at-preserved-then-at-keeper g c =
     let m = slice_index_or c.args.maps.now c.args.keeper no_mapping in
     let same : was.at ≡ c.args.keeper = c.if-at-keeper.true in
     let back : slice_set was.maps was.at (slice_index_or was.maps was.at c.index-maps-at.result) ≡ was.maps = set_read was.maps was.at c.index-maps-at.result in
-    let total : ℕ → ℕ = λ k. sum_by (in_map k) c.args.maps.now in (
-      drop_as total (λ k. sum_by (in_map k) was.maps) total (λ k. sum_by (in_map k)
-          (slice_set was.maps was.at (slice_index_or was.maps was.at c.index-maps-at.result))) c.args.store.now was.store was.invariant.0
-          (λ k. (let left = ap (sum_by (in_map k)) back in omega (arith, left))),
+    (
+      dropped_as was.invariant.0 (λ k. (let left = ap (sum_by (in_map k)) back in omega (arith, left))),
       back ∙ was.invariant.1
           ∙ ap (λ i. slice_set (first_mapped f i c.args.maps.now) c.args.keeper m) same
           ∙ sym (kept_one f c.args.keeper m no_mapping c.args.maps.now c.requires.keeper)
           ∙ ap (λ i. slice_set (first_mapped f (i + 1) c.args.maps.now) c.args.keeper m) (sym same),
-      was.invariant.2,
     )
 
-pub take_from-requires-clause-held : goal.take_from-requires-clause-held
-take_from-requires-clause-held g c n =
+pub take_from-requires : goal.take_from-requires
+take_from-requires g c =
     let was = c.loop-at in
-    let d = was.invariant.0 in
-    let had = d.held n in
-    let few = c.requires.held n in
     let inside : was.at < length was.maps = omega (arith, c.loop-at-test.true, was.auto.maps) in
-    let most = at_most (λ (m : Mapping ℕ). m) (λ m. m) (in_map n) (λ m h. refl) was.maps was.at c.index-maps-at.result inside in
-    omega (arith, had, few, most)
+    part_held (left_held c.requires.held was.invariant.0) (λ n. at_most (λ (m : Mapping ℕ). m) (λ m. m) (in_map n) (λ m h. refl) was.maps was.at c.index-maps-at.result inside)
 
 pub loop-at-preserved : goal.loop-at-preserved
 loop-at-preserved g c =
     let was = c.loop-at in
     let i = was.at in
-    let m = slice_index_or was.maps i c.index-maps-at.result in
     let n = c.take_from.new.map in
     let inside : i < length was.maps = omega (arith, c.loop-at-test.true, was.auto.maps) in (
-      drop_then (λ k. sum_by (in_map k) c.args.maps.now) (λ k. sum_by (in_map k) was.maps) (λ k. in_map k m) (λ k. in_map k n)
-          (λ k. sum_by (in_map k) c.args.maps.now) (λ k. sum_by (in_map k) (slice_set was.maps i n))
-          c.args.store.now was.store c.take_from.new.store was.invariant.0 c.take_from.ensures.dropping
+      dropped_then was.invariant.0 c.take_from.ensures.dropping
           (λ k. (let step = sum_by-set (in_map k) was.maps i n c.index-maps-at.result inside in omega (arith, step))),
       next_but_one (robbed_at c.args.number c.args.index) c.args.keeper (slice_index_or c.args.maps.now c.args.keeper no_mapping)
           c.index-maps-at.result i c.args.maps.now was.maps n c.loop-at-test.true c.if-at-keeper.false was.invariant.1 c.take_from.ensures.map,
-      c.take_from.ensures.counted,
     )

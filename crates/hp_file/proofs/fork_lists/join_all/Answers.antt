@@ -84,12 +84,12 @@ loop-list-preserved g c =
           (noted_at child fs (length vs) y c.args.hints.now was.hints c.join_at.new.hints within (last_none child fs vs v room none) was.invariant.noted
           (subst (λ f. HasNoted child f was.hints c.join_at.new.hints) own_is c.join_at.ensures.noted));
       sharing = share_then (λ n. in_lists n c.args.lists.items - in_lists n was.lists.items) (λ n. in_list n v)
-          (λ n. in_lists n c.args.lists.items - in_lists n vs) c.args.store.now was.store c.join_at.new.store was.invariant.sharing
-          c.join_at.ensures.sharing
+          (λ n. in_lists n c.args.lists.items - in_lists n vs) c.args.pages.now.store was.pages.store c.join_at.new.pages.store was.invariant.sharing
+          c.join_at.ensures.sharing.sharing
           (λ n. (let here = each n in let less = was.invariant.less n in omega (arith, here, less)));
       less = λ n. (let here = each n in let less = was.invariant.less n in omega (arith, here, less));
-      counted = c.join_at.ensures.counted;
-      more = omega (arith, copies, more, c.join_at.ensures.more);
+      counted = c.join_at.ensures.sharing.counted;
+      more = omega (arith, copies, more, c.join_at.ensures.sharing.more);
     }
 
 pub returns-clause-joined : goal.returns-clause-joined
@@ -100,7 +100,7 @@ returns-clause-joined g c =
     let more = was.invariant.more in
     record {
       files_are = sym (none_joined was.files.files) ∙ ap (joined was.files.files) (sym none) ∙ was.invariant.files;
-      sharing = share_as (λ n. in_lists n c.args.lists.items - in_lists n was.lists.items) (λ n. in_lists n c.args.lists.items) c.args.store.now was.store was.invariant.sharing
+      sharing = share_as (λ n. in_lists n c.args.lists.items - in_lists n was.lists.items) (λ n. in_lists n c.args.lists.items) c.args.pages.now.store was.pages.store was.invariant.sharing
           (λ n. (let rest = ap (in_lists n) none in omega (arith, rest)));
       counted = was.invariant.counted;
       more_are = omega (arith, copies, more);

@@ -10,10 +10,10 @@ invariant-loop-list g l = record {
   files : joined l.files.files l.lists.items ≡ joined l.initial.files.files l.initial.lists.items;
   none : sum_by (maps_by l.child) (take (length l.lists.items) l.files.files) ≡ 0;
   noted : HaveNoted l.child l.files.files l.initial.hints l.hints;
-  sharing : IsSharing (λ n. in_lists n l.initial.lists.items - in_lists n l.lists.items) l.initial.store l.store;
+  sharing : IsSharing (λ n. in_lists n l.initial.lists.items - in_lists n l.lists.items) l.initial.pages.store l.pages.store;
   less : (n : ℕ) → in_lists n l.lists.items ≤ in_lists n l.initial.lists.items;
-  counted : l.more ≡ more_in l.store.pages;
-  more : l.more + sum_by list_copies l.lists.items ≡ l.initial.more + sum_by list_copies l.initial.lists.items;
+  counted : l.pages.more ≡ more_in l.pages.store.pages;
+  more : l.pages.more + sum_by list_copies l.lists.items ≡ l.initial.pages.more + sum_by list_copies l.initial.lists.items;
 }
 
 abbrev pub decreases-loop-list : goal.decreases-loop-list

@@ -17,27 +17,28 @@ loop-at-init g c =
     record {
       start = omega (arith, c.start-from.ensures);
       up_to = omega (arith, c.start-from.ensures, c.end-end.ensures);
-      shared = shared_as m.places m.places m.places (drop (c.start-from.result - m.start) m.places) c.args.store.now c.args.store.now (shared_none m.places c.args.store.now c.requires.some)
+      shared = shared_as m.places m.places m.places (drop (c.start-from.result - m.start) m.places) c.args.pages.now.store c.args.pages.now.store (shared_none m.places c.args.pages.now.store c.requires.held.some)
           (λ n. refl) (λ n. ap (λ k. sum_by (in_place n) (drop k m.places)) none);
-      counted = c.requires.counted;
+      counted = c.requires.held.counted;
       more = omega (arith, all);
     }
 
 pub share_run-past-requires-clause-held : goal.share_run-past-requires-clause-held
-share_run-past-requires-clause-held g c n =
+share_run-past-requires-clause-held g c =
     let m = c.args.map.now in
     let was = c.loop-at.invariant in
     let e = c.in-Some.ensures in
     let at = c.in-Some.at in
-    let its = run_sum (at - m.start) m.places c.run_from.result.now c.run_from.ensures (in_place n) in
-    let same = to_copy (in_place n) (bare_in n) m c.loop-at.from at was.start e.from (omega (arith, e.below, c.end-end.ensures)) e.clear in
-    let less = was.shared.less n in
-    let held = was.shared.sharing.held n in
-    let all = c.requires.held n in
-    omega (arith, its, same, less, held, all)
-
-pub share_run-past-requires-clause-some : goal.share_run-past-requires-clause-some
-share_run-past-requires-clause-some g c = c.loop-at.invariant.shared.sharing.some
+    record {
+      held = λ n. (let its = run_sum (at - m.start) m.places c.run_from.result.now c.run_from.ensures (in_place n) in
+          let same = to_copy (in_place n) (bare_in n) m c.loop-at.from at was.start e.from (omega (arith, e.below, c.end-end.ensures)) e.clear in
+          let less = was.shared.less n in
+          let held = was.shared.sharing.held n in
+          let all = c.requires.held.held n in
+          omega (arith, its, same, less, held, all));
+      some = was.shared.sharing.some;
+      counted = was.counted;
+    }
 
 pub share_run-past-requires-clause-few : goal.share_run-past-requires-clause-few
 share_run-past-requires-clause-few g c =
@@ -78,9 +79,9 @@ loop-at-preserved g c =
     record {
       start = omega (arith, was.start, e.from);
       up_to = omega (arith, fits, within, was.start, e.from, c.end-end.ensures);
-      shared = shared_then m.places (drop (from - m.start) m.places) (drop (at + past - m.start) m.places) c.args.store.now c.loop-at.store c.share_run-past.new.store was.shared
+      shared = shared_then m.places (drop (from - m.start) m.places) (drop (at + past - m.start) m.places) c.args.pages.now.store c.loop-at.pages.store c.share_run-past.new.pages.store was.shared
           (shared_before (drop (from - m.start) m.places) run (drop past run) (drop (at + past - m.start) m.places)
-          (behind (at - m.start) m.places run is) c.loop-at.store c.share_run-past.new.store c.share_run-past.ensures.shared
+          (behind (at - m.start) m.places run is) c.loop-at.pages.store c.share_run-past.new.pages.store c.share_run-past.ensures.shared
           (λ n. (let its = run_sum (at - m.start) m.places run is (in_place n) in let same = to_copy (in_place n) (bare_in n) m from at was.start e.from below e.clear in omega (arith, its, same)))
           (λ n. (let rest = left_sum (at - m.start) m.places run is (in_place n) past within in let end = ap (λ k. sum_by (in_place n) (drop k m.places)) next in omega (arith, rest, end))));
       counted = c.share_run-past.ensures.counted;
@@ -92,18 +93,14 @@ loop-at-preserved g c =
           omega (arith, its, same, rest, end, more, c.share_run-past.ensures.more));
     }
 
-pub returns-clause-sharing : goal.returns-clause-sharing
-returns-clause-sharing g c =
+pub returns : goal.returns
+returns g c =
     let m = c.args.map.now in
     let was = c.loop-at.invariant in
     let from = c.loop-at.from in
-    shared_all m.places (drop (from - m.start) m.places) c.args.store.now c.loop-at.store was.shared
-    (λ n. no_copy (in_place n) (bare_in n) m from was.start (subst (λ k. IsClear from k m) c.end-end.ensures c.in_default.ensures.none))
-
-pub returns-clause-more : goal.returns-clause-more
-returns-clause-more g c =
-    let m = c.args.map.now in
-    let was = c.loop-at.invariant in
-    let none = no_copy has_one bare_one m c.loop-at.from was.start (subst (λ k. IsClear c.loop-at.from k m) c.end-end.ensures c.in_default.ensures.none) in
-    let more = was.more in
-    omega (arith, none, more)
+    let clear = subst (λ k. IsClear from k m) c.end-end.ensures c.in_default.ensures.none in
+    record {
+      sharing = shared_all m.places (drop (from - m.start) m.places) c.args.pages.now.store c.loop-at.pages.store was.shared (λ n. no_copy (in_place n) (bare_in n) m from was.start clear);
+      counted = was.counted;
+      more = (let none = no_copy has_one bare_one m from was.start clear in let more = was.more in omega (arith, none, more));
+    }

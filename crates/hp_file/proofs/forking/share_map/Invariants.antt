@@ -9,9 +9,9 @@ abbrev pub invariant-loop-at : goal.invariant-loop-at
 invariant-loop-at g l = record {
   start : l.map.start ≤ l.from;
   up_to : l.from ≤ l.end;
-  shared : IsShared l.map.places (drop (l.from - l.map.start) l.map.places) l.initial.store l.store;
-  counted : l.more ≡ more_in l.store.pages;
-  more : l.more + count_by has_copy (drop (l.from - l.map.start) l.map.places) ≡ l.initial.more + copies_in l.map;
+  shared : IsShared l.map.places (drop (l.from - l.map.start) l.map.places) l.initial.pages.store l.pages.store;
+  counted : l.pages.more ≡ more_in l.pages.store.pages;
+  more : l.pages.more + count_by has_copy (drop (l.from - l.map.start) l.map.places) ≡ l.initial.pages.more + copies_in l.map;
 }
 
 abbrev pub decreases-loop-at : goal.decreases-loop-at

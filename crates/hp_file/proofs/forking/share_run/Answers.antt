@@ -8,8 +8,9 @@ use Rattle.hp_file.proofs.forking.share_run.Goals as goal
 pub loop-at-init : goal.loop-at-init
 loop-at-init g c = record {
   high = omega arith;
-  shared = shared_none c.args.places.now c.args.store.now c.requires.some;
-  counted = omega (arith, c.requires.counted);
+  shared = shared_none c.args.places.now c.args.pages.now.store c.requires.held.some;
+  counted = omega (arith, c.requires.held.counted);
+  kept = refl;
   copies = omega arith;
 }
 
@@ -24,7 +25,7 @@ add_holder-requires-clause-held g c =
     let one = is_it number in
     let less = was.shared.less number in
     let held = was.shared.sharing.held number in
-    let all = c.requires.held number in
+    let all = c.requires.held.held number in
     omega (arith, step, here, one, less, held, all)
 
 pub add_holder-requires-clause-some : goal.add_holder-requires-clause-some
@@ -37,7 +38,7 @@ add_holder-requires-clause-few g c =
     let p = c.index-places-at.result in
     let step = sum_read has_one ps c.loop-at.at p c.loop-at-test.true c.index-places-at.is in
     let one = some_one p c.in-Some.number (sym c.copy_in.ensures ∙ c.in-Some.is) in
-    omega (arith, step, one, was.counted, was.copies, c.requires.few)
+    omega (arith, step, one, was.counted, was.kept, was.copies, c.requires.few)
 
 pub loop-at-preserved : goal.loop-at-preserved
 loop-at-preserved g c =
@@ -51,10 +52,11 @@ loop-at-preserved g c =
     let one = some_one p number is in
     record {
       high = omega (arith, c.loop-at-test.true);
-      shared = shared_then ps (drop i ps) (drop (i + 1) ps) c.args.store.now c.loop-at.store c.add_holder.new.store was.shared
-          (shared_as (drop i ps) (p ∷ drop (i + 1) ps) (drop (i + 1) ps) (drop (i + 1) ps) c.loop-at.store c.add_holder.new.store
-          (shared_one p (drop (i + 1) ps) number c.loop-at.store c.add_holder.new.store is c.add_holder.ensures.sharing)
+      shared = shared_then ps (drop i ps) (drop (i + 1) ps) c.args.pages.now.store c.loop-at.pages.store c.add_holder.new.store was.shared
+          (shared_as (drop i ps) (p ∷ drop (i + 1) ps) (drop (i + 1) ps) (drop (i + 1) ps) c.loop-at.pages.store c.add_holder.new.store
+          (shared_one p (drop (i + 1) ps) number c.loop-at.pages.store c.add_holder.new.store is c.add_holder.ensures.sharing)
           (λ n. drop_read (sum_by (in_place n)) ps i p c.loop-at-test.true c.index-places-at.is) (λ n. refl));
       counted = omega (arith, was.counted, c.add_holder.ensures.counted);
+      kept = was.kept;
       copies = omega (arith, step, one, was.copies);
     }

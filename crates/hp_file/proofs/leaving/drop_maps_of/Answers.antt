@@ -1,5 +1,5 @@
 use Rattle.std.proofs.Common.{arith, ap, ◌+◌, ◌<◌, length, take, ◌∙◌}
-use Rattle.std.specs.Prelude.{slice_index_or, slice_set}
+use Rattle.std.specs.Prelude.{slice_index_or}
 use Rattle.std.specs.List.{sum_by}
 use Rattle.std.proofs.lemmas.List.{length-set}
 use Rattle.std.proofs.lemmas.List.Sums.{get_or-le-sum_by, sum_by-set, sum_by_more}
@@ -7,7 +7,7 @@ use Rattle.hp_lookup.specs.Forking.{maps_named}
 use Rattle.hp_lookup.specs.Held.{in_file, in_files}
 use Rattle.hp_lookup.specs.Leaving.{emptied, file_owed, left_by}
 use Rattle.hp_lookup.specs.Numbered.{NumberedFile}
-use Rattle.hp_file.proofs.Drops.{drop_then}
+use Rattle.hp_file.proofs.Counting.{dropped_then, left_held, part_held}
 use Rattle.hp_file.proofs.Leaves.{gone_then}
 use Rattle.hp_file.proofs.Punched.{first_next, first_step}
 use Rattle.hp_file.proofs.leaving.drop_maps_of.Goals as goal
@@ -22,32 +22,30 @@ loop-at-preserved g c =
     let one = c.drop_maps_of-gone in
     let n = one.new.self in
     let within : i < length c.args.files.now.files = omega (arith, c.loop-at-test.true, c.len-at-end.ensures) in
-    let inside : i < length fs = omega (arith, within, was.invariant.6) in (
-      drop_then (λ k. in_files k c.args.files.now.files) (λ k. in_files k fs) (λ k. in_file k f) (λ k. in_file k n) (λ k. in_files k c.args.files.now.files) (λ k. in_files k (slice_set fs i n))
-          c.args.store.now was.store one.new.store was.invariant.0 one.ensures.dropping
+    let inside : i < length fs = omega (arith, within, was.invariant.5) in (
+      dropped_then was.invariant.0 one.ensures.dropping
           (λ k. (let step = sum_by-set (in_file k) fs i n f inside in let same = ap (in_file k) read in omega (arith, step, same))),
       first_step (λ (f : NumberedFile). emptied (left_by c.args.task f)) i c.args.files.now.files fs f n within was.invariant.1
           (one.ensures.file ∙ ap (λ (f : NumberedFile). emptied (left_by c.args.task f)) read),
-      one.ensures.counted,
-      (let step = sum_by-set file_owed fs i n f inside in let same = ap file_owed read in let had = was.invariant.3 in let left = one.ensures.reserves in omega (arith, step, same, had, left)),
+      (let step = sum_by-set file_owed fs i n f inside in let same = ap file_owed read in let had = was.invariant.2 in let left = one.ensures.reserves in omega (arith, step, same, had, left)),
       (let step = sum_by-set (λ (f : NumberedFile). length f.maps) fs i n f inside in let same = ap (λ (f : NumberedFile). length f.maps) read in
-          let had = was.invariant.4 in let left = one.ensures.maps in omega (arith, step, same, had, left)),
+          let had = was.invariant.3 in let left = one.ensures.maps in omega (arith, step, same, had, left)),
       gone_then c.args.task (λ m. sum_by (maps_named c.args.task m) (take i c.args.files.now.files)) (λ m. maps_named c.args.task m f)
-          (λ m. sum_by (maps_named c.args.task m) (take (i + 1) c.args.files.now.files)) c.args.hints.now was.hints one.new.hints was.invariant.5 one.ensures.hints
+          (λ m. sum_by (maps_named c.args.task m) (take (i + 1) c.args.files.now.files)) c.args.hints.now was.hints one.new.hints was.invariant.4 one.ensures.hints
           (λ m. (let step = sum_by_more (maps_named c.args.task m) c.args.files.now.files i f within in
           let here = ap (maps_named c.args.task m) (read ∙ ap (λ gs. slice_index_or gs i f) was.invariant.1
           ∙ first_next (λ (f : NumberedFile). emptied (left_by c.args.task f)) i c.args.files.now.files f within) in omega (arith, step, here))),
-      length-set fs i n ∙ was.invariant.6,
+      length-set fs i n ∙ was.invariant.5,
     )
 
 pub overflow_add-maps : goal.overflow_add-maps
 overflow_add-maps g c =
     let was = c.loop-at in
     let f = c.index_mut.result.now in
-    let inside : was.at < length was.files.files = omega (arith, c.loop-at-test.true, c.len-at-end.ensures, was.invariant.6) in
+    let inside : was.at < length was.files.files = omega (arith, c.loop-at-test.true, c.len-at-end.ensures, was.invariant.5) in
     let step = sum_by-set (λ (f : NumberedFile). length f.maps) was.files.files was.at c.drop_maps_of-gone.new.self f inside in
     let same = ap (λ (f : NumberedFile). length f.maps) c.index_mut.ensures.value in
-    let had = was.invariant.4 in
+    let had = was.invariant.3 in
     let left = c.drop_maps_of-gone.ensures.maps in
     omega (arith, step, same, had, left, c.requires.few_maps)
 
@@ -55,30 +53,27 @@ pub overflow_add-reserves : goal.overflow_add-reserves
 overflow_add-reserves g c =
     let was = c.loop-at in
     let f = c.index_mut.result.now in
-    let inside : was.at < length was.files.files = omega (arith, c.loop-at-test.true, c.len-at-end.ensures, was.invariant.6) in
+    let inside : was.at < length was.files.files = omega (arith, c.loop-at-test.true, c.len-at-end.ensures, was.invariant.5) in
     let step = sum_by-set file_owed was.files.files was.at c.drop_maps_of-gone.new.self f inside in
     let same = ap file_owed c.index_mut.ensures.value in
-    let had = was.invariant.3 in
+    let had = was.invariant.2 in
     let left = c.drop_maps_of-gone.ensures.reserves in
     omega (arith, step, same, had, left, c.requires.few)
 
 pub drop_maps_of-gone-requires-clause-held : goal.drop_maps_of-gone-requires-clause-held
-drop_maps_of-gone-requires-clause-held g c n =
+drop_maps_of-gone-requires-clause-held g c =
     let was = c.loop-at in
     let f = c.index_mut.result.now in
-    let inside : was.at < length was.files.files = omega (arith, c.loop-at-test.true, c.len-at-end.ensures, was.invariant.6) in
-    let part = get_or-le-sum_by (in_file n) was.files.files was.at f inside in
-    let same = ap (in_file n) c.index_mut.ensures.value in
-    let had = was.invariant.0.held n in
-    let all = c.requires.held n in
-    omega (arith, part, same, had, all)
+    let inside : was.at < length was.files.files = omega (arith, c.loop-at-test.true, c.len-at-end.ensures, was.invariant.5) in
+    part_held (left_held c.requires.held was.invariant.0)
+    (λ n. (let part = get_or-le-sum_by (in_file n) was.files.files was.at f inside in let same = ap (in_file n) c.index_mut.ensures.value in omega (arith, part, same)))
 
 pub drop_maps_of-gone-requires-clause-few : goal.drop_maps_of-gone-requires-clause-few
 drop_maps_of-gone-requires-clause-few g c =
     let was = c.loop-at in
     let f = c.index_mut.result.now in
-    let inside : was.at < length was.files.files = omega (arith, c.loop-at-test.true, c.len-at-end.ensures, was.invariant.6) in
+    let inside : was.at < length was.files.files = omega (arith, c.loop-at-test.true, c.len-at-end.ensures, was.invariant.5) in
     let part = get_or-le-sum_by file_owed was.files.files was.at f inside in
     let same = ap file_owed c.index_mut.ensures.value in
-    let had = was.invariant.3 in
+    let had = was.invariant.2 in
     omega (arith, part, same, had, c.requires.few)

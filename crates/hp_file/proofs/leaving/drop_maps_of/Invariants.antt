@@ -1,16 +1,16 @@
 use Rattle.std.specs.Prelude.{◌≡◌, ◌+◌, length, take}
 use Rattle.std.specs.List.{sum_by}
-use Rattle.hp_lookup.specs.Dropping.{IsDropping}
 use Rattle.hp_lookup.specs.Forking.{maps_named}
-use Rattle.hp_lookup.specs.Held.{in_files, more_in}
+use Rattle.hp_lookup.specs.Held.{in_files}
 use Rattle.hp_lookup.specs.Leaving.{IsMoreButTask, emptied, file_owed, left_by, map_sum}
 use Rattle.hp_lookup.specs.Numbered.{NumberedFile}
+use Rattle.hp_file.specs.HeldPages.{AreDropped}
 use Rattle.hp_file.proofs.Punched.{first_mapped}
 use Rattle.hp_file.proofs.leaving.drop_maps_of.Given as goal
 
 abbrev pub invariant-loop-at : goal.invariant-loop-at
 invariant-loop-at g l =
-    IsDropping (λ n. in_files n l.initial.files.files) (λ n. in_files n l.files.files) l.initial.store l.store
-    × (l.files.files ≡ first_mapped (λ (f : NumberedFile). emptied (left_by l.task f)) l.at l.initial.files.files) × (l.more ≡ more_in l.store.pages)
+    AreDropped (λ n. in_files n l.initial.files.files) (λ n. in_files n l.files.files) l.initial.pages l.pages
+    × (l.files.files ≡ first_mapped (λ (f : NumberedFile). emptied (left_by l.task f)) l.at l.initial.files.files)
     × (l.reserves + sum_by file_owed l.files.files ≡ sum_by file_owed l.initial.files.files) × (l.maps + map_sum l.files.files ≡ map_sum l.initial.files.files)
     × IsMoreButTask l.task (λ n. sum_by (maps_named l.task n) (take l.at l.initial.files.files)) l.initial.hints l.hints × (length l.files.files ≡ length l.initial.files.files)

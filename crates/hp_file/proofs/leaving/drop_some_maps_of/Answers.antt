@@ -11,8 +11,8 @@ use Rattle.hp_file.proofs.leaving.drop_some_maps_of.Goals as goal
 pub returns-then-count-eq0 : goal.returns-then-count-eq0
 returns-then-count-eq0 g c = record {
   left = sym (none_leave c.args.task c.args.files.now.files (sym c.requires.count ∙ c.if-count-eq0.true) c.requires.listed);
-  dropping = drop_start (λ n. in_files n c.args.files.now.files) c.args.store.now c.requires.some;
-  counted = c.requires.counted;
+  dropping = drop_start (λ n. in_files n c.args.files.now.files) c.args.pages.now.store c.requires.held.some;
+  counted = c.requires.held.counted;
   waiting = omega arith;
   gone = omega arith;
   noted = gone_then c.args.task (λ q. 0) (λ q. 0) (λ q. sum_by (maps_named c.args.task q) c.args.files.now.files) c.args.hints.now c.args.hints.now c.args.hints.now

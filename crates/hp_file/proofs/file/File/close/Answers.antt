@@ -5,26 +5,28 @@ use Rattle.hp_model.specs.files.MountCounts.{is_waiting}
 use Rattle.hp_model.specs.Lists.{edit_range}
 use Rattle.hp_lookup.specs.Held.{in_cell, in_file, in_map}
 use Rattle.hp_file.proofs.Cutting.{all_waiting, bare_pages, no_pages}
-use Rattle.hp_file.proofs.Drops.{drop_then}
+use Rattle.hp_file.proofs.Counting.{dropped_then, left_held, part_held}
 use Rattle.hp_lookup.specs.Numbered.{NumberedFile}
 use Rattle.hp_file.proofs.file.File.close.Goals as goal
 
-pub drop_maps-requires-clause-held : goal.drop_maps-requires-clause-held
-drop_maps-requires-clause-held g c n =
+pub drop_maps-requires : goal.drop_maps-requires
+drop_maps-requires g c =
     let inside = c.self.inside in
-    let whole = ap (in_file n) c.self.view_is in
-    let none = ap (sum_by (in_cell n)) c.drop_pages.ensures.cells ∙ no_pages n c.len-len.result inside.inode c.len-len.ensures.len in
-    let held = c.drop_pages.ensures.dropping.held n in
-    let all = c.requires.held n in
-    let same = ap (sum_by (in_map n)) c.deref.ensures.value in
-    omega (arith, whole, none, held, all, same)
+    record {
+      held = λ n. (let whole = ap (in_file n) c.self.view_is in
+          let none = ap (sum_by (in_cell n)) c.drop_pages.ensures.cells ∙ no_pages n c.len-len.result inside.inode c.len-len.ensures.len in
+          let held = c.drop_pages.ensures.dropping.dropping.held n in
+          let all = c.requires.held n in
+          let same = ap (sum_by (in_map n)) c.deref.ensures.value in
+          omega (arith, whole, none, held, all, same));
+      some = c.drop_pages.ensures.dropping.dropping.some;
+      counted = c.drop_pages.ensures.dropping.counted;
+    }
 
 pub returns-clause-dropping : goal.returns-clause-dropping
 returns-clause-dropping g c =
     let inside = c.self.inside in
-    drop_then (λ n. sum_by (in_cell n) inside.inode) (λ n. sum_by (in_cell n) c.drop_pages.new.inode) (λ n. sum_by (in_map n) c.deref.result.now) (λ n. 0) (λ n. in_file n c.args.self) (λ n. 0)
-    c.args.store.now c.drop_pages.new.store c.drop_maps.new.store c.drop_pages.ensures.dropping c.drop_maps.ensures.dropping
-    (λ n.
+    dropped_then c.drop_pages.ensures.dropping c.drop_maps.ensures (λ n.
     let whole = ap (in_file n) c.self.view_is in
     let none = ap (sum_by (in_cell n)) c.drop_pages.ensures.cells ∙ no_pages n c.len-len.result inside.inode c.len-len.ensures.len in
     let same = ap (sum_by (in_map n)) c.deref.ensures.value in

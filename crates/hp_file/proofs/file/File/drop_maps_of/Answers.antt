@@ -2,7 +2,7 @@ use Rattle.std.proofs.Common.{◌≡◌, ℕ, length, not, rules, sym, ◌∙◌
 use Rattle.std.specs.Prelude.{vec_len}
 use Rattle.std.proofs.lemmas.Fn.{filter_same}
 use Rattle.hp_model.specs.files.Mapping.{Mapping, is_of}
-use Rattle.hp_file.proofs.Drops.{drop_then}
+use Rattle.hp_file.proofs.Counting.{dropped_then}
 use Rattle.hp_lookup.specs.Held.{in_file}
 use Rattle.hp_file.proofs.FileLeaves.{gone_is, gone_reserves, left_dropping, left_reserves, left_used}
 use Rattle.hp_file.proofs.file.File.drop_maps_of.Goals as goal
@@ -23,7 +23,7 @@ returns-then-is_used-clause-dropping g c =
     let few : length i.maps.items ≡ vec_len i.maps = search rules in
     let kept = filter_same _ (λ (m : Mapping ℕ). not (is_of c.args.task m)) _ (λ x b f' k. search rules) _ _ c.retain.ensures.filtered in
     left_dropping c.args.task c.args.self.now i.name i.inode i.maps.items c.self.view_is _ few c.deref_mut.result.now one.new.maps
-    c.retain.new.self.items c.deref_mut.ensures.value one.ensures.maps kept c.args.store.now one.new.store one.ensures.dropping
+    c.retain.new.self.items c.deref_mut.ensures.value one.ensures.maps kept one.ensures.dropping
 
 pub returns-then-is_used-clause-reserves : goal.returns-then-is_used-clause-reserves
 returns-then-is_used-clause-reserves g c =
@@ -62,7 +62,5 @@ returns-clause-dropping g c =
     let few : length i.maps.items ≡ vec_len i.maps = search rules in
     let kept = filter_same _ (λ (m : Mapping ℕ). not (is_of c.args.task m)) _ (λ x b f' k. search rules) _ _ c.retain.ensures.filtered in
     let left = left_dropping c.args.task c.args.self.now i.name i.inode i.maps.items c.self.view_is _ few c.deref_mut.result.now one.new.maps
-    c.retain.new.self.items c.deref_mut.ensures.value one.ensures.maps kept c.args.store.now one.new.store one.ensures.dropping in
-    drop_then (λ n. in_file n c.args.self.now) _ _ (λ n. in_file n c.truncate-entries.new.self) (λ n. in_file n c.args.self.now)
-    (λ n. in_file n c.truncate-entries.new.self) c.args.store.now one.new.store c.truncate-entries.new.store left
-    c.truncate-entries.ensures.dropping (λ n. omega arith)
+    c.retain.new.self.items c.deref_mut.ensures.value one.ensures.maps kept one.ensures.dropping in
+    dropped_then left c.truncate-entries.ensures.dropping (λ n. omega arith)

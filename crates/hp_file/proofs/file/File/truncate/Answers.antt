@@ -3,7 +3,7 @@ use Rattle.std.specs.List.{sum_by}
 use Rattle.hp_lookup.specs.Held.{in_cell, in_file}
 use Rattle.hp_lookup.specs.Numbered.{NumberedFile}
 use Rattle.hp_file.proofs.Cutting.{bare_pages, cut_file, cut_holds, cut_is, gone_holes}
-use Rattle.hp_file.proofs.Drops.{drop_as}
+use Rattle.hp_file.proofs.Counting.{dropped_as}
 use Rattle.hp_file.proofs.file.File.truncate.Goals as goal
 
 pub drop_entries-entries-requires-clause-pageless : goal.drop_entries-entries-requires-clause-pageless
@@ -35,8 +35,7 @@ returns-clause-dropping g c =
     let old = c.args.self.now in
     let end_is = c.len-end.ensures.len ∙ ap (λ (f : NumberedFile). length f.cells) c.self.view_is in
     let bare_is = ap (λ (f : NumberedFile). f.cells) (c.self-2.view_is ∙ c.punch.ensures.file) in
-    drop_as (λ n. in_file n old) (λ n. in_file n c.punch.new.self) (λ n. in_file n old) _ c.args.store.now c.punch.new.store c.punch.ensures.dropping
-    (λ n.
+    dropped_as c.punch.ensures.dropping (λ n.
     let view = ap (in_file n) c.self-2.view_is in
     let cells = ap (sum_by (in_cell n)) (c.set_len.ensures ∙ cut_is c.args.len c.len-end.result old.cells c.self-2.inside.inode
     c.drop_entries-entries.new.self end_is bare_is c.min.result c.min.ensures c.drop_entries-entries.ensures.cells)

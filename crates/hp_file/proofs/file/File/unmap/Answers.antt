@@ -4,7 +4,7 @@ use Rattle.std.proofs.lemmas.List.{get_or_default, get_or-set_same}
 use Rattle.hp_model.specs.files.Mapping.{Mapping, is_mapped, without_range}
 use Rattle.hp_lookup.specs.Held.{in_file}
 use Rattle.hp_lookup.specs.Numbered.{NumberedFile, mapping_at, no_mapping}
-use Rattle.hp_file.proofs.Drops.{drop_as}
+use Rattle.hp_file.proofs.Counting.{dropped_as}
 use Rattle.hp_file.proofs.Ended.{all_gone, cut_holds, cut_left, cut_owes, left_without}
 use Rattle.hp_file.proofs.file.File.unmap.Given.{Over}
 use Rattle.hp_file.proofs.file.File.unmap.Goals as goal
@@ -47,7 +47,7 @@ returns-clause-dropping g c =
     let cut = c.cut_map-reserves.new.self in
     let left = c.remove_map.new.self in
     let gone = last g (goal.at.returns-clause-dropping g c).After-remove_map in
-    drop_as (λ n. in_file n old) (λ n. in_file n cut) (λ n. in_file n old) (λ n. in_file n left) c.args.store.now c.cut_map-reserves.new.store c.cut_map-reserves.ensures.dropping
+    dropped_as c.cut_map-reserves.ensures.dropping
     (λ n. (let same = cut_holds c.args.a c.args.b c.args.map old c.requires.within gone cut left c.cut_map-reserves.ensures.file c.remove_map.ensures n in omega (arith, same)))
 
 pub returns-clause-reserves : goal.returns-clause-reserves

@@ -1,10 +1,10 @@
-use Rattle.std.specs.Prelude.{◌≡◌, length}
-use Rattle.hp_lookup.specs.Dropping.{IsDropping}
-use Rattle.hp_lookup.specs.Held.{in_files, more_in}
+use Rattle.std.specs.Prelude.{length}
+use Rattle.hp_lookup.specs.Held.{in_files}
+use Rattle.hp_file.specs.HeldPages.{AreDropped}
 use Rattle.hp_file.proofs.file_list.FileList.close.Given as goal
 
 abbrev pub invariant-loop-file : goal.invariant-loop-file
-invariant-loop-file g l = IsDropping (λ n. in_files n l.initial.files.files) (λ n. in_files n l.files.files) l.initial.store l.store × (l.more ≡ more_in l.store.pages)
+invariant-loop-file g l = AreDropped (λ n. in_files n l.initial.files.files) (λ n. in_files n l.files.files) l.initial.pages l.pages
 
 abbrev pub decreases-loop-file : goal.decreases-loop-file
 decreases-loop-file g l = length l.files.files

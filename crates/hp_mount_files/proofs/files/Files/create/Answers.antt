@@ -11,7 +11,7 @@ pub invariant_of-self-2 : goal.invariant_of-self-2
 invariant_of-self-2 g c =
     let s = c.self.inside in
     let bytes = c.in_ok-own.ensures.copy in
-    created s.hints c.note_file.new.self s.store s.more s.maps (count_of s.counts) s.list.files c.args.name.now c.self.invariant
+    created s.hints c.note_file.new.self s.pages.store s.pages.more s.maps (count_of s.counts) s.list.files c.args.name.now c.self.invariant
     (subst (λ (v : Files). found (has_name c.args.name.now) v.files ≡ None) (sym c.self.view_is) c.requires.new)
     (subst (λ n. IsMoreByName n s.hints c.note_file.new.self) (c.in_ok-key.ensures ∙ bytes) c.note_file.ensures.more)
     (subst (λ n. has_noted n c.note_file.new.self ≡ true) (c.in_ok-key.ensures ∙ bytes) c.in_ok-note_file.ensures.noted)

@@ -9,12 +9,16 @@ use Rattle.hp_lookup.proofs.GivingBack.{all_kept}
 use Rattle.hp_lookup.proofs.Leaving.{files_owe}
 use Rattle.hp_mount_files.proofs.OneByOne.{none_leaves}
 use Rattle.hp_lookup.proofs.Views.{view}
+use Rattle.hp_mount_files.proofs.Here.{all_held}
 use Rattle.hp_mount_files.proofs.files.Files.exit_among_all.Goals as goal
+
+pub drop_maps_of-gone-requires-clause-held : goal.drop_maps_of-gone-requires-clause-held
+drop_maps_of-gone-requires-clause-held g c = (let s = c.self.inside in all_held s.pages.store s.pages.more s.list.files c.self.invariant.held)
 
 pub drop_maps_of-gone-requires-clause-few : goal.drop_maps_of-gone-requires-clause-few
 drop_maps_of-gone-requires-clause-few g c =
     let s = c.self.inside in
-    let all = files_owe s.store s.list.files in
+    let all = files_owe s.pages.store s.list.files in
     let same = ap (λ (v : Files). sum_by file_reserves v.files) c.self.view_is in
     omega (arith, all, same, c.requires)
 
@@ -30,11 +34,11 @@ returns-clause-files g c =
 pub returns-clause-left : goal.returns-clause-left
 returns-clause-left g c =
     let one = c.drop_maps_of-gone in
-    subst (λ v. IsLeft one.result.reserves v (view one.new.store one.new.more c.retain_used.new.self.files)) c.self.view_is
+    subst (λ v. IsLeft one.result.reserves v (view one.new.pages.store one.new.pages.more c.retain_used.new.self.files)) c.self.view_is
     (exit_left c.self.invariant one.ensures c.retain_used.ensures)
 
 pub returns-then-not-has_maps-clause-files : goal.returns-then-not-has_maps-clause-files
 returns-then-not-has_maps-clause-files g c =
     let s = c.self.inside in
     none_leaves c.args.task c.args.self.now.files (sym c.has_maps.ensures ∙ c.if-not-has_maps.true)
-    (subst (λ (v : Files). filter is_kept v.files ≡ v.files) c.self.view_is (all_kept s.store s.list.files c.self.invariant.keyed.kept))
+    (subst (λ (v : Files). filter is_kept v.files ≡ v.files) c.self.view_is (all_kept s.pages.store s.list.files c.self.invariant.keyed.kept))

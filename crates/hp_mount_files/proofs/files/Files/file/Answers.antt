@@ -10,6 +10,6 @@ returns g c =
     let k = c.args.at in
     let x = c.index.result.now in
     subst (λ (v : Files). IsLent (file_at v.files k) x) c.self.view_is (record {
-      store = s.store;
-      is = file_read s.store s.list.files k (subst (λ (v : Files). k < length v.files) (sym c.self.view_is) c.requires) x c.index.ensures;
+      store = s.pages.store;
+      is = file_read s.pages.store s.list.files k (subst (λ (v : Files). k < length v.files) (sym c.self.view_is) c.requires) x c.index.ensures;
     })

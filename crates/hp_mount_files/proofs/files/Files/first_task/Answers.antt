@@ -10,14 +10,14 @@ pub returns-clause-some : goal.returns-clause-some
 returns-clause-some g c =
     let s = c.self.inside in
     let files = s.list.files in
-    let is = all_tasks_are s.store files c.loop-at.at c.loop-at.least (omega (arith, c.loop-at-test.false, c.len-at-end.ensures)) c.loop-at.invariant in
+    let is = all_tasks_are s.pages.store files c.loop-at.at c.loop-at.least (omega (arith, c.loop-at-test.false, c.len-at-end.ensures)) c.loop-at.invariant in
     subst (λ (v : Files). IfSome c.loop-at.least (λ task. IsFirstTask v.files task)) c.self.view_is
-    (first_some (files_shown s.store s.list.files) c.loop-at.least is)
+    (first_some (files_shown s.pages.store s.list.files) c.loop-at.least is)
 
 pub returns-clause-none : goal.returns-clause-none
 returns-clause-none g c =
     let s = c.self.inside in
     let files = s.list.files in
-    let is = all_tasks_are s.store files c.loop-at.at c.loop-at.least (omega (arith, c.loop-at-test.false, c.len-at-end.ensures)) c.loop-at.invariant in
+    let is = all_tasks_are s.pages.store files c.loop-at.at c.loop-at.least (omega (arith, c.loop-at-test.false, c.len-at-end.ensures)) c.loop-at.invariant in
     subst (λ (v : Files). IfNone c.loop-at.least (all_maps v.files ≡ [])) c.self.view_is
-    (first_none (files_shown s.store s.list.files) c.loop-at.least is)
+    (first_none (files_shown s.pages.store s.list.files) c.loop-at.least is)

@@ -6,6 +6,7 @@ use Rattle.hp_lookup.specs.Files.{Files}
 use Rattle.hp_lookup.specs.Hints.{IsFiles}
 use Rattle.hp_mount_files.proofs.Exiting.{maps_in}
 use Rattle.hp_mount_files.proofs.Forks.{all_used, files_as, forked_few, forked_keeps, forked_left, forked_shows, join_few, join_held, join_keys, join_none, join_room, set_out}
+use Rattle.hp_mount_files.proofs.Here.{all_held}
 use Rattle.hp_lookup.proofs.Keys.{files_noted, files_recounted}
 use Rattle.hp_lookup.proofs.Leaving.{files_owe}
 use Rattle.hp_lookup.proofs.Tallies.{maps_labelled}
@@ -23,10 +24,16 @@ pub drop_some_maps_of-gone-requires-clause-listed : goal.drop_some_maps_of-gone-
 drop_some_maps_of-gone-requires-clause-listed g c =
     c.self.invariant.keyed.kept
 
+pub drop_some_maps_of-gone-requires-clause-held : goal.drop_some_maps_of-gone-requires-clause-held
+drop_some_maps_of-gone-requires-clause-held g c =
+    let set = set_out c.self.invariant c.self.view_is c.reserve.ensures.same c.in_ok-lists.ensures c.deref.ensures.value c.room_for-room.ensures
+    c.in_ok-make_room-2.ensures.few c.in_ok-make_room-2.ensures.ok c.in_ok-make_room-2.ensures.pages c.make_room-2.ensures.same in
+    all_held _ _ _ set.is.held
+
 pub drop_some_maps_of-gone-requires-clause-few : goal.drop_some_maps_of-gone-requires-clause-few
 drop_some_maps_of-gone-requires-clause-few g c =
     let s = c.self.inside in
-    let all = files_owe s.store s.list.files in
+    let all = files_owe s.pages.store s.list.files in
     let same = ap (λ (v : Files). sum_by file_reserves v.files) c.self.view_is in
     omega (arith, all, same, c.requires.few)
 
@@ -113,17 +120,17 @@ returns-clause-left g c =
 pub invariant_of-self-in_err-reserve : goal.invariant_of-self-in_err-reserve
 invariant_of-self-in_err-reserve g c =
     let s = c.self.inside in
-    files_noted s.hints c.reserve.new.self s.store s.more s.maps (count_of s.counts) s.list.files c.reserve.ensures.same c.self.invariant
+    files_noted s.hints c.reserve.new.self s.pages.store s.pages.more s.maps (count_of s.counts) s.list.files c.reserve.ensures.same c.self.invariant
 
 pub invariant_of-self-in_err-make_room : goal.invariant_of-self-in_err-make_room
 invariant_of-self-in_err-make_room g c =
     let s = c.self.inside in
-    files_recounted c.reserve.new.self s.store s.more s.maps (count_of s.counts) (count_of c.make_room.new.self) s.list.files c.make_room.ensures.same
-    (files_noted s.hints c.reserve.new.self s.store s.more s.maps (count_of s.counts) s.list.files c.reserve.ensures.same c.self.invariant)
+    files_recounted c.reserve.new.self s.pages.store s.pages.more s.maps (count_of s.counts) (count_of c.make_room.new.self) s.list.files c.make_room.ensures.same
+    (files_noted s.hints c.reserve.new.self s.pages.store s.pages.more s.maps (count_of s.counts) s.list.files c.reserve.ensures.same c.self.invariant)
 
 pub invariant_of-self-in_err-make_room-2 : goal.invariant_of-self-in_err-make_room-2
 invariant_of-self-in_err-make_room-2 g c =
     let s = c.self.inside in
-    subst (λ u. IsFiles c.reserve.new.self u s.more s.maps (count_of c.make_room.new.self) s.list.files) (sym c.in_err-make_room-2.ensures.err)
-    (files_recounted c.reserve.new.self s.store s.more s.maps (count_of s.counts) (count_of c.make_room.new.self) s.list.files c.make_room.ensures.same
-    (files_noted s.hints c.reserve.new.self s.store s.more s.maps (count_of s.counts) s.list.files c.reserve.ensures.same c.self.invariant))
+    subst (λ u. IsFiles c.reserve.new.self u s.pages.more s.maps (count_of c.make_room.new.self) s.list.files) (sym c.in_err-make_room-2.ensures.err)
+    (files_recounted c.reserve.new.self s.pages.store s.pages.more s.maps (count_of s.counts) (count_of c.make_room.new.self) s.list.files c.make_room.ensures.same
+    (files_noted s.hints c.reserve.new.self s.pages.store s.pages.more s.maps (count_of s.counts) s.list.files c.reserve.ensures.same c.self.invariant))

@@ -7,5 +7,5 @@ use Rattle.hp_mount_files.proofs.files.Files.has_maps.Goals as goal
 pub returns : goal.returns
 returns g c =
     let s = c.self.inside in
-    has_some c.args.task c.count.result s.store s.list.files (c.count.ensures ∙ c.self.invariant.keyed.tallied c.args.task)
+    has_some c.args.task c.count.result s.pages.store s.list.files (c.count.ensures ∙ c.self.invariant.keyed.tallied c.args.task)
     ∙ ap (λ (v : Files). not (is_first_of c.args.task v.files)) c.self.view_is

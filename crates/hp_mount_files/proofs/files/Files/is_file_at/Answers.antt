@@ -9,5 +9,5 @@ pub returns : goal.returns
 returns g c is =
     let s = c.self.inside in
     subst (λ (v : Files). IsNamed v.files c.args.name.now c.args.at) c.self.view_is
-    (named_here s.store s.maps (count_of s.counts) s.list.files c.self.invariant.keyed c.args.name.now c.args.at c.index.result.now
+    (named_here s.pages.store s.maps (count_of s.counts) s.list.files c.self.invariant.keyed c.args.name.now c.args.at c.index.result.now
     (omega (arith, c.if-at-len.false, c.len.ensures)) c.index.ensures (sym c.is_named.ensures ∙ is))

@@ -10,5 +10,5 @@ returns g c is =
     let s = c.self.inside in
     let at = c.args.at in
     subst (λ (v : Files). IsFound v.files c.args.task c.args.number at.file at.map) c.self.view_is
-    (map_here s.store s.maps (count_of s.counts) s.list.files c.self.invariant.keyed c.args.task c.args.number at.file at.map c.index.result.now
+    (map_here s.pages.store s.maps (count_of s.counts) s.list.files c.self.invariant.keyed c.args.task c.args.number at.file at.map c.index.result.now
     (omega (arith, c.if-at-len.false, c.len.ensures)) c.index.ensures (c.is_map_at.ensures.within is) (c.is_map_at.ensures.map is))

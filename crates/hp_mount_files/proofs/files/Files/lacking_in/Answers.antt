@@ -14,9 +14,9 @@ returns g c =
     let s = c.self.inside in
     let a = c.args.from in
     let b = c.args.to in
-    let within : c.args.file < length s.list.files = (let same = files_len s.store s.list.files in
+    let within : c.args.file < length s.list.files = (let same = files_len s.pages.store s.list.files in
     let inside = subst (λ (v : Files). c.args.file < length v.files) (sym c.self.view_is) c.requires.file in omega (arith, same, inside)) in
     c.lacking.ensures
     ∙ ap (λ (f : NumberedFile). count_by lacks_page (part a b (at_least b f.cells))) (read_is s.list.files c.args.file c.index.result.now within c.index.ensures)
-    ∙ lacking_shown s.store s.list.files c.args.file a b within
+    ∙ lacking_shown s.pages.store s.list.files c.args.file a b within
     ∙ ap (λ (v : Files). lacking a b (file_at v.files c.args.file)) c.self.view_is

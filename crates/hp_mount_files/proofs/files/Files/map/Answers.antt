@@ -12,7 +12,7 @@ returns g c =
     let j = c.args.at.map in
     let y = c.map.result.now in
     subst (λ (v : Files). IsMapLent (map_among v.files k j) y) c.self.view_is (record {
-      store = s.store;
-      is = map_seen s.store s.list.files k j (subst (λ (v : Files). k < length v.files) (sym c.self.view_is) c.requires.file) c.index.result.now c.index.ensures
+      store = s.pages.store;
+      is = map_seen s.pages.store s.list.files k j (subst (λ (v : Files). k < length v.files) (sym c.self.view_is) c.requires.file) c.index.result.now c.index.ensures
           y c.map.ensures (subst (λ (v : Files). j < length (file_at v.files k).maps) (sym c.self.view_is) c.requires.map);
     })

@@ -9,5 +9,5 @@ use Rattle.hp_mount_files.proofs.files.Files.map_count_for.Goals as goal
 pub returns : goal.returns
 returns g c =
     let s = c.self.inside in
-    c.count.ensures ∙ c.self.invariant.keyed.tallied c.args.task ∙ maps_tallied c.args.task s.store s.list.files
+    c.count.ensures ∙ c.self.invariant.keyed.tallied c.args.task ∙ maps_tallied c.args.task s.pages.store s.list.files
     ∙ ap (λ (v : Files). count_by (is_of c.args.task) (all_maps v.files)) c.self.view_is

@@ -21,7 +21,7 @@ returns-then-is_named-clause-some g c =
     let at_is = position_or_len_is own files c.loop-at.at file (omega (arith, within)) (λ k less. c.loop-at.invariant k file less)
     (λ l. ap own (sym c.index.ensures) ∙ sym c.is_named.ensures ∙ c.if-is_named.true) in
     subst (λ (v : Files). IsNamed v.files name c.loop-at.at) c.self.view_is
-    (subst (IsNamed _ name) at_is (named_first s.store files name (subst (λ n. n < length files) (sym at_is) within)))
+    (subst (IsNamed _ name) at_is (named_first s.pages.store files name (subst (λ n. n < length files) (sym at_is) within)))
 
 pub returns-clause-none : goal.returns-clause-none
 returns-clause-none g c =
@@ -31,4 +31,4 @@ returns-clause-none g c =
     let own = λ (f : NumberedFile). has_label name (label_of f) in
     let past : length files ≤ c.loop-at.at = omega (arith, c.loop-at-test.false, c.len-at-end.ensures) in
     let none = position_or_len_is own files (length files) no_file (omega arith) (λ k less. c.loop-at.invariant k no_file (omega (arith, less, past))) (λ l. absurd (omega (arith, l))) in
-    subst (λ (v : Files). found (has_name name) v.files ≡ None) c.self.view_is (named_nowhere s.store files name (omega (arith, none)))
+    subst (λ (v : Files). found (has_name name) v.files ≡ None) c.self.view_is (named_nowhere s.pages.store files name (omega (arith, none)))

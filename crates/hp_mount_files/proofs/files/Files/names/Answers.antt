@@ -70,7 +70,7 @@ returns-clause-names g c =
     let files = c.self.inside.list.files in
     let inv = c.loop-at.invariant in
     c.new.ensures ∙ inv.named ∙ ap names_in (take_all c.loop-at.at files (omega (arith, c.loop-at-test.false, c.len-at-end.ensures)))
-    ∙ sym (names_shown s.store s.list.files) ∙ ap (λ (v : Files). filter_map (λ (f : File). f.name) v.files) c.self.view_is
+    ∙ sym (names_shown s.pages.store s.list.files) ∙ ap (λ (v : Files). filter_map (λ (f : File). f.name) v.files) c.self.view_is
 
 pub returns-clause-few : goal.returns-clause-few
 returns-clause-few g c =
@@ -80,7 +80,7 @@ returns-clause-few g c =
     let few = inv.few in
     let within = c.loop-at.auto.at-end in
     let same = c.len-at-end.ensures in
-    let shown = files_len s.store s.list.files in
+    let shown = files_len s.pages.store s.list.files in
     let here = ap (λ (v : Files). length v.files) c.self.view_is in
     omega (arith, told, few, within, same, shown, here)
 

@@ -12,41 +12,35 @@ use Rattle.hp_mount_files.proofs.files.Files.punch.Goals as goal
 pub index_mut-at-requires : goal.index_mut-at-requires
 index_mut-at-requires g c =
     let s = c.self.inside in
-    file_inside s.store s.more s.list.files c.self.view_is c.args.file c.requires
+    file_inside s.pages.store s.pages.more s.list.files c.self.view_is c.args.file c.requires
 
-pub punch-requires-clause-held : goal.punch-requires-clause-held
-punch-requires-clause-held g c =
+pub punch-requires : goal.punch-requires
+punch-requires g c =
     let s = c.self.inside in
-    held_inside s.store s.more s.list.files c.self.view_is c.args.file c.requires c.index_mut-at.result.now c.index_mut-at.ensures.value c.self.invariant.held
-
-pub punch-requires-clause-some : goal.punch-requires-clause-some
-punch-requires-clause-some g c = c.self.invariant.held.some
-
-pub punch-requires-clause-counted : goal.punch-requires-clause-counted
-punch-requires-clause-counted g c = c.self.invariant.held.counted
+    held_inside s.pages.store s.pages.more s.list.files c.self.view_is c.args.file c.requires c.index_mut-at.result.now c.index_mut-at.ensures.value c.self.invariant.held
 
 pub invariant_of-self : goal.invariant_of-self
 invariant_of-self g c =
     let s = c.self.inside in
     let k = c.args.file in
-    punch_keeps s.hints s.store c.punch.new.store s.more c.punch.new.more s.maps (count_of s.counts) s.list.files c.self.invariant k
+    punch_keeps s.hints s.pages.store c.punch.new.pages.store s.pages.more c.punch.new.pages.more s.maps (count_of s.counts) s.list.files c.self.invariant k
     (subst (λ v. k < length v.files) (sym c.self.view_is) c.requires) c.index_mut-at.result.now c.punch.new.self c.index_mut-at.ensures.value
-    c.punch.ensures.dropping c.punch.ensures.counted c.args.a c.args.b c.punch.ensures.file
+    c.punch.ensures.dropping.dropping c.punch.ensures.dropping.counted c.args.a c.args.b c.punch.ensures.file
 
 pub returns-clause-files : goal.returns-clause-files
 returns-clause-files g c =
     let s = c.self.inside in
     let k = c.args.file in
-    punch_files s.hints s.store c.punch.new.store s.more c.punch.new.more s.maps (count_of s.counts) s.list.files c.self.invariant k
+    punch_files s.hints s.pages.store c.punch.new.pages.store s.pages.more c.punch.new.pages.more s.maps (count_of s.counts) s.list.files c.self.invariant k
     (subst (λ v. k < length v.files) (sym c.self.view_is) c.requires) c.index_mut-at.result.now c.punch.new.self c.index_mut-at.ensures.value
-    c.punch.ensures.dropping c.punch.ensures.counted c.args.a c.args.b c.punch.ensures.file
+    c.punch.ensures.dropping.dropping c.punch.ensures.dropping.counted c.args.a c.args.b c.punch.ensures.file
     ∙ ap (λ (v : Files). edited_at k (punched c.args.a c.args.b (file_at v.files k)) v.files) c.self.view_is
 
 pub returns-clause-left : goal.returns-clause-left
 returns-clause-left g c =
     let s = c.self.inside in
     let k = c.args.file in
-    subst (λ v. IsLeft 0 v (view c.punch.new.store c.punch.new.more (slice_set s.list.files k c.punch.new.self))) c.self.view_is
-    (punch_left s.hints s.store c.punch.new.store s.more c.punch.new.more s.maps (count_of s.counts) s.list.files c.self.invariant k
+    subst (λ v. IsLeft 0 v (view c.punch.new.pages.store c.punch.new.pages.more (slice_set s.list.files k c.punch.new.self))) c.self.view_is
+    (punch_left s.hints s.pages.store c.punch.new.pages.store s.pages.more c.punch.new.pages.more s.maps (count_of s.counts) s.list.files c.self.invariant k
     (subst (λ v. k < length v.files) (sym c.self.view_is) c.requires) c.index_mut-at.result.now c.punch.new.self c.index_mut-at.ensures.value
-    c.punch.ensures.dropping c.punch.ensures.counted c.args.a c.args.b c.punch.ensures.file)
+    c.punch.ensures.dropping.dropping c.punch.ensures.dropping.counted c.args.a c.args.b c.punch.ensures.file)

@@ -20,11 +20,11 @@ use Rattle.hp_mount_files.proofs.files.Files.put_anon.Goals.{After-make_map_room
 
 -- room is made
 module _ (g : Over) (c : After-make_map_room g) where
-  roomy : IsFiles c.make_map_room.new.hints c.self.inside.store c.self.inside.more c.self.inside.maps (count_of c.make_map_room.new.counts) c.make_room.new.self.files
+  roomy : IsFiles c.make_map_room.new.hints c.self.inside.pages.store c.self.inside.pages.more c.self.inside.maps (count_of c.make_map_room.new.counts) c.make_room.new.self.files
   roomy =
       let s = c.self.inside in
-      subst (IsFiles c.make_map_room.new.hints s.store s.more s.maps (count_of c.make_map_room.new.counts)) (sym c.make_room.ensures.same)
-      (with_room s.hints c.make_map_room.new.hints s.store s.more s.maps (count_of s.counts) (count_of c.make_map_room.new.counts) s.list.files
+      subst (IsFiles c.make_map_room.new.hints s.pages.store s.pages.more s.maps (count_of c.make_map_room.new.counts)) (sym c.make_room.ensures.same)
+      (with_room s.hints c.make_map_room.new.hints s.pages.store s.pages.more s.maps (count_of s.counts) (count_of c.make_map_room.new.counts) s.list.files
       c.make_map_room.ensures.noted c.make_map_room.ensures.counted c.self.invariant)
 
 pub invariant_of-self-in_default : goal.invariant_of-self-in_default
@@ -39,13 +39,13 @@ unwrap-requires g c = c.note_map.ensures.succeeds c.in-Ok.ensures.hints
 pub overflow_add-self : goal.overflow_add-self
 overflow_add-self g c =
     let s = c.self.inside in
-    let few = maps_few s.hints s.store s.more s.maps (count_of s.counts) s.list.files c.self.invariant (subst (λ (v : Files). length (all_maps v.files) < 4096) (sym c.self.view_is) c.requires.maps) in
+    let few = maps_few s.hints s.pages.store s.pages.more s.maps (count_of s.counts) s.list.files c.self.invariant (subst (λ (v : Files). length (all_maps v.files) < 4096) (sym c.self.view_is) c.requires.maps) in
     omega (arith, few)
 
 pub add_one-requires-clause-few : goal.add_one-requires-clause-few
 add_one-requires-clause-few g c =
     let s = c.self.inside in
-    let few = tally_few c.args.range.now.task s.hints s.store s.more s.maps (count_of s.counts) s.list.files c.self.invariant
+    let few = tally_few c.args.range.now.task s.hints s.pages.store s.pages.more s.maps (count_of s.counts) s.list.files c.self.invariant
     (subst (λ (v : Files). length (all_maps v.files) < 4096) (sym c.self.view_is) c.requires.maps) in
     let same = c.make_map_room.ensures.counted c.args.range.now.task in
     omega (arith, few, same)
@@ -62,10 +62,10 @@ pub invariant_of-self-2 : goal.invariant_of-self-2
 invariant_of-self-2 g c =
     let s = c.self.inside in
     let r = c.args.range.now in
-    let numbers : List ℕ = numbers_of r.task (all_maps (files_shown s.store s.list.files)) in
+    let numbers : List ℕ = numbers_of r.task (all_maps (files_shown s.pages.store s.list.files)) in
     let number = subst (λ (v : Files). c.args.next.number ≡ next_of r.task v.files) (sym c.self.view_is) c.requires.number in
     let fresh = ap (λ n. is_among n numbers) number ∙ unused_is_new numbers in
-    anon_files r.task c.args.next.number r.start r.pages r.sharing r.reserving s.hints s.store s.more s.maps (count_of s.counts) s.list.files
+    anon_files r.task c.args.next.number r.start r.pages r.sharing r.reserving s.hints s.pages.store s.pages.more s.maps (count_of s.counts) s.list.files
     c.self.invariant c.in_ok-file.file c.push.new.self.files c.in_ok-file.ensures.ok (files_are g c)
     fresh c.note_map.new.self
     (then_map r.task c.args.next.number s.hints c.make_map_room.new.hints c.note_map.new.self c.make_map_room.ensures.noted c.note_map.ensures.more)
@@ -75,6 +75,6 @@ pub returns-clause-ok : goal.returns-clause-ok
 returns-clause-ok g c =
     let s = c.self.inside in
     let r = c.args.range.now in
-    anon_view r.task c.args.next.number r.start r.pages r.sharing r.reserving s.hints s.store s.more s.maps (count_of s.counts) s.list.files
+    anon_view r.task c.args.next.number r.start r.pages r.sharing r.reserving s.hints s.pages.store s.pages.more s.maps (count_of s.counts) s.list.files
     c.self.invariant c.in_ok-file.file c.push.new.self.files c.in_ok-file.ensures.ok (files_are g c)
     ∙ ap (λ (v : Files). record v { files = v.files ++ mapped r.task c.args.next.number r.start r.pages r.sharing r.reserving (new_file None) ∷ [] }) c.self.view_is

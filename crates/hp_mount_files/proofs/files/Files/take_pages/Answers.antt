@@ -14,28 +14,28 @@ use Rattle.hp_mount_files.proofs.files.Files.take_pages.Goals as goal
 pub index_mut-at-requires : goal.index_mut-at-requires
 index_mut-at-requires g c =
     let s = c.self.inside in
-    file_inside s.store s.more s.list.files (c.self.view_is ∙ c.in-Ok.ensures.ok) c.args.file c.requires.file
+    file_inside s.pages.store s.pages.more s.list.files (c.self.view_is ∙ c.in-Ok.ensures.ok) c.args.file c.requires.file
 
 pub invariant_of-self-2 : goal.invariant_of-self-2
 invariant_of-self-2 g c =
     let s = c.self.inside in
-    let shown : c.args.file < length (files_shown s.store s.list.files) = subst (λ (v : Files). c.args.file < length v.files) (sym (c.self.view_is ∙ c.in-Ok.ensures.ok)) c.requires.file in
-    let within : c.args.file < length s.list.files = (let same = files_len s.store s.list.files in omega (arith, same, shown)) in
+    let shown : c.args.file < length (files_shown s.pages.store s.list.files) = subst (λ (v : Files). c.args.file < length v.files) (sym (c.self.view_is ∙ c.in-Ok.ensures.ok)) c.requires.file in
+    let within : c.args.file < length s.list.files = (let same = files_len s.pages.store s.list.files in omega (arith, same, shown)) in
     let x = c.index_mut-at.result.now in
     let y = c.take_pages.new.self in
     let is = c.in_default-take_pages.ensures.ok in
-    files_same s.hints s.store s.store s.more s.more s.maps (count_of s.counts) s.list.files c.args.file x y shown c.index_mut-at.ensures.value (ap label_of is)
+    files_same s.hints s.pages.store s.pages.store s.pages.more s.pages.more s.maps (count_of s.counts) s.list.files c.args.file x y shown c.index_mut-at.ensures.value (ap label_of is)
     (same_level x.maps y.maps (ap (λ (f : NumberedFile). f.maps) is)) c.self.invariant
-    (range_held s.store s.more s.list.files c.self.invariant.held c.args.file c.args.from c.args.to within x y c.index_mut-at.ensures.value is)
+    (range_held s.pages.store s.pages.more s.list.files c.self.invariant.held c.args.file c.args.from c.args.to within x y c.index_mut-at.ensures.value is)
 
 pub returns-clause-ok : goal.returns-clause-ok
 returns-clause-ok g c =
     let s = c.self.inside in
-    let shown : c.args.file < length (files_shown s.store s.list.files) = subst (λ (v : Files). c.args.file < length v.files) (sym (c.self.view_is ∙ c.in-Ok.ensures.ok)) c.requires.file in
-    let within : c.args.file < length s.list.files = (let same = files_len s.store s.list.files in omega (arith, same, shown)) in
+    let shown : c.args.file < length (files_shown s.pages.store s.list.files) = subst (λ (v : Files). c.args.file < length v.files) (sym (c.self.view_is ∙ c.in-Ok.ensures.ok)) c.requires.file in
+    let within : c.args.file < length s.list.files = (let same = files_len s.pages.store s.list.files in omega (arith, same, shown)) in
     let a = c.args in
     let reserves : c.saturating_add-reserves.result ≡ a.share.now.held + a.k = omega (arith, c.held.ensures, c.saturating_add-reserves.ensures, c.in-Ok.ensures.few) in
-    range_view s.store s.more s.list.files c.self.invariant.held a.file a.from a.to within
+    range_view s.pages.store s.pages.more s.list.files c.self.invariant.held a.file a.from a.to within
     c.index_mut-at.result.now c.take_pages.new.self c.index_mut-at.ensures.value c.in_default-take_pages.ensures.ok
     ∙ ap (λ (v : Files). entered_at a.file a.from a.to v.room v) (c.self.view_is ∙ c.in-Ok.ensures.ok)
     ∙ ap (λ n. entered_at a.file a.from a.to (max a.self.now.room n) a.self.now) reserves

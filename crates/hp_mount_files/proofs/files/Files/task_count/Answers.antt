@@ -13,4 +13,4 @@ returns g c =
     let s = c.self.inside in
     let ls = labels_of s.list.files in
     c.len.ensures (flat_map tasks_in ls) (λ q. c.self.invariant.keyed.tallied q ∙ tasks_tallied q ls)
-    ∙ ap (λ ts. length (distinct ts)) (tasks_counted s.store s.list.files) ∙ ap (λ (v : Files). length (all_tasks v.files)) c.self.view_is
+    ∙ ap (λ ts. length (distinct ts)) (tasks_counted s.pages.store s.list.files) ∙ ap (λ (v : Files). length (all_tasks v.files)) c.self.view_is

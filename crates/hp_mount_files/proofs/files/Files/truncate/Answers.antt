@@ -12,44 +12,38 @@ use Rattle.hp_mount_files.proofs.files.Files.truncate.Goals as goal
 pub index_mut-at-requires : goal.index_mut-at-requires
 index_mut-at-requires g c =
     let s = c.self.inside in
-    file_inside s.store s.more s.list.files c.self.view_is c.args.file c.requires.file
+    file_inside s.pages.store s.pages.more s.list.files c.self.view_is c.args.file c.requires.file
 
 pub truncate-requires-clause-held : goal.truncate-requires-clause-held
 truncate-requires-clause-held g c =
     let s = c.self.inside in
-    held_inside s.store s.more s.list.files c.self.view_is c.args.file c.requires.file c.index_mut-at.result.now c.index_mut-at.ensures.value c.self.invariant.held
-
-pub truncate-requires-clause-some : goal.truncate-requires-clause-some
-truncate-requires-clause-some g c = c.self.invariant.held.some
-
-pub truncate-requires-clause-counted : goal.truncate-requires-clause-counted
-truncate-requires-clause-counted g c = c.self.invariant.held.counted
+    held_inside s.pages.store s.pages.more s.list.files c.self.view_is c.args.file c.requires.file c.index_mut-at.result.now c.index_mut-at.ensures.value c.self.invariant.held
 
 pub invariant_of-self : goal.invariant_of-self
 invariant_of-self g c =
     let s = c.self.inside in
     let k = c.args.file in
-    cut_keeps s.hints s.store c.truncate.new.store s.more c.truncate.new.more s.maps (count_of s.counts) s.list.files c.self.invariant k
+    cut_keeps s.hints s.pages.store c.truncate.new.pages.store s.pages.more c.truncate.new.pages.more s.maps (count_of s.counts) s.list.files c.self.invariant k
     (subst (λ v. k < length v.files) (sym c.self.view_is) c.requires.file) c.index_mut-at.result.now c.truncate.new.self
     c.index_mut-at.ensures.value
-    c.truncate.ensures.dropping c.truncate.ensures.counted c.args.pages c.truncate.result c.truncate.ensures.file c.truncate.ensures.entries
+    c.truncate.ensures.dropping.dropping c.truncate.ensures.dropping.counted c.args.pages c.truncate.result c.truncate.ensures.file c.truncate.ensures.entries
 
 pub returns-clause-files : goal.returns-clause-files
 returns-clause-files g c =
     let s = c.self.inside in
     let k = c.args.file in
-    cut_files s.hints s.store c.truncate.new.store s.more c.truncate.new.more s.maps (count_of s.counts) s.list.files c.self.invariant k
+    cut_files s.hints s.pages.store c.truncate.new.pages.store s.pages.more c.truncate.new.pages.more s.maps (count_of s.counts) s.list.files c.self.invariant k
     (subst (λ v. k < length v.files) (sym c.self.view_is) c.requires.file) c.index_mut-at.result.now c.truncate.new.self
     c.index_mut-at.ensures.value
-    c.truncate.ensures.dropping c.truncate.ensures.counted c.args.pages c.truncate.result c.truncate.ensures.file c.truncate.ensures.entries
+    c.truncate.ensures.dropping.dropping c.truncate.ensures.dropping.counted c.args.pages c.truncate.result c.truncate.ensures.file c.truncate.ensures.entries
     ∙ ap (λ (v : Files). edited_at k (truncated c.args.pages (file_at v.files k)) v.files) c.self.view_is
 
 pub returns-clause-left : goal.returns-clause-left
 returns-clause-left g c =
     let s = c.self.inside in
     let k = c.args.file in
-    subst (λ v. IsLeft c.truncate.result v (view c.truncate.new.store c.truncate.new.more (slice_set s.list.files k c.truncate.new.self))) c.self.view_is
-    (cut_left s.hints s.store c.truncate.new.store s.more c.truncate.new.more s.maps (count_of s.counts) s.list.files c.self.invariant k
+    subst (λ v. IsLeft c.truncate.result v (view c.truncate.new.pages.store c.truncate.new.pages.more (slice_set s.list.files k c.truncate.new.self))) c.self.view_is
+    (cut_left s.hints s.pages.store c.truncate.new.pages.store s.pages.more c.truncate.new.pages.more s.maps (count_of s.counts) s.list.files c.self.invariant k
     (subst (λ v. k < length v.files) (sym c.self.view_is) c.requires.file) c.index_mut-at.result.now c.truncate.new.self
     c.index_mut-at.ensures.value
-    c.truncate.ensures.dropping c.truncate.ensures.counted c.args.pages c.truncate.result c.truncate.ensures.file c.truncate.ensures.entries)
+    c.truncate.ensures.dropping.dropping c.truncate.ensures.dropping.counted c.args.pages c.truncate.result c.truncate.ensures.file c.truncate.ensures.entries)

@@ -13,37 +13,31 @@ use Rattle.hp_mount_files.proofs.files.Files.unlink.Goals as goal
 pub index-requires : goal.index-requires
 index-requires g c =
     let s = c.self.inside in
-    file_inside s.store s.more s.list.files c.self.view_is c.args.file c.requires.within
+    file_inside s.pages.store s.pages.more s.list.files c.self.view_is c.args.file c.requires.within
 
 pub index_mut-at-requires : goal.index_mut-at-requires
 index_mut-at-requires g c =
     let s = c.self.inside in
-    file_inside s.store s.more s.list.files c.self.view_is c.args.file c.requires.within
+    file_inside s.pages.store s.pages.more s.list.files c.self.view_is c.args.file c.requires.within
 
 pub remove-gone-requires : goal.remove-gone-requires
 remove-gone-requires g c =
     let s = c.self.inside in
-    file_inside s.store s.more s.list.files c.self.view_is c.args.file c.requires.within
+    file_inside s.pages.store s.pages.more s.list.files c.self.view_is c.args.file c.requires.within
 
-pub close-requires-clause-held : goal.close-requires-clause-held
-close-requires-clause-held g c =
+pub close-requires : goal.close-requires
+close-requires g c =
     let s = c.self.inside in
-    held_inside s.store s.more s.list.files c.self.view_is c.args.file c.requires.within c.remove-gone.result c.remove-gone.ensures.value c.self.invariant.held
-
-pub close-requires-clause-some : goal.close-requires-clause-some
-close-requires-clause-some g c = c.self.invariant.held.some
-
-pub close-requires-clause-counted : goal.close-requires-clause-counted
-close-requires-clause-counted g c = c.self.invariant.held.counted
+    held_inside s.pages.store s.pages.more s.list.files c.self.view_is c.args.file c.requires.within c.remove-gone.result c.remove-gone.ensures.value c.self.invariant.held
 
 pub invariant_of-self : goal.invariant_of-self
 invariant_of-self g c =
     let s = c.self.inside in
     let k = c.args.file in
-    let same = same_maps s.store s.list.files k c.args.name.now (subst (λ v. IsNamed v.files c.args.name.now k) (sym c.self.view_is) c.requires)
+    let same = same_maps s.pages.store s.list.files k c.args.name.now (subst (λ v. IsNamed v.files c.args.name.now k) (sym c.self.view_is) c.requires)
     c.index.result.now c.index_mut-at.result.now c.index.ensures c.index_mut-at.ensures.value in
     let some : 0 < length c.index_mut-at.result.now.maps = omega (arith, same, c.map_count.ensures, c.if-map_count-gt0.true) in
-    named_keeps s.hints c.forget_file.new.self c.args.name.now c.forget_file.ensures s.store s.more s.maps (count_of s.counts) s.list.files
+    named_keeps s.hints c.forget_file.new.self c.args.name.now c.forget_file.ensures s.pages.store s.pages.more s.maps (count_of s.counts) s.list.files
     c.self.invariant k (subst (λ v. IsNamed v.files c.args.name.now k) (sym c.self.view_is) c.requires) c.index_mut-at.result.now
     c.index_mut-at.ensures.value c.drop_name.new.self c.drop_name.ensures some
 
@@ -51,10 +45,10 @@ pub returns-then-map_count-gt0-clause-files : goal.returns-then-map_count-gt0-cl
 returns-then-map_count-gt0-clause-files g c =
     let s = c.self.inside in
     let k = c.args.file in
-    let same = same_maps s.store s.list.files k c.args.name.now (subst (λ v. IsNamed v.files c.args.name.now k) (sym c.self.view_is) c.requires)
+    let same = same_maps s.pages.store s.list.files k c.args.name.now (subst (λ v. IsNamed v.files c.args.name.now k) (sym c.self.view_is) c.requires)
     c.index.result.now c.index_mut-at.result.now c.index.ensures c.index_mut-at.ensures.value in
     let some : 0 < length c.index_mut-at.result.now.maps = omega (arith, same, c.map_count.ensures, c.if-map_count-gt0.true) in
-    named_files s.hints c.forget_file.new.self c.args.name.now c.forget_file.ensures s.store s.more s.maps (count_of s.counts) s.list.files
+    named_files s.hints c.forget_file.new.self c.args.name.now c.forget_file.ensures s.pages.store s.pages.more s.maps (count_of s.counts) s.list.files
     c.self.invariant k (subst (λ v. IsNamed v.files c.args.name.now k) (sym c.self.view_is) c.requires) c.index_mut-at.result.now
     c.index_mut-at.ensures.value c.drop_name.new.self c.drop_name.ensures some
     ∙ ap (λ (v : Files). edited_at k (unlinked (file_at v.files k)) v.files) c.self.view_is
@@ -63,11 +57,11 @@ pub returns-then-map_count-gt0-clause-left : goal.returns-then-map_count-gt0-cla
 returns-then-map_count-gt0-clause-left g c =
     let s = c.self.inside in
     let k = c.args.file in
-    let same = same_maps s.store s.list.files k c.args.name.now (subst (λ v. IsNamed v.files c.args.name.now k) (sym c.self.view_is) c.requires)
+    let same = same_maps s.pages.store s.list.files k c.args.name.now (subst (λ v. IsNamed v.files c.args.name.now k) (sym c.self.view_is) c.requires)
     c.index.result.now c.index_mut-at.result.now c.index.ensures c.index_mut-at.ensures.value in
     let some : 0 < length c.index_mut-at.result.now.maps = omega (arith, same, c.map_count.ensures, c.if-map_count-gt0.true) in
-    subst (λ v. IsLeft 0 v (view s.store s.more (slice_set s.list.files k c.drop_name.new.self))) c.self.view_is
-    (named_left s.hints c.forget_file.new.self c.args.name.now c.forget_file.ensures s.store s.more s.maps (count_of s.counts) s.list.files
+    subst (λ v. IsLeft 0 v (view s.pages.store s.pages.more (slice_set s.list.files k c.drop_name.new.self))) c.self.view_is
+    (named_left s.hints c.forget_file.new.self c.args.name.now c.forget_file.ensures s.pages.store s.pages.more s.maps (count_of s.counts) s.list.files
     c.self.invariant k (subst (λ v. IsNamed v.files c.args.name.now k) (sym c.self.view_is) c.requires) c.index_mut-at.result.now
     c.index_mut-at.ensures.value c.drop_name.new.self c.drop_name.ensures some)
 
@@ -75,36 +69,36 @@ pub invariant_of-self-2 : goal.invariant_of-self-2
 invariant_of-self-2 g c =
     let s = c.self.inside in
     let k = c.args.file in
-    let same = same_maps s.store s.list.files k c.args.name.now (subst (λ v. IsNamed v.files c.args.name.now k) (sym c.self.view_is) c.requires)
+    let same = same_maps s.pages.store s.list.files k c.args.name.now (subst (λ v. IsNamed v.files c.args.name.now k) (sym c.self.view_is) c.requires)
     c.index.result.now c.remove-gone.result c.index.ensures c.remove-gone.ensures.value in
     let bare : length c.remove-gone.result.maps ≡ 0 = omega (arith, same, c.map_count.ensures, c.if-map_count-gt0.false) in
-    gone_keeps s.hints c.forget_file.new.self c.args.name.now c.forget_file.ensures s.store s.more s.maps (count_of s.counts) s.list.files
+    gone_keeps s.hints c.forget_file.new.self c.args.name.now c.forget_file.ensures s.pages.store s.pages.more s.maps (count_of s.counts) s.list.files
     c.self.invariant k (subst (λ v. IsNamed v.files c.args.name.now k) (sym c.self.view_is) c.requires) c.remove-gone.result
     c.remove-gone.ensures.value
-    c.close.new.store c.close.new.more c.close.result c.remove-gone.new.self.files c.remove-gone.ensures.files bare c.close.ensures.dropping c.close.ensures.counted c.close.ensures.entries
+    c.close.new.pages.store c.close.new.pages.more c.close.result c.remove-gone.new.self.files c.remove-gone.ensures.files bare c.close.ensures.dropping.dropping c.close.ensures.dropping.counted c.close.ensures.entries
 
 pub returns-clause-files : goal.returns-clause-files
 returns-clause-files g c =
     let s = c.self.inside in
     let k = c.args.file in
-    let same = same_maps s.store s.list.files k c.args.name.now (subst (λ v. IsNamed v.files c.args.name.now k) (sym c.self.view_is) c.requires)
+    let same = same_maps s.pages.store s.list.files k c.args.name.now (subst (λ v. IsNamed v.files c.args.name.now k) (sym c.self.view_is) c.requires)
     c.index.result.now c.remove-gone.result c.index.ensures c.remove-gone.ensures.value in
     let bare : length c.remove-gone.result.maps ≡ 0 = omega (arith, same, c.map_count.ensures, c.if-map_count-gt0.false) in
-    gone_files s.hints c.forget_file.new.self c.args.name.now c.forget_file.ensures s.store s.more s.maps (count_of s.counts) s.list.files
+    gone_files s.hints c.forget_file.new.self c.args.name.now c.forget_file.ensures s.pages.store s.pages.more s.maps (count_of s.counts) s.list.files
     c.self.invariant k (subst (λ v. IsNamed v.files c.args.name.now k) (sym c.self.view_is) c.requires) c.remove-gone.result
     c.remove-gone.ensures.value
-    c.close.new.store c.close.new.more c.close.result c.remove-gone.new.self.files c.remove-gone.ensures.files bare c.close.ensures.dropping c.close.ensures.counted c.close.ensures.entries
+    c.close.new.pages.store c.close.new.pages.more c.close.result c.remove-gone.new.self.files c.remove-gone.ensures.files bare c.close.ensures.dropping.dropping c.close.ensures.dropping.counted c.close.ensures.entries
     ∙ ap (λ (v : Files). edited_at k (unlinked (file_at v.files k)) v.files) c.self.view_is
 
 pub returns-clause-left : goal.returns-clause-left
 returns-clause-left g c =
     let s = c.self.inside in
     let k = c.args.file in
-    let same = same_maps s.store s.list.files k c.args.name.now (subst (λ v. IsNamed v.files c.args.name.now k) (sym c.self.view_is) c.requires)
+    let same = same_maps s.pages.store s.list.files k c.args.name.now (subst (λ v. IsNamed v.files c.args.name.now k) (sym c.self.view_is) c.requires)
     c.index.result.now c.remove-gone.result c.index.ensures c.remove-gone.ensures.value in
     let bare : length c.remove-gone.result.maps ≡ 0 = omega (arith, same, c.map_count.ensures, c.if-map_count-gt0.false) in
-    subst (λ v. IsLeft c.close.result v (view c.close.new.store c.close.new.more c.remove-gone.new.self.files)) c.self.view_is
-    (gone_left s.hints c.forget_file.new.self c.args.name.now c.forget_file.ensures s.store s.more s.maps (count_of s.counts) s.list.files
+    subst (λ v. IsLeft c.close.result v (view c.close.new.pages.store c.close.new.pages.more c.remove-gone.new.self.files)) c.self.view_is
+    (gone_left s.hints c.forget_file.new.self c.args.name.now c.forget_file.ensures s.pages.store s.pages.more s.maps (count_of s.counts) s.list.files
     c.self.invariant k (subst (λ v. IsNamed v.files c.args.name.now k) (sym c.self.view_is) c.requires) c.remove-gone.result
     c.remove-gone.ensures.value
-    c.close.new.store c.close.new.more c.close.result c.remove-gone.new.self.files c.remove-gone.ensures.files bare c.close.ensures.dropping c.close.ensures.counted c.close.ensures.entries)
+    c.close.new.pages.store c.close.new.pages.more c.close.result c.remove-gone.new.self.files c.remove-gone.ensures.files bare c.close.ensures.dropping.dropping c.close.ensures.dropping.counted c.close.ensures.entries)

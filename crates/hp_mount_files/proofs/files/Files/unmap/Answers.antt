@@ -13,6 +13,8 @@ use Rattle.hp_lookup.specs.Leaving.{file_owed}
 use Rattle.hp_lookup.specs.Numbered.{files_shown, mapping_at}
 use Rattle.hp_lookup.specs.Places.{IsFound}
 use Rattle.hp_lookup.proofs.Leaving.{files_owe}
+use Rattle.hp_file.proofs.Counting.{part_held}
+use Rattle.hp_mount_files.proofs.Here.{all_held}
 use Rattle.hp_mount_files.proofs.Unmapping.{enough_held, few_reserves, some_maps, stays_files, stays_keeps, stays_left, went_files, went_keeps, went_left}
 use Rattle.hp_lookup.proofs.Views.{files_len, view}
 use Rattle.hp_mount_files.proofs.files.Files.unmap.Given.{Over}
@@ -21,7 +23,7 @@ use Rattle.hp_mount_files.proofs.files.Files.unmap.Goals.{After-unmap-gone, Afte
 
 -- the map that was found, and whether something of it is left
 module _ (g : Over) (c : After-unmap-gone g) where
-  there : IsFound (files_shown c.self.inside.store c.self.inside.list.files) c.args.task c.args.number c.args.at.file c.args.at.map
+  there : IsFound (files_shown c.self.inside.pages.store c.self.inside.list.files) c.args.task c.args.number c.args.at.file c.args.at.map
   there = subst (λ (v : Files). IsFound v.files c.args.task c.args.number c.args.at.file c.args.at.map) (sym c.self.view_is) c.requires.found
 
   abbrev z : Mapping ℕ
@@ -43,20 +45,20 @@ module _ (g : Over) (c : After-unmap-gone g) where
 
   few : sum_by file_owed c.self.inside.list.files < 2 ^ 64
   few =
-      let all = files_owe c.self.inside.store c.self.inside.list.files in
+      let all = files_owe c.self.inside.pages.store c.self.inside.list.files in
       let same = ap (λ (v : Files). sum_by file_reserves v.files) c.self.view_is in
       omega (arith, all, same, c.requires.few)
 
 pub unmap-gone-requires-clause-held : goal.unmap-gone-requires-clause-held
-unmap-gone-requires-clause-held g c n =
+unmap-gone-requires-clause-held g c =
     let s = c.self.inside in
-    let found : IsFound (files_shown s.store s.list.files) c.args.task c.args.number c.args.at.file c.args.at.map =
+    let found : IsFound (files_shown s.pages.store s.list.files) c.args.task c.args.number c.args.at.file c.args.at.map =
     subst (λ (v : Files). IsFound v.files c.args.task c.args.number c.args.at.file c.args.at.map) (sym c.self.view_is) c.requires.found in
-    let inside : c.args.at.file < length s.list.files = omega (arith, found.file_within, files_len s.store s.list.files) in
+    let inside : c.args.at.file < length s.list.files = omega (arith, found.file_within, files_len s.pages.store s.list.files) in
+    part_held (all_held s.pages.store s.pages.more s.list.files c.self.invariant.held) (λ n.
     let part = get_or-le-sum_by (in_file n) s.list.files c.args.at.file c.index_mut-file.result.now inside in
     let its = ap (in_file n) c.index_mut-file.ensures.value in
-    let all = c.self.invariant.held.held n in
-    omega (arith, part, its, all)
+    omega (arith, part, its))
 
 pub invariant_of-self : goal.invariant_of-self
 invariant_of-self g c =
@@ -64,9 +66,9 @@ invariant_of-self g c =
     let s = c.self.inside in
     let one = c.unmap-gone in
     let mapped = stays g found c.if-gone-eq0.true in
-    stays_keeps s.hints s.hints s.store one.new.store s.more one.new.more s.maps (count_of s.counts) s.list.files c.self.invariant c.args.task
+    stays_keeps s.hints s.hints s.pages.store one.new.pages.store s.pages.more one.new.pages.more s.maps (count_of s.counts) s.list.files c.self.invariant c.args.task
     c.args.number c.args.a c.args.b c.args.at.file c.args.at.map (there g found) c.index_mut-file.result.now one.new.self
-    c.index_mut-file.ensures.value one.ensures.file one.ensures.dropping one.result.reserves one.ensures.reserves mapped one.ensures.counted
+    c.index_mut-file.ensures.value one.ensures.file one.ensures.dropping.dropping one.result.reserves one.ensures.reserves mapped one.ensures.dropping.counted
 
 pub returns-then-gone-eq0-clause-files : goal.returns-then-gone-eq0-clause-files
 returns-then-gone-eq0-clause-files g c =
@@ -74,9 +76,9 @@ returns-then-gone-eq0-clause-files g c =
     let s = c.self.inside in
     let one = c.unmap-gone in
     let mapped = stays g found c.if-gone-eq0.true in
-    stays_files s.hints s.hints s.store one.new.store s.more one.new.more s.maps (count_of s.counts) s.list.files c.self.invariant c.args.task
+    stays_files s.hints s.hints s.pages.store one.new.pages.store s.pages.more one.new.pages.more s.maps (count_of s.counts) s.list.files c.self.invariant c.args.task
     c.args.number c.args.a c.args.b c.args.at.file c.args.at.map (there g found) c.index_mut-file.result.now one.new.self
-    c.index_mut-file.ensures.value one.ensures.file one.ensures.dropping one.result.reserves one.ensures.reserves mapped one.ensures.counted
+    c.index_mut-file.ensures.value one.ensures.file one.ensures.dropping.dropping one.result.reserves one.ensures.reserves mapped one.ensures.dropping.counted
     ∙ ap (λ (v : Files). filter is_kept (map (file_unmapped (is_map c.args.task c.args.number) c.args.a c.args.b) v.files)) c.self.view_is
 
 pub returns-then-gone-eq0-clause-left : goal.returns-then-gone-eq0-clause-left
@@ -85,10 +87,10 @@ returns-then-gone-eq0-clause-left g c =
     let s = c.self.inside in
     let one = c.unmap-gone in
     let mapped = stays g found c.if-gone-eq0.true in
-    subst (λ v. IsLeft one.result.reserves v (view one.new.store one.new.more (slice_set s.list.files c.args.at.file one.new.self))) c.self.view_is
-    (stays_left s.hints s.hints s.store one.new.store s.more one.new.more s.maps (count_of s.counts) s.list.files c.self.invariant c.args.task
+    subst (λ v. IsLeft one.result.reserves v (view one.new.pages.store one.new.pages.more (slice_set s.list.files c.args.at.file one.new.self))) c.self.view_is
+    (stays_left s.hints s.hints s.pages.store one.new.pages.store s.pages.more one.new.pages.more s.maps (count_of s.counts) s.list.files c.self.invariant c.args.task
     c.args.number c.args.a c.args.b c.args.at.file c.args.at.map (there g found) c.index_mut-file.result.now one.new.self
-    c.index_mut-file.ensures.value one.ensures.file one.ensures.dropping one.result.reserves one.ensures.reserves mapped one.ensures.counted)
+    c.index_mut-file.ensures.value one.ensures.file one.ensures.dropping.dropping one.result.reserves one.ensures.reserves mapped one.ensures.dropping.counted)
 
 pub sweep_file-entries-requires-clause-held : goal.sweep_file-entries-requires-clause-held
 sweep_file-entries-requires-clause-held g c =
@@ -96,9 +98,13 @@ sweep_file-entries-requires-clause-held g c =
     let s = c.self.inside in
     let one = c.unmap-gone in
     let mapped = goes g found c.if-gone-eq0.false in
-    enough_held s.hints s.hints s.store one.new.store s.more one.new.more s.maps (count_of s.counts) s.list.files c.self.invariant c.args.task
-    c.args.number c.args.a c.args.b c.args.at.file c.args.at.map (there g found) c.index_mut-file.result.now one.new.self
-    c.index_mut-file.ensures.value one.ensures.file one.ensures.dropping one.result.reserves one.ensures.reserves mapped
+    record {
+      held = enough_held s.hints s.hints s.pages.store one.new.pages.store s.pages.more one.new.pages.more s.maps (count_of s.counts) s.list.files c.self.invariant c.args.task
+          c.args.number c.args.a c.args.b c.args.at.file c.args.at.map (there g found) c.index_mut-file.result.now one.new.self
+          c.index_mut-file.ensures.value one.ensures.file one.ensures.dropping.dropping one.result.reserves one.ensures.reserves mapped;
+      some = one.ensures.dropping.dropping.some;
+      counted = one.ensures.dropping.counted;
+    }
 
 pub overflow_sub-self : goal.overflow_sub-self
 overflow_sub-self g c =
@@ -106,9 +112,9 @@ overflow_sub-self g c =
     let s = c.self.inside in
     let one = c.unmap-gone in
     let mapped = goes g found c.if-gone-eq0.false in
-    some_maps s.hints s.hints s.store one.new.store s.more one.new.more s.maps (count_of s.counts) s.list.files c.self.invariant c.args.task
+    some_maps s.hints s.hints s.pages.store one.new.pages.store s.pages.more one.new.pages.more s.maps (count_of s.counts) s.list.files c.self.invariant c.args.task
     c.args.number c.args.a c.args.b c.args.at.file c.args.at.map (there g found) c.index_mut-file.result.now one.new.self
-    c.index_mut-file.ensures.value one.ensures.file one.ensures.dropping one.result.reserves one.ensures.reserves mapped
+    c.index_mut-file.ensures.value one.ensures.file one.ensures.dropping.dropping one.result.reserves one.ensures.reserves mapped
 
 pub overflow_add-result : goal.overflow_add-result
 overflow_add-result g c =
@@ -117,10 +123,10 @@ overflow_add-result g c =
     let one = c.unmap-gone in
     let mapped = goes g found c.if-gone-eq0.false in
     let last = c.sweep_file-entries in
-    let few = few_reserves s.hints c.forget_map.new.self s.store one.new.store s.more one.new.more s.maps (count_of s.counts) s.list.files
+    let few = few_reserves s.hints c.forget_map.new.self s.pages.store one.new.pages.store s.pages.more one.new.pages.more s.maps (count_of s.counts) s.list.files
     c.self.invariant c.args.task c.args.number c.args.a c.args.b c.args.at.file c.args.at.map (there g found) c.index_mut-file.result.now
-    one.new.self c.index_mut-file.ensures.value one.ensures.file one.ensures.dropping one.result.reserves one.ensures.reserves mapped
-    last.new.store last.new.more last.new.files.files last.ensures.files last.ensures.dropping last.ensures.counted last.result
+    one.new.self c.index_mut-file.ensures.value one.ensures.file one.ensures.dropping.dropping one.result.reserves one.ensures.reserves mapped
+    last.new.pages.store last.new.pages.more last.new.files.files last.ensures.files last.ensures.dropping.dropping last.ensures.dropping.counted last.result
     last.ensures.reserves (few g found) in
     omega (arith, few)
 
@@ -131,10 +137,10 @@ invariant_of-self-2 g c =
     let one = c.unmap-gone in
     let mapped = goes g found c.if-gone-eq0.false in
     let last = c.sweep_file-entries in
-    went_keeps s.hints c.forget_map.new.self s.store one.new.store s.more one.new.more s.maps (count_of s.counts) s.list.files c.self.invariant
+    went_keeps s.hints c.forget_map.new.self s.pages.store one.new.pages.store s.pages.more one.new.pages.more s.maps (count_of s.counts) s.list.files c.self.invariant
     c.args.task c.args.number c.args.a c.args.b c.args.at.file c.args.at.map (there g found) c.index_mut-file.result.now one.new.self
-    c.index_mut-file.ensures.value one.ensures.file one.ensures.dropping one.result.reserves one.ensures.reserves mapped last.new.store
-    last.new.more last.new.files.files last.ensures.files last.ensures.dropping last.ensures.counted last.result last.ensures.reserves
+    c.index_mut-file.ensures.value one.ensures.file one.ensures.dropping.dropping one.result.reserves one.ensures.reserves mapped last.new.pages.store
+    last.new.pages.more last.new.files.files last.ensures.files last.ensures.dropping.dropping last.ensures.dropping.counted last.result last.ensures.reserves
     (few g found)
     c.forget_map.ensures (count_of c.remove_one.new.self) c.remove_one.ensures
 
@@ -145,10 +151,10 @@ returns-clause-files g c =
     let one = c.unmap-gone in
     let mapped = goes g found c.if-gone-eq0.false in
     let last = c.sweep_file-entries in
-    went_files s.hints c.forget_map.new.self s.store one.new.store s.more one.new.more s.maps (count_of s.counts) s.list.files c.self.invariant
+    went_files s.hints c.forget_map.new.self s.pages.store one.new.pages.store s.pages.more one.new.pages.more s.maps (count_of s.counts) s.list.files c.self.invariant
     c.args.task c.args.number c.args.a c.args.b c.args.at.file c.args.at.map (there g found) c.index_mut-file.result.now one.new.self
-    c.index_mut-file.ensures.value one.ensures.file one.ensures.dropping one.result.reserves one.ensures.reserves mapped last.new.store
-    last.new.more last.new.files.files last.ensures.files last.ensures.dropping last.ensures.counted last.result last.ensures.reserves
+    c.index_mut-file.ensures.value one.ensures.file one.ensures.dropping.dropping one.result.reserves one.ensures.reserves mapped last.new.pages.store
+    last.new.pages.more last.new.files.files last.ensures.files last.ensures.dropping.dropping last.ensures.dropping.counted last.result last.ensures.reserves
     (few g found)
     ∙ ap (λ (v : Files). filter is_kept (map (file_unmapped (is_map c.args.task c.args.number) c.args.a c.args.b) v.files)) c.self.view_is
 
@@ -159,9 +165,9 @@ returns-clause-left g c =
     let one = c.unmap-gone in
     let mapped = goes g found c.if-gone-eq0.false in
     let last = c.sweep_file-entries in
-    subst (λ v. IsLeft (one.result.reserves + last.result) v (view last.new.store last.new.more last.new.files.files)) c.self.view_is
-    (went_left s.hints c.forget_map.new.self s.store one.new.store s.more one.new.more s.maps (count_of s.counts) s.list.files c.self.invariant
+    subst (λ v. IsLeft (one.result.reserves + last.result) v (view last.new.pages.store last.new.pages.more last.new.files.files)) c.self.view_is
+    (went_left s.hints c.forget_map.new.self s.pages.store one.new.pages.store s.pages.more one.new.pages.more s.maps (count_of s.counts) s.list.files c.self.invariant
     c.args.task c.args.number c.args.a c.args.b c.args.at.file c.args.at.map (there g found) c.index_mut-file.result.now one.new.self
-    c.index_mut-file.ensures.value one.ensures.file one.ensures.dropping one.result.reserves one.ensures.reserves mapped last.new.store
-    last.new.more last.new.files.files last.ensures.files last.ensures.dropping last.ensures.counted last.result last.ensures.reserves
+    c.index_mut-file.ensures.value one.ensures.file one.ensures.dropping.dropping one.result.reserves one.ensures.reserves mapped last.new.pages.store
+    last.new.pages.more last.new.files.files last.ensures.files last.ensures.dropping.dropping last.ensures.dropping.counted last.result last.ensures.reserves
     (few g found))

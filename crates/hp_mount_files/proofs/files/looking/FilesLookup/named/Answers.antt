@@ -10,4 +10,4 @@ pub returns-in_default-clause-none : goal.returns-in_default-clause-none
 returns-in_default-clause-none g c =
     let s = c.self.inside in
     subst (λ (v : Files). found (has_name c.args.name.now) v.files ≡ None) c.self.view_is
-    (no_name_here s.store s.maps (count_of s.counts) s.list.files c.self.invariant.keyed c.args.name.now (c.self.invariant.noted.names c.args.name.now c.in_default.ensures))
+    (no_name_here s.pages.store s.maps (count_of s.counts) s.list.files c.self.invariant.keyed c.args.name.now (c.self.invariant.noted.names c.args.name.now c.in_default.ensures))

@@ -10,8 +10,8 @@ pub returns-in-Some-clause-some : goal.returns-in-Some-clause-some
 returns-in-Some-clause-some g c =
     let s = c.self.inside in
     let k = c.args.file in
-    c.bytes.ensures.bytes ∙ bytes_same (page_at s.store c.in-Some.page)
-    ∙ sym (page_bytes s.store s.list.files k (subst (λ (v : Files). k < length v.files) (sym c.self.view_is) c.requires) c.index-at.result.now
+    c.bytes.ensures.bytes ∙ bytes_same (page_at s.pages.store c.in-Some.page)
+    ∙ sym (page_bytes s.pages.store s.list.files k (subst (λ (v : Files). k < length v.files) (sym c.self.view_is) c.requires) c.index-at.result.now
     c.index-at.ensures g.N.Naming.page_bytes c.args.index _ (sym c.page_at.ensures ∙ c.in-Some.is))
     ∙ ap (λ (v : Files). shown g.N.Naming.page_bytes (cell_at (file_at v.files k) c.args.index)) c.self.view_is
 
@@ -20,5 +20,5 @@ returns-in-None-clause-none g c =
     let s = c.self.inside in
     let k = c.args.file in
     sym (ap (λ (v : Files). shown g.N.Naming.page_bytes (cell_at (file_at v.files k) c.args.index)) c.self.view_is)
-    ∙ no_page_bytes s.store s.list.files k (subst (λ (v : Files). k < length v.files) (sym c.self.view_is) c.requires) c.index-at.result.now
+    ∙ no_page_bytes s.pages.store s.list.files k (subst (λ (v : Files). k < length v.files) (sym c.self.view_is) c.requires) c.index-at.result.now
     c.index-at.ensures g.N.Naming.page_bytes c.args.index (sym c.page_at.ensures ∙ c.in-None.is)

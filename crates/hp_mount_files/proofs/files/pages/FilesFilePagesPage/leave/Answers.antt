@@ -15,10 +15,10 @@ invariant_of-self g c =
     let s = c.self.inside in
     let k = c.args.file in
     let i = c.args.index in
-    files_same s.hints s.store s.store s.more s.more s.maps (count_of s.counts) s.list.files k c.index_mut-at.result.now c.leave.new.self
+    files_same s.hints s.pages.store s.pages.store s.pages.more s.pages.more s.maps (count_of s.counts) s.list.files k c.index_mut-at.result.now c.leave.new.self
     (subst (λ v. k < length v.files) (sym c.self.view_is) c.requires.file) c.index_mut-at.ensures.value (ap label_of c.leave.ensures)
     (same_level c.index_mut-at.result.now.maps c.leave.new.self.maps (ap (λ (f : NumberedFile). f.maps) c.leave.ensures)) c.self.invariant
-    (leave_keeps s.store s.more s.list.files c.self.invariant.held k i (subst (λ v. k < length v.files) (sym c.self.view_is) c.requires.file)
+    (leave_keeps s.pages.store s.pages.more s.list.files c.self.invariant.held k i (subst (λ v. k < length v.files) (sym c.self.view_is) c.requires.file)
     c.index_mut-at.result.now c.leave.new.self c.index_mut-at.ensures.value
     (subst (λ v. i < length (file_at v.files k).cells) (sym c.self.view_is) c.requires.below) c.leave.ensures
     (subst (λ v. cell_at (file_at v.files k) i ≡ Entered) (sym c.self.view_is) c.requires.entered))
@@ -28,7 +28,7 @@ returns g c =
     let s = c.self.inside in
     let k = c.args.file in
     let i = c.args.index in
-    leave_view s.store s.more s.list.files c.self.invariant.held k i (subst (λ v. k < length v.files) (sym c.self.view_is) c.requires.file)
+    leave_view s.pages.store s.pages.more s.list.files c.self.invariant.held k i (subst (λ v. k < length v.files) (sym c.self.view_is) c.requires.file)
     c.index_mut-at.result.now c.leave.new.self c.index_mut-at.ensures.value
     (subst (λ v. i < length (file_at v.files k).cells) (sym c.self.view_is) c.requires.below) c.leave.ensures
     (subst (λ v. cell_at (file_at v.files k) i ≡ Entered) (sym c.self.view_is) c.requires.entered)

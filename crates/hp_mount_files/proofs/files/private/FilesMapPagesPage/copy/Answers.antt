@@ -17,18 +17,18 @@ use Rattle.hp_mount_files.proofs.files.private.FilesMapPagesPage.copy.Goals as g
 pub index-requires : goal.index-requires
 index-requires g c =
     let s = c.self.inside in
-    file_inside s.store s.more s.list.files c.self.view_is c.args.at.file c.requires.file
+    file_inside s.pages.store s.pages.more s.list.files c.self.view_is c.args.at.file c.requires.file
 
 pub map-map-requires : goal.map-map-requires
 map-map-requires g c =
     let s = c.self.inside in
-    map_inside s.store s.more s.list.files c.self.view_is c.args.at.file c.requires.file c.index.result.now c.index.ensures c.args.at.map c.requires.map
+    map_inside s.pages.store s.pages.more s.list.files c.self.view_is c.args.at.file c.requires.file c.index.result.now c.index.ensures c.args.at.map c.requires.map
 
 pub returns-in_default-clause-agreed : goal.returns-in_default-clause-agreed
 returns-in_default-clause-agreed g c =
     let s = c.self.inside in
     subst (λ (v : Files). AreAgreed (file_at v.files c.args.at.file)) c.self.view_is
-    (agreed_there s.store s.more s.list.files c.self.invariant.held c.args.at.file c.args.at.map c.args.index
+    (agreed_there s.pages.store s.pages.more s.list.files c.self.invariant.held c.args.at.file c.args.at.map c.args.index
     (file_here c.self.view_is c.args.at.file c.requires.file) (map_here c.self.view_is c.args.at.file c.args.at.map c.requires.map)
     c.index.result.now c.index.ensures)
 
@@ -36,7 +36,7 @@ pub returns-then-holders-eq1-clause-agreed : goal.returns-then-holders-eq1-claus
 returns-then-holders-eq1-clause-agreed g c =
     let s = c.self.inside in
     subst (λ (v : Files). AreAgreed (file_at v.files c.args.at.file)) c.self.view_is
-    (agreed_there s.store s.more s.list.files c.self.invariant.held c.args.at.file c.args.at.map c.args.index
+    (agreed_there s.pages.store s.pages.more s.list.files c.self.invariant.held c.args.at.file c.args.at.map c.args.index
     (file_here c.self.view_is c.args.at.file c.requires.file) (map_here c.self.view_is c.args.at.file c.args.at.map c.requires.map)
     c.index.result.now c.index.ensures)
 
@@ -44,7 +44,7 @@ pub returns-else-holders-eq1-clause-agreed : goal.returns-else-holders-eq1-claus
 returns-else-holders-eq1-clause-agreed g c =
     let s = c.self.inside in
     subst (λ (v : Files). AreAgreed (file_at v.files c.args.at.file)) c.self.view_is
-    (agreed_there s.store s.more s.list.files c.self.invariant.held c.args.at.file c.args.at.map c.args.index
+    (agreed_there s.pages.store s.pages.more s.list.files c.self.invariant.held c.args.at.file c.args.at.map c.args.index
     (file_here c.self.view_is c.args.at.file c.requires.file) (map_here c.self.view_is c.args.at.file c.args.at.map c.requires.map)
     c.index.result.now c.index.ensures)
 
@@ -53,13 +53,13 @@ returns-then-holders-eq1-clause-state g c =
     let s = c.self.inside in
     let n = c.in-Some.number in
     let there = sym c.copy_at.ensures ∙ c.in-Some.is in
-    let once : (holders_of (page_at s.store n) == 1) ≡ true = ap (λ x. x == 1) (sym c.holders.ensures.holders) ∙ eq-eqb c.holders.result 1 c.if-holders-eq1.true in
+    let once : (holders_of (page_at s.pages.store n) == 1) ≡ true = ap (λ x. x == 1) (sym c.holders.ensures.holders) ∙ eq-eqb c.holders.result 1 c.if-holders-eq1.true in
     subst (λ (v : Files). IsCopyState state.HeldOnce (file_at v.files c.args.at.file) (place_at (map_among v.files c.args.at.file c.args.at.map) c.args.index)) c.self.view_is (
-      copy_shown s.store n,
-      copy_there s.store s.more s.list.files c.self.invariant.held c.args.at.file c.args.at.map c.args.index
+      copy_shown s.pages.store n,
+      copy_there s.pages.store s.pages.more s.list.files c.self.invariant.held c.args.at.file c.args.at.map c.args.index
           (file_here c.self.view_is c.args.at.file c.requires.file) (map_here c.self.view_is c.args.at.file c.args.at.map c.requires.map)
           c.index.result.now c.index.ensures c.map-map.result.now c.map-map.ensures n there,
-      held_once s.store s.more s.list.files c.self.invariant.held
+      held_once s.pages.store s.pages.more s.list.files c.self.invariant.held
           c.args.at.file c.args.at.map c.args.index (file_here c.self.view_is c.args.at.file c.requires.file)
           (map_here c.self.view_is c.args.at.file c.args.at.map c.requires.map) c.index.result.now c.index.ensures c.map-map.result.now
           c.map-map.ensures n there true once,
@@ -70,13 +70,13 @@ returns-else-holders-eq1-clause-state g c =
     let s = c.self.inside in
     let n = c.in-Some.number in
     let there = sym c.copy_at.ensures ∙ c.in-Some.is in
-    let once : (holders_of (page_at s.store n) == 1) ≡ false = ap (λ x. x == 1) (sym c.holders.ensures.holders) ∙ grind (arith, nat_tests, c.if-holders-eq1.false) in
+    let once : (holders_of (page_at s.pages.store n) == 1) ≡ false = ap (λ x. x == 1) (sym c.holders.ensures.holders) ∙ grind (arith, nat_tests, c.if-holders-eq1.false) in
     subst (λ (v : Files). IsCopyState state.HeldBySeveral (file_at v.files c.args.at.file) (place_at (map_among v.files c.args.at.file c.args.at.map) c.args.index)) c.self.view_is (
-      copy_shown s.store n,
-      copy_there s.store s.more s.list.files c.self.invariant.held c.args.at.file c.args.at.map c.args.index
+      copy_shown s.pages.store n,
+      copy_there s.pages.store s.pages.more s.list.files c.self.invariant.held c.args.at.file c.args.at.map c.args.index
           (file_here c.self.view_is c.args.at.file c.requires.file) (map_here c.self.view_is c.args.at.file c.args.at.map c.requires.map)
           c.index.result.now c.index.ensures c.map-map.result.now c.map-map.ensures n there,
-      held_once s.store s.more s.list.files c.self.invariant.held
+      held_once s.pages.store s.pages.more s.list.files c.self.invariant.held
           c.args.at.file c.args.at.map c.args.index (file_here c.self.view_is c.args.at.file c.requires.file)
           (map_here c.self.view_is c.args.at.file c.args.at.map c.requires.map) c.index.result.now c.index.ensures c.map-map.result.now
           c.map-map.ensures n there false once,
@@ -86,6 +86,6 @@ pub returns-else-holders-eq1-clause-few : goal.returns-else-holders-eq1-clause-f
 returns-else-holders-eq1-clause-few g c several =
     let s = c.self.inside in
     subst (λ (v : Files). sum_by file_pages v.files + v.room ≤ 2 ^ 32) c.self.view_is
-    (few_there s.store s.more s.list.files c.self.invariant.held c.args.at.file c.args.at.map c.args.index
+    (few_there s.pages.store s.pages.more s.list.files c.self.invariant.held c.args.at.file c.args.at.map c.args.index
     (file_here c.self.view_is c.args.at.file c.requires.file) (map_here c.self.view_is c.args.at.file c.args.at.map c.requires.map)
     c.index.result.now c.index.ensures c.holders.ensures.few)

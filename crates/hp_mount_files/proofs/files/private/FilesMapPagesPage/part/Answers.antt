@@ -20,24 +20,24 @@ use Rattle.hp_mount_files.proofs.files.private.FilesMapPagesPage.part.Goals as g
 pub index_mut-file-requires : goal.index_mut-file-requires
 index_mut-file-requires g c =
     let s = c.self.inside in
-    file_inside s.store s.more s.list.files c.self.view_is c.args.at.file c.requires.file
+    file_inside s.pages.store s.pages.more s.list.files c.self.view_is c.args.at.file c.requires.file
 
 pub replace_copy-old-requires-clause-within : goal.replace_copy-old-requires-clause-within
 replace_copy-old-requires-clause-within g c =
     let s = c.self.inside in
-    map_inside s.store s.more s.list.files c.self.view_is c.args.at.file c.requires.file c.index_mut-file.result.now c.index_mut-file.ensures.value c.args.at.map c.requires.map
+    map_inside s.pages.store s.pages.more s.list.files c.self.view_is c.args.at.file c.requires.file c.index_mut-file.result.now c.index_mut-file.ensures.value c.args.at.map c.requires.map
 
 pub insert-number-requires : goal.insert-number-requires
 insert-number-requires g c =
     let s = c.self.inside in
-    room_there s.store s.more s.list.files c.self.invariant.held c.args.at.file c.args.at.map c.args.index
+    room_there s.pages.store s.pages.more s.list.files c.self.invariant.held c.args.at.file c.args.at.map c.args.index
     (file_here c.self.view_is c.args.at.file c.requires.file) (map_here c.self.view_is c.args.at.file c.args.at.map c.requires.map)
     (state_here c.self.view_is c.args.at.file c.args.at.map c.args.index state.HeldBySeveral c.requires.several)
 
 pub replace_copy-old-requires-clause-copy : goal.replace_copy-old-requires-clause-copy
 replace_copy-old-requires-clause-copy g c =
     let s = c.self.inside in
-    let q = number s.store s.more s.list.files c.self.invariant.held c.args.at.file c.args.at.map c.args.index
+    let q = number s.pages.store s.pages.more s.list.files c.self.invariant.held c.args.at.file c.args.at.map c.args.index
     (file_here c.self.view_is c.args.at.file c.requires.file) (map_here c.self.view_is c.args.at.file c.args.at.map c.requires.map)
     c.index_mut-file.result.now c.index_mut-file.ensures.value (state_here c.self.view_is c.args.at.file c.args.at.map c.args.index
     state.HeldBySeveral c.requires.several) in
@@ -46,7 +46,7 @@ replace_copy-old-requires-clause-copy g c =
 pub drop_holder-requires-clause-held : goal.drop_holder-requires-clause-held
 drop_holder-requires-clause-held g c =
     let s = c.self.inside in
-    still_there s.store s.more s.list.files c.self.invariant.held c.args.at.file c.args.at.map c.args.index
+    still_there s.pages.store s.pages.more s.list.files c.self.invariant.held c.args.at.file c.args.at.map c.args.index
     (file_here c.self.view_is c.args.at.file c.requires.file) (map_here c.self.view_is c.args.at.file c.args.at.map c.requires.map)
     c.index_mut-file.result.now c.index_mut-file.ensures.value (state_here c.self.view_is c.args.at.file c.args.at.map c.args.index
     state.HeldBySeveral c.requires.several) c.replace_copy-old.result c.replace_copy-old.ensures.old c.insert-number.result c.args.page
@@ -58,30 +58,30 @@ invariant_of-self g c =
     let x = c.index_mut-file.result.now in
     let n = c.insert-number.result in
     let several = (state_here c.self.view_is c.args.at.file c.args.at.map c.args.index state.HeldBySeveral c.requires.several) in
-    let live = live_of (place_at (map_among (files_shown s.store s.list.files) c.args.at.file c.args.at.map) c.args.index) several.0 several.1 in
+    let live = live_of (place_at (map_among (files_shown s.pages.store s.list.files) c.args.at.file c.args.at.map) c.args.index) several.0 several.1 in
     let is = c.self.invariant in
-    files_same s.hints s.store c.drop_holder.new.store s.more c.drop_holder.new.more s.maps (count_of s.counts) s.list.files c.args.at.file x
+    files_same s.hints s.pages.store c.drop_holder.new.pages.store s.pages.more c.drop_holder.new.pages.more s.maps (count_of s.counts) s.list.files c.args.at.file x
     c.replace_copy-old.new.self (file_here c.self.view_is c.args.at.file c.requires.file) c.index_mut-file.ensures.value
     (ap label_of c.replace_copy-old.ensures.file ∙ same_label x c.args.at.map (at_place (with_copy n) c.args.index (mapping_at x c.args.at.map)) refl)
-    (part_levels s.store s.more s.list.files c.self.invariant.held c.args.at.file c.args.at.map c.args.index
+    (part_levels s.pages.store s.pages.more s.list.files c.self.invariant.held c.args.at.file c.args.at.map c.args.index
     (file_here c.self.view_is c.args.at.file c.requires.file) (map_here c.self.view_is c.args.at.file c.args.at.map c.requires.map)
     c.index_mut-file.result.now c.index_mut-file.ensures.value (state_here c.self.view_is c.args.at.file c.args.at.map c.args.index
     state.HeldBySeveral c.requires.several) c.replace_copy-old.result c.replace_copy-old.ensures.old c.insert-number.result c.args.page
     c.insert-number.new.self c.insert-number.ensures.fresh c.insert-number.ensures.within c.insert-number.ensures.inserted
-    c.replace_copy-old.new.self c.replace_copy-old.ensures.file c.drop_holder.new.store c.drop_holder.ensures.dropped c.drop_holder.new.more
-    c.drop_holder.ensures.counted live.0 several.0 live.1) is (part_keeps s.store s.more s.list.files c.self.invariant.held c.args.at.file
+    c.replace_copy-old.new.self c.replace_copy-old.ensures.file c.drop_holder.new.pages.store c.drop_holder.ensures.dropped c.drop_holder.new.pages.more
+    c.drop_holder.ensures.counted live.0 several.0 live.1) is (part_keeps s.pages.store s.pages.more s.list.files c.self.invariant.held c.args.at.file
     c.args.at.map c.args.index (file_here c.self.view_is c.args.at.file c.requires.file)
     (map_here c.self.view_is c.args.at.file c.args.at.map c.requires.map) c.index_mut-file.result.now c.index_mut-file.ensures.value
     (state_here c.self.view_is c.args.at.file c.args.at.map c.args.index state.HeldBySeveral c.requires.several) c.replace_copy-old.result
     c.replace_copy-old.ensures.old c.insert-number.result c.args.page c.insert-number.new.self c.insert-number.ensures.fresh
     c.insert-number.ensures.within c.insert-number.ensures.inserted c.replace_copy-old.new.self c.replace_copy-old.ensures.file
-    c.drop_holder.new.store c.drop_holder.ensures.dropped c.drop_holder.new.more c.drop_holder.ensures.counted live.0 several.0 live.1)
+    c.drop_holder.new.pages.store c.drop_holder.ensures.dropped c.drop_holder.new.pages.more c.drop_holder.ensures.counted live.0 several.0 live.1)
 
 pub returns-clause-fresh : goal.returns-clause-fresh
 returns-clause-fresh g c =
     let s = c.self.inside in
     subst (λ (v : Files). is_among c.insert-number.result (flat_map stamps_of v.files) ≡ false) c.self.view_is
-    (put_fresh s.store s.more s.list.files c.self.invariant.held c.args.at.file c.args.at.map c.args.index
+    (put_fresh s.pages.store s.pages.more s.list.files c.self.invariant.held c.args.at.file c.args.at.map c.args.index
     (file_here c.self.view_is c.args.at.file c.requires.file) (map_here c.self.view_is c.args.at.file c.args.at.map c.requires.map)
     c.index_mut-file.result.now c.index_mut-file.ensures.value c.insert-number.result c.args.page c.insert-number.new.self
     c.insert-number.ensures.fresh c.insert-number.ensures.within c.insert-number.ensures.inserted)
@@ -89,12 +89,12 @@ returns-clause-fresh g c =
 pub returns-clause-parted : goal.returns-clause-parted
 returns-clause-parted g c consumed copy place =
     let s = c.self.inside in
-    part_view s.store s.more s.list.files c.self.invariant.held c.args.at.file c.args.at.map c.args.index
+    part_view s.pages.store s.pages.more s.list.files c.self.invariant.held c.args.at.file c.args.at.map c.args.index
     (file_here c.self.view_is c.args.at.file c.requires.file) (map_here c.self.view_is c.args.at.file c.args.at.map c.requires.map)
     c.index_mut-file.result.now c.index_mut-file.ensures.value (state_here c.self.view_is c.args.at.file c.args.at.map c.args.index
     state.HeldBySeveral c.requires.several) c.replace_copy-old.result c.replace_copy-old.ensures.old c.insert-number.result c.args.page
     c.insert-number.new.self c.insert-number.ensures.fresh c.insert-number.ensures.within c.insert-number.ensures.inserted
-    c.replace_copy-old.new.self c.replace_copy-old.ensures.file c.drop_holder.new.store c.drop_holder.ensures.dropped c.drop_holder.new.more
+    c.replace_copy-old.new.self c.replace_copy-old.ensures.file c.drop_holder.new.pages.store c.drop_holder.ensures.dropped c.drop_holder.new.pages.more
     c.drop_holder.ensures.counted consumed copy (place_here c.self.view_is c.args.at.file c.args.at.map c.args.index place)
     ∙ ap (parted_at c.args.at.file c.args.at.map c.args.index consumed c.insert-number.result c.args.page) c.self.view_is
 
@@ -104,11 +104,11 @@ returns-clause-once g c =
     let x = c.index_mut-file.result.now in
     let n = c.insert-number.result in
     let several = (state_here c.self.view_is c.args.at.file c.args.at.map c.args.index state.HeldBySeveral c.requires.several) in
-    let live = live_of (place_at (map_among (files_shown s.store s.list.files) c.args.at.file c.args.at.map) c.args.index) several.0 several.1 in
-    part_once s.store s.more s.list.files c.self.invariant.held c.args.at.file c.args.at.map c.args.index
+    let live = live_of (place_at (map_among (files_shown s.pages.store s.list.files) c.args.at.file c.args.at.map) c.args.index) several.0 several.1 in
+    part_once s.pages.store s.pages.more s.list.files c.self.invariant.held c.args.at.file c.args.at.map c.args.index
     (file_here c.self.view_is c.args.at.file c.requires.file) (map_here c.self.view_is c.args.at.file c.args.at.map c.requires.map)
     c.index_mut-file.result.now c.index_mut-file.ensures.value (state_here c.self.view_is c.args.at.file c.args.at.map c.args.index
     state.HeldBySeveral c.requires.several) c.replace_copy-old.result c.replace_copy-old.ensures.old c.insert-number.result c.args.page
     c.insert-number.new.self c.insert-number.ensures.fresh c.insert-number.ensures.within c.insert-number.ensures.inserted
-    c.replace_copy-old.new.self c.replace_copy-old.ensures.file c.drop_holder.new.store c.drop_holder.ensures.dropped c.drop_holder.new.more
+    c.replace_copy-old.new.self c.replace_copy-old.ensures.file c.drop_holder.new.pages.store c.drop_holder.ensures.dropped c.drop_holder.new.pages.more
     c.drop_holder.ensures.counted live.0 several.0 live.1

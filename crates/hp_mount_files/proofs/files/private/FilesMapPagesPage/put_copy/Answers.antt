@@ -19,23 +19,23 @@ use Rattle.hp_mount_files.proofs.files.private.FilesMapPagesPage.put_copy.Goals 
 pub insert-number-requires : goal.insert-number-requires
 insert-number-requires g c =
     let s = c.self.inside in
-    let room : 0 < s.store.room - s.more = subst (λ (v : Files). 0 < v.room) (sym c.self.view_is) c.requires.room in
+    let room : 0 < s.pages.store.room - s.pages.more = subst (λ (v : Files). 0 < v.room) (sym c.self.view_is) c.requires.room in
     omega (arith, room)
 
 pub index_mut-file-requires : goal.index_mut-file-requires
 index_mut-file-requires g c =
     let s = c.self.inside in
-    file_inside s.store s.more s.list.files c.self.view_is c.args.at.file c.requires.file
+    file_inside s.pages.store s.pages.more s.list.files c.self.view_is c.args.at.file c.requires.file
 
 pub put_copy-requires-clause-within : goal.put_copy-requires-clause-within
 put_copy-requires-clause-within g c =
     let s = c.self.inside in
-    map_inside s.store s.more s.list.files c.self.view_is c.args.at.file c.requires.file c.index_mut-file.result.now c.index_mut-file.ensures.value c.args.at.map c.requires.map
+    map_inside s.pages.store s.pages.more s.list.files c.self.view_is c.args.at.file c.requires.file c.index_mut-file.result.now c.index_mut-file.ensures.value c.args.at.map c.requires.map
 
 pub put_copy-requires-clause-live : goal.put_copy-requires-clause-live
 put_copy-requires-clause-live g c =
     let s = c.self.inside in
-    live_inside s.store s.more s.list.files c.self.view_is c.args.at.file c.requires.file
+    live_inside s.pages.store s.pages.more s.list.files c.self.view_is c.args.at.file c.requires.file
     c.index_mut-file.result.now c.index_mut-file.ensures.value c.args.at.map c.requires.map c.args.index c.requires.live
 
 pub invariant_of-self : goal.invariant_of-self
@@ -45,15 +45,15 @@ invariant_of-self g c =
     let n = c.insert-number.result in
     let bare = bare_place (place_at (map_among c.args.self.now.files c.args.at.file c.args.at.map) c.args.index) c.requires.live c.requires.bare in
     let place = place_here c.self.view_is c.args.at.file c.args.at.map c.args.index bare.1 in
-    files_same s.hints s.store c.insert-number.new.self s.more s.more s.maps (count_of s.counts) s.list.files c.args.at.file x c.put_copy.new.self
+    files_same s.hints s.pages.store c.insert-number.new.self s.pages.more s.pages.more s.maps (count_of s.counts) s.list.files c.args.at.file x c.put_copy.new.self
     (file_here c.self.view_is c.args.at.file c.requires.file) c.index_mut-file.ensures.value
     (ap label_of c.put_copy.ensures ∙ same_label x c.args.at.map (at_place (first_copy (mapping_at x c.args.at.map).owner n) c.args.index (mapping_at x c.args.at.map)) refl)
-    (put_stays_level s.store s.more s.list.files c.self.invariant.held c.args.at.file c.args.at.map c.args.index
+    (put_stays_level s.pages.store s.pages.more s.list.files c.self.invariant.held c.args.at.file c.args.at.map c.args.index
     (file_here c.self.view_is c.args.at.file c.requires.file) (map_here c.self.view_is c.args.at.file c.args.at.map c.requires.map) x
     c.index_mut-file.ensures.value n c.args.page c.insert-number.new.self c.insert-number.ensures.fresh c.insert-number.ensures.within
     c.insert-number.ensures.inserted c.put_copy.new.self c.put_copy.ensures bare.0 place)
     c.self.invariant
-    (put_keeps s.store s.more s.list.files c.self.invariant.held c.args.at.file c.args.at.map c.args.index
+    (put_keeps s.pages.store s.pages.more s.list.files c.self.invariant.held c.args.at.file c.args.at.map c.args.index
     (file_here c.self.view_is c.args.at.file c.requires.file) (map_here c.self.view_is c.args.at.file c.args.at.map c.requires.map) x
     c.index_mut-file.ensures.value n c.args.page c.insert-number.new.self c.insert-number.ensures.fresh c.insert-number.ensures.within
     c.insert-number.ensures.inserted c.put_copy.new.self c.put_copy.ensures bare.0 place
@@ -63,7 +63,7 @@ pub returns-clause-fresh : goal.returns-clause-fresh
 returns-clause-fresh g c =
     let s = c.self.inside in
     subst (λ (v : Files). is_among c.insert-number.result (flat_map stamps_of v.files) ≡ false) c.self.view_is
-    (put_fresh s.store s.more s.list.files c.self.invariant.held c.args.at.file c.args.at.map c.args.index
+    (put_fresh s.pages.store s.pages.more s.list.files c.self.invariant.held c.args.at.file c.args.at.map c.args.index
     (file_here c.self.view_is c.args.at.file c.requires.file) (map_here c.self.view_is c.args.at.file c.args.at.map c.requires.map)
     c.index_mut-file.result.now c.index_mut-file.ensures.value c.insert-number.result c.args.page c.insert-number.new.self
     c.insert-number.ensures.fresh c.insert-number.ensures.within c.insert-number.ensures.inserted)
@@ -71,7 +71,7 @@ returns-clause-fresh g c =
 pub returns-clause-copied : goal.returns-clause-copied
 returns-clause-copied g c consumed place =
     let s = c.self.inside in
-    put_view s.store s.more s.list.files c.self.invariant.held c.args.at.file c.args.at.map c.args.index
+    put_view s.pages.store s.pages.more s.list.files c.self.invariant.held c.args.at.file c.args.at.map c.args.index
     (file_here c.self.view_is c.args.at.file c.requires.file) (map_here c.self.view_is c.args.at.file c.args.at.map c.requires.map)
     c.index_mut-file.result.now c.index_mut-file.ensures.value c.insert-number.result c.args.page c.insert-number.new.self
     c.insert-number.ensures.fresh c.insert-number.ensures.within c.insert-number.ensures.inserted
@@ -85,7 +85,7 @@ returns-clause-once g c =
     let n = c.insert-number.result in
     let bare = bare_place (place_at (map_among c.args.self.now.files c.args.at.file c.args.at.map) c.args.index) c.requires.live c.requires.bare in
     let place = place_here c.self.view_is c.args.at.file c.args.at.map c.args.index bare.1 in
-    put_once s.store s.more s.list.files c.self.invariant.held c.args.at.file c.args.at.map c.args.index
+    put_once s.pages.store s.pages.more s.list.files c.self.invariant.held c.args.at.file c.args.at.map c.args.index
     (file_here c.self.view_is c.args.at.file c.requires.file) (map_here c.self.view_is c.args.at.file c.args.at.map c.requires.map) x
     c.index_mut-file.ensures.value n c.args.page c.insert-number.new.self c.insert-number.ensures.fresh c.insert-number.ensures.within
     c.insert-number.ensures.inserted c.put_copy.new.self c.put_copy.ensures bare.0 place

@@ -10,20 +10,20 @@ use Rattle.hp_mount_files.proofs.files.private.FilesMapPagesPage.shown.Goals as 
 pub index-file-requires : goal.index-file-requires
 index-file-requires g c =
     let s = c.self.inside in
-    file_inside s.store s.more s.list.files c.self.view_is c.args.at.file c.requires.file
+    file_inside s.pages.store s.pages.more s.list.files c.self.view_is c.args.at.file c.requires.file
 
 pub map-map-requires : goal.map-map-requires
 map-map-requires g c =
     let s = c.self.inside in
-    map_inside s.store s.more s.list.files c.self.view_is c.args.at.file c.requires.file c.index-file.result.now c.index-file.ensures c.args.at.map c.requires.map
+    map_inside s.pages.store s.pages.more s.list.files c.self.view_is c.args.at.file c.requires.file c.index-file.result.now c.index-file.ensures c.args.at.map c.requires.map
 
 pub returns-in-Some-page_at-clause-some : goal.returns-in-Some-page_at-clause-some
 returns-in-Some-page_at-clause-some g c =
     let s = c.self.inside in
     let k = c.args.at.file in
     let j = c.args.at.map in
-    ap (λ p. p.bytes) (page_lent (page_at s.store c.in-Some-page_at.page) c.page-in-Some-page_at.result.now c.page-in-Some-page_at.ensures)
-    ∙ sym (page_shows s.store s.list.files k j (subst (λ (v : Files). k < length v.files) (sym c.self.view_is) c.requires.file)
+    ap (λ p. p.bytes) (page_lent (page_at s.pages.store c.in-Some-page_at.page) c.page-in-Some-page_at.result.now c.page-in-Some-page_at.ensures)
+    ∙ sym (page_shows s.pages.store s.list.files k j (subst (λ (v : Files). k < length v.files) (sym c.self.view_is) c.requires.file)
     c.index-file.result.now c.index-file.ensures c.map-map.result.now c.map-map.ensures
     (subst (λ (v : Files). j < length (file_at v.files k).maps) (sym c.self.view_is) c.requires.map) g.N.Naming.page_bytes c.args.index
     _ (sym c.copy_at.ensures ∙ c.in-None.is) (sym c.page_at.ensures ∙ c.in-Some-page_at.is))
@@ -35,7 +35,7 @@ returns-in-None-page_at-clause-none g c =
     let k = c.args.at.file in
     let j = c.args.at.map in
     sym (ap (λ (v : Files). value g.N.Naming.page_bytes (file_at v.files k) (map_among v.files k j) c.args.index) c.self.view_is)
-    ∙ zeros_show s.store s.list.files k j (subst (λ (v : Files). k < length v.files) (sym c.self.view_is) c.requires.file) c.index-file.result.now
+    ∙ zeros_show s.pages.store s.list.files k j (subst (λ (v : Files). k < length v.files) (sym c.self.view_is) c.requires.file) c.index-file.result.now
     c.index-file.ensures c.map-map.result.now c.map-map.ensures
     (subst (λ (v : Files). j < length (file_at v.files k).maps) (sym c.self.view_is) c.requires.map) g.N.Naming.page_bytes c.args.index
     (sym c.copy_at.ensures ∙ c.in-None.is) (sym c.page_at.ensures ∙ c.in-None-page_at.is)

@@ -18,47 +18,41 @@ some_value (Some copy) some = (copy, refl)
 pub index_mut-file-requires : goal.index_mut-file-requires
 index_mut-file-requires g c =
     let s = c.self.inside in
-    file_inside s.store s.more s.list.files c.self.view_is c.args.at.file c.requires.file
+    file_inside s.pages.store s.pages.more s.list.files c.self.view_is c.args.at.file c.requires.file
 
 pub take_back-requires-clause-within : goal.take_back-requires-clause-within
 take_back-requires-clause-within g c =
     let s = c.self.inside in
-    map_inside s.store s.more s.list.files c.self.view_is c.args.at.file c.requires.file c.index_mut-file.result.now c.index_mut-file.ensures.value c.args.at.map c.requires.map
+    map_inside s.pages.store s.pages.more s.list.files c.self.view_is c.args.at.file c.requires.file c.index_mut-file.result.now c.index_mut-file.ensures.value c.args.at.map c.requires.map
 
 pub take_back-requires-clause-copy : goal.take_back-requires-clause-copy
 take_back-requires-clause-copy g c =
     let s = c.self.inside in
-    copy_inside s.store s.more s.list.files c.self.view_is c.args.at.file c.requires.file
+    copy_inside s.pages.store s.pages.more s.list.files c.self.view_is c.args.at.file c.requires.file
     c.index_mut-file.result.now c.index_mut-file.ensures.value c.args.at.map c.requires.map c.args.index c.requires.copy
 
 pub take_back-requires-clause-held : goal.take_back-requires-clause-held
 take_back-requires-clause-held g c =
     let s = c.self.inside in
-    held_inside s.store s.more s.list.files c.self.view_is c.args.at.file c.requires.file c.index_mut-file.result.now c.index_mut-file.ensures.value c.self.invariant.held
-
-pub take_back-requires-clause-some : goal.take_back-requires-clause-some
-take_back-requires-clause-some g c = c.self.invariant.held.some
-
-pub take_back-requires-clause-counted : goal.take_back-requires-clause-counted
-take_back-requires-clause-counted g c = c.self.invariant.held.counted
+    held_inside s.pages.store s.pages.more s.list.files c.self.view_is c.args.at.file c.requires.file c.index_mut-file.result.now c.index_mut-file.ensures.value c.self.invariant.held
 
 pub invariant_of-self : goal.invariant_of-self
 invariant_of-self g c =
     let s = c.self.inside in
     let found = some_value (copy_of (place_at (map_among c.args.self.now.files c.args.at.file c.args.at.map) c.args.index)) c.requires.copy in
     let there = ap (λ (v : Files). copy_of (place_at (map_among v.files c.args.at.file c.args.at.map) c.args.index)) c.self.view_is ∙ found.1 in
-    back_keeps s.hints s.store c.take_back.new.store s.more c.take_back.new.more s.maps (count_of s.counts) s.list.files c.self.invariant
+    back_keeps s.hints s.pages.store c.take_back.new.pages.store s.pages.more c.take_back.new.pages.more s.maps (count_of s.counts) s.list.files c.self.invariant
     c.args.at.file c.args.at.map c.args.index (file_here c.self.view_is c.args.at.file c.requires.file)
     (map_here c.self.view_is c.args.at.file c.args.at.map c.requires.map) c.index_mut-file.result.now c.take_back.new.self
-    c.index_mut-file.ensures.value c.take_back.ensures.file c.take_back.ensures.dropping c.take_back.ensures.counted found.0 there
+    c.index_mut-file.ensures.value c.take_back.ensures.file c.take_back.ensures.dropping.dropping c.take_back.ensures.dropping.counted found.0 there
 
 pub returns-clause-files : goal.returns-clause-files
 returns-clause-files g c copy there =
     let s = c.self.inside in
-    back_files s.hints s.store c.take_back.new.store s.more c.take_back.new.more s.maps (count_of s.counts) s.list.files c.self.invariant
+    back_files s.hints s.pages.store c.take_back.new.pages.store s.pages.more c.take_back.new.pages.more s.maps (count_of s.counts) s.list.files c.self.invariant
     c.args.at.file c.args.at.map c.args.index (file_here c.self.view_is c.args.at.file c.requires.file)
     (map_here c.self.view_is c.args.at.file c.args.at.map c.requires.map) c.index_mut-file.result.now c.take_back.new.self
-    c.index_mut-file.ensures.value c.take_back.ensures.file c.take_back.ensures.dropping c.take_back.ensures.counted copy
+    c.index_mut-file.ensures.value c.take_back.ensures.file c.take_back.ensures.dropping.dropping c.take_back.ensures.dropping.counted copy
     (ap (λ (v : Files). copy_of (place_at (map_among v.files c.args.at.file c.args.at.map) c.args.index)) c.self.view_is ∙ there)
     ∙ ap (λ (v : Files). taken_back_at c.args.at.file c.args.at.map copy.stamp v.files) c.self.view_is
 
@@ -67,18 +61,18 @@ returns-clause-left g c =
     let s = c.self.inside in
     let found = some_value (copy_of (place_at (map_among c.args.self.now.files c.args.at.file c.args.at.map) c.args.index)) c.requires.copy in
     let there = ap (λ (v : Files). copy_of (place_at (map_among v.files c.args.at.file c.args.at.map) c.args.index)) c.self.view_is ∙ found.1 in
-    subst (λ v. IsLeft 0 v (view c.take_back.new.store c.take_back.new.more (slice_set s.list.files c.args.at.file c.take_back.new.self))) c.self.view_is
-    (back_left s.hints s.store c.take_back.new.store s.more c.take_back.new.more s.maps (count_of s.counts) s.list.files c.self.invariant
+    subst (λ v. IsLeft 0 v (view c.take_back.new.pages.store c.take_back.new.pages.more (slice_set s.list.files c.args.at.file c.take_back.new.self))) c.self.view_is
+    (back_left s.hints s.pages.store c.take_back.new.pages.store s.pages.more c.take_back.new.pages.more s.maps (count_of s.counts) s.list.files c.self.invariant
     c.args.at.file c.args.at.map c.args.index (file_here c.self.view_is c.args.at.file c.requires.file)
     (map_here c.self.view_is c.args.at.file c.args.at.map c.requires.map) c.index_mut-file.result.now c.take_back.new.self
-    c.index_mut-file.ensures.value c.take_back.ensures.file c.take_back.ensures.dropping c.take_back.ensures.counted found.0 there)
+    c.index_mut-file.ensures.value c.take_back.ensures.file c.take_back.ensures.dropping.dropping c.take_back.ensures.dropping.counted found.0 there)
 
 pub returns-clause-once : goal.returns-clause-once
 returns-clause-once g c =
     let s = c.self.inside in
     let found = some_value (copy_of (place_at (map_among c.args.self.now.files c.args.at.file c.args.at.map) c.args.index)) c.requires.copy in
     let there = ap (λ (v : Files). copy_of (place_at (map_among v.files c.args.at.file c.args.at.map) c.args.index)) c.self.view_is ∙ found.1 in
-    back_once s.hints s.store c.take_back.new.store s.more c.take_back.new.more s.maps (count_of s.counts) s.list.files c.self.invariant
+    back_once s.hints s.pages.store c.take_back.new.pages.store s.pages.more c.take_back.new.pages.more s.maps (count_of s.counts) s.list.files c.self.invariant
     c.args.at.file c.args.at.map c.args.index (file_here c.self.view_is c.args.at.file c.requires.file)
     (map_here c.self.view_is c.args.at.file c.args.at.map c.requires.map) c.index_mut-file.result.now c.take_back.new.self
-    c.index_mut-file.ensures.value c.take_back.ensures.file c.take_back.ensures.dropping c.take_back.ensures.counted found.0 there
+    c.index_mut-file.ensures.value c.take_back.ensures.file c.take_back.ensures.dropping.dropping c.take_back.ensures.dropping.counted found.0 there

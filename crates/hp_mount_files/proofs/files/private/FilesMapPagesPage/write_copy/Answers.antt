@@ -12,12 +12,12 @@ use Rattle.hp_mount_files.proofs.files.private.FilesMapPagesPage.write_copy.Goal
 pub index-requires : goal.index-requires
 index-requires g c =
     let s = c.self.inside in
-    file_inside s.store s.more s.list.files c.self.view_is c.args.at.file c.requires.file
+    file_inside s.pages.store s.pages.more s.list.files c.self.view_is c.args.at.file c.requires.file
 
 pub map-map-requires : goal.map-map-requires
 map-map-requires g c =
     let s = c.self.inside in
-    map_inside s.store s.more s.list.files c.self.view_is c.args.at.file c.requires.file c.index.result.now c.index.ensures c.args.at.map c.requires.map
+    map_inside s.pages.store s.pages.more s.list.files c.self.view_is c.args.at.file c.requires.file c.index.result.now c.index.ensures c.args.at.map c.requires.map
 
 pub write-requires-clause-alone : goal.write-requires-clause-alone
 write-requires-clause-alone g c =
@@ -25,7 +25,7 @@ write-requires-clause-alone g c =
     let k = c.args.at.file in
     let j = c.args.at.map in
     let i = c.args.index in
-    copy_alone s.store s.more s.list.files c.self.invariant.held k j i (subst (λ (v : Files). k < length v.files) (sym c.self.view_is)
+    copy_alone s.pages.store s.pages.more s.list.files c.self.invariant.held k j i (subst (λ (v : Files). k < length v.files) (sym c.self.view_is)
     c.requires.file) (subst (λ (v : Files). j < length (file_at v.files k).maps) (sym c.self.view_is) c.requires.map) c.index.result.now
     c.index.ensures c.map-map.result.now c.map-map.ensures c.unwrap-number.result (sym c.copy_at.ensures ∙ c.unwrap-number.ensures)
     (subst (λ (v : Files). IsCopyState state.HeldOnce (file_at v.files k) (place_at (map_among v.files k j) i)) (sym c.self.view_is) c.requires.once)
@@ -38,7 +38,7 @@ invariant_of-self g c =
     let i = c.args.index in
     let is = c.self.invariant in
     record {
-      held = copy_write_keeps s.store s.more s.list.files c.self.invariant.held k j i
+      held = copy_write_keeps s.pages.store s.pages.more s.list.files c.self.invariant.held k j i
           (subst (λ (v : Files). k < length v.files) (sym c.self.view_is) c.requires.file)
           (subst (λ (v : Files). j < length (file_at v.files k).maps) (sym c.self.view_is) c.requires.map) c.index.result.now c.index.ensures
           c.map-map.result.now c.map-map.ensures c.unwrap-number.result (sym c.copy_at.ensures ∙ c.unwrap-number.ensures)
@@ -55,7 +55,7 @@ returns g c =
     let k = c.args.at.file in
     let j = c.args.at.map in
     let i = c.args.index in
-    copy_write_view s.store s.more s.list.files c.self.invariant.held k j i (subst (λ (v : Files). k < length v.files) (sym c.self.view_is)
+    copy_write_view s.pages.store s.pages.more s.list.files c.self.invariant.held k j i (subst (λ (v : Files). k < length v.files) (sym c.self.view_is)
     c.requires.file) (subst (λ (v : Files). j < length (file_at v.files k).maps) (sym c.self.view_is) c.requires.map) c.index.result.now
     c.index.ensures c.map-map.result.now c.map-map.ensures c.unwrap-number.result (sym c.copy_at.ensures ∙ c.unwrap-number.ensures)
     (subst (λ (v : Files). IsCopyState state.HeldOnce (file_at v.files k) (place_at (map_among v.files k j) i)) (sym c.self.view_is) c.requires.once)
