@@ -35,7 +35,7 @@ impl<N: Naming> Files<N> {
         ensures more { OnErr result (self.old.room ≤ self.new.room) }
     {
         self.make_room(pages)?;
-        let batch = PageBatch::new(self.alloc, count, self.store.frames())?;
+        let batch = PageBatch::new(self.alloc, count, self.pages.store.frames())?;
         Ok(batch)
     }
 
