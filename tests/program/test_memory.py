@@ -77,7 +77,7 @@ def test_holds_nothing_of_refused_maps(grown):
     assert grown([("nr 8", "ok 8"), ("create 0 a", "ok")], turn, 10, 3000) == 0
 
 
-@pytest.mark.parametrize("index, kilobytes", [(1048575, 44), (16777215, 45)])
+@pytest.mark.parametrize("index, kilobytes", [(1048575, 23), (16777215, 24)])
 def test_holds_little_of_far_entries(grown, index, kilobytes):
     """A file's entry at a far index takes the tables of its block of 65,536 indices, and 4 bytes for each block below."""
     def turn(number):

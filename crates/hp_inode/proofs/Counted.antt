@@ -1,26 +1,17 @@
 -- How many indices of one word of 64 have a page.
-use Rattle.std.proofs.Common.{◌≡◌, ℕ, ◌+◌, ◌-◌, ◌*◌, ◌/◌, ◌%◌, ◌<◌, ◌≤◌, List, [], length, get_or, Option, None, sym, ap, ◌∙◌, arith}
+use Rattle.std.proofs.Common.{◌≡◌, ℕ, Bool, true, not, ◌+◌, ◌-◌, ◌*◌, ◌/◌, ◌%◌, ◌<◌, ◌≤◌, [], get_or, sym, ap, ◌∙◌, arith}
 use Rattle.std.specs.List.{count_by, range_with_len}
 use Rattle.std.specs.Option.{is_some}
-use Rattle.std.proofs.lemmas.List.{get_or_past}
-use Rattle.hp_model.proofs.Counting.{count_outside}
+use Rattle.std.proofs.lemmas.List.FromFn.{length-range_with_len}
+use Rattle.hp_model.proofs.Counting.{count_not, count_outside}
 use Rattle.hp_inode.specs.Blocks.{RowBlocks, page_at}
 use Rattle.hp_inode.specs.Rows.{Rows, page_in}
 use Rattle.hp_inode.proofs.Blocks.{count_moved}
 
--- by the slots of their chunk
-pub counted_in_chunk : (rows : Rows) (row : List (Option ℕ)) (a n : ℕ) → row ≡ get_or rows (a / 64) [] → a % 64 + n ≤ 64 →
-    count_by (λ k. is_some (get_or row k None)) (range_with_len (a % 64) n) ≡ count_by (λ k. is_some (page_in rows k)) (range_with_len a n)
-counted_in_chunk rows row a n is fits = count_moved (λ k. is_some (get_or row k None)) (λ k. is_some (page_in rows k)) (a % 64) a n (λ j lt.
-    let here : (a + j) / 64 ≡ a / 64 = omega (arith, fits, lt) in
-    let place : (a + j) % 64 ≡ a % 64 + j = omega (arith, fits, lt) in
-    ap (λ r. is_some (get_or r (a % 64 + j) None)) is ∙ ap (λ k. is_some (get_or (get_or rows (a / 64) []) k None)) (sym place)
-    ∙ ap (λ q. is_some (get_or (get_or rows q []) ((a + j) % 64) None)) (sym here))
-
--- past the last chunk none has one
-pub none_past_chunks : (rows : Rows) (a n : ℕ) → length rows ≤ a / 64 → 0 ≡ count_by (λ k. is_some (page_in rows k)) (range_with_len a n)
-none_past_chunks rows a n past = sym (count_outside (λ k. is_some (page_in rows k)) a n
-    (λ k low high. ap (λ row. is_some (get_or row (k % 64) None)) (get_or_past rows (k / 64) [] (omega (arith, past, low)))))
+-- where each has one
+pub counted_whole : (p : ℕ → Bool) (a n : ℕ) → ((k : ℕ) → a ≤ k → k < a + n → p k ≡ true) → n ≡ count_by p (range_with_len a n)
+counted_whole p a n all =
+    omega (arith, count_not p (range_with_len a n), count_outside (λ k. not (p k)) a n (λ k low high. ap not (all k low high)), length-range_with_len a n)
 
 module _ (rows : RowBlocks) (a n : ℕ) (fits : a % 65536 + n ≤ 65536) where
   -- by the indices of their block

@@ -60,6 +60,9 @@ impl PageBlock {
         if at >= words.len() {
             return 0;
         }
+        if words[at] == u64::MAX {
+            return b - a;
+        }
         u64::from((words[at] & bits_within(at, a as usize, b as usize)).count_ones())
     }
 

@@ -1,10 +1,13 @@
-use Rattle.std.proofs.Common.{◌≡◌, ◌+◌, ◌-◌, ◌*◌, ◌/◌, ◌<◌, ◌≤◌, ◌^◌, length, sym, ap, ◌∙◌, arith}
+use Rattle.std.proofs.Common.{◌≡◌, ◌-◌, ◌*◌, ◌/◌, ◌<◌, ◌≤◌, ◌^◌, ◌%◌, eqb, get_or, length, sym, ap, ◌∙◌, arith}
 use Rattle.std.specs.List.{range_with_len}
 use Rattle.std.specs.Option.{is_some}
+use Rattle.std.specs.Int.{bit_at}
+use Rattle.std.proofs.lemmas.Nat.Bits.{bit_at_ones}
 use Rattle.hp_model.proofs.Counting.{count_alike, count_outside}
 use Rattle.hp_marks.specs.Marks.{marked}
 use Rattle.hp_marks.proofs.Words.{unmarked_past}
 use Rattle.hp_inode.specs.Rows.{page_in}
+use Rattle.hp_inode.proofs.Counted.{counted_whole}
 use Rattle.hp_inode.proofs.Removed.{counted_in_word}
 use Rattle.hp_inode.proofs.page_block.PageBlock.count.Goals as goal
 
@@ -14,6 +17,16 @@ returns-then-at-words c =
     let words = c.self.inside.words.items in
     let past : 64 * length words ≤ c.args.a = omega (arith, c.if-at-words.true, ap length c.as_slice-words.ensures) in
     sym (count_outside (λ k. is_some (page_in c.args.self.now k)) c.args.a (c.args.b - c.args.a) (λ k low high. sym (table.pages k) ∙ unmarked_past words k (omega (arith, past, low))))
+
+pub returns-then-words-at : goal.returns-then-words-at
+returns-then-words-at c =
+    let table = rw c.self.view_is at c.self.invariant in
+    let words = c.self.inside.words.items in
+    let a = c.args.a in
+    let word : get_or words (a / 64) 0 ≡ 2 ^ 64 - 1 = rw (← c.as_slice-words.ensures) c.if-words-at.true in
+    counted_whole (λ k. is_some (page_in c.args.self.now k)) a (c.args.b - a) (λ k low high.
+    let here : k / 64 ≡ a / 64 = omega (arith, low, high, c.requires.some, c.requires.one) in
+    sym (table.pages k) ∙ ap (λ j. eqb (bit_at (get_or words j 0) (k % 64)) 1) here ∙ ap (λ n. eqb (bit_at n (k % 64)) 1) word ∙ ap (λ x. eqb x 1) (bit_at_ones 64 (k % 64) (omega arith)))
 
 pub returns : goal.returns
 returns c =
