@@ -58,6 +58,26 @@ def test_waits_out_errors_of_accepting(serve, error):
         assert (session.nr(4), session.nr(0)) == (4, 0)
 
 
+def test_accepts_as_soon_as_a_connection_ended(serve):
+    """Where descriptors ran out 1.4 seconds ago, the server waits for a second before it tries again; one that is given back is had by the next client at once."""
+    with serve(20, 8, prepared=few_descriptors(10)) as server:
+        served, waiting, took = [], [server.link() for _ in range(19)], []
+        for link in waiting:
+            link.sendall(b"nr 0\n")
+        for _ in range(4):
+            time.sleep(1.4)
+            served += [link for link in waiting if select.select([link], [], [], 0)[0]]
+            waiting = [link for link in waiting if link not in served]
+            assert 0 < len(served) < 8, "descriptors have not run out"
+            begun = time.monotonic()
+            served.pop(0).close()
+            assert select.select(waiting, [], [], SECONDS)[0]
+            took.append(time.monotonic() - begun)
+        for link in [*served, *waiting]:
+            link.close()
+    assert min(took[1:]) < 0.2, took
+
+
 @by_strace
 def test_waits_longer_each_time(serve):
     """Between tries that fail the server waits, 10 ms first and then twice as long each time: 630 ms for six."""

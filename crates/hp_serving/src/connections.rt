@@ -1,4 +1,5 @@
 //! Where sessions come from.
+use crate::endings::Endings;
 use hp_wire::ends::{Sink, Source};
 use std::io;
 
@@ -13,6 +14,7 @@ pub trait Connections {
         Ok(())
     }
 
-    /// The next connection. `None` says that one came and can't be opened; it counts as a session that ended.
-    fn next(&mut self) -> io::Result<Option<(Self::Reader, Self::Writer)>>;
+    /// The next connection. `None` says that one came and can't be opened; it counts as a session that ended. A source that
+    /// waits for others to go learns from `ended` that one did.
+    fn next(&mut self, ended: &Endings) -> io::Result<Option<(Self::Reader, Self::Writer)>>;
 }

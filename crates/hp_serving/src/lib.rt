@@ -2,6 +2,7 @@
 #![tactic(auto)]
 
 mod connections;
+mod endings;
 mod fault;
 mod filed;
 mod host;
@@ -12,6 +13,7 @@ mod sessions;
 mod tcp;
 
 pub use connections::Connections;
+pub use endings::Endings;
 pub use fault::ServeFault;
 pub use filed::Filed;
 pub use host::{Closed, Host, Machine};

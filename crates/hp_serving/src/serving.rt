@@ -3,6 +3,7 @@ ghost use Rattle.std.specs.Prelude.{◌≡◌, ◌≤◌, IfOk, OnErr};
 ghost use Rattle.hp_serving.specs.Session.{IsServed};
 
 use crate::connections::Connections;
+use crate::endings::{Endings, Teller, pair};
 use crate::fault::ServeFault;
 use crate::filed::Filed;
 use crate::host::Machine;
@@ -30,7 +31,21 @@ pub fn serve<R: Threads + Wait + Sync, M: Machine + Sync, C: Connections>(
     let Ok((to, from)) = crossbeam_channel::bounded(alloc, workers.max(1)) else {
         return Err(ServeFault::Memory);
     };
-    run(rt, alloc, machine, connections, workers, filed, &from, to)
+    let Ok((ends, ended)) = pair(alloc) else {
+        return Err(ServeFault::Memory);
+    };
+    run(
+        rt,
+        alloc,
+        machine,
+        connections,
+        workers,
+        filed,
+        &from,
+        to,
+        &ends,
+        &ended,
+    )
 }
 
 fn run<'x, R: Threads + Wait + Sync, M: Machine + Sync, C: Connections>(
@@ -42,10 +57,12 @@ fn run<'x, R: Threads + Wait + Sync, M: Machine + Sync, C: Connections>(
     filed: &'x [Mutex<Option<Filed<M>>>],
     jobs: &'x Receiver<(C::Reader, C::Writer), Global>,
     to: Sender<(C::Reader, C::Writer), Global>,
+    ends: &'x Teller,
+    ended: &'x Endings,
 ) -> Result<(), ServeFault> {
     thread::scope(thread::scope_env(), rt, |scope| {
-        if start_workers(scope, rt, alloc, machine, workers, jobs, filed) {
-            hand_out_all(rt, connections, to, filed.len())
+        if start_workers(scope, rt, alloc, machine, workers, jobs, ends, filed) {
+            hand_out_all(rt, connections, to, ended, filed.len())
         } else {
             Err(ServeFault::Memory)
         }
@@ -67,12 +84,13 @@ fn start_workers<
     machine: &'x M,
     workers: usize,
     jobs: &'x Receiver<(A, B), Global>,
+    ends: &'x Teller,
     filed: &'x [Mutex<Option<Filed<M>>>],
 ) -> bool {
     let mut started = false;
     for _ in 0..workers {
         if scope
-            .spawn(move || work(rt, alloc, machine, jobs, filed))
+            .spawn(move || work(rt, alloc, machine, jobs, ends, filed))
             .is_ok()
         {
             started = true;
@@ -86,12 +104,13 @@ fn hand_out_all<R: Wait, C: Connections>(
     rt: &R,
     connections: &mut C,
     to: Sender<(C::Reader, C::Writer), Global>,
+    ended: &Endings,
     count: usize,
 ) -> Result<(), ServeFault> {
     if connections.announce().is_err() {
         return Err(ServeFault::Write);
     }
-    if hand_out(rt, connections, to, count) < count {
+    if hand_out(rt, connections, to, ended, count) < count {
         return Err(ServeFault::Network);
     }
     Ok(())
@@ -102,12 +121,13 @@ fn hand_out<R: Wait, C: Connections>(
     rt: &R,
     connections: &mut C,
     to: Sender<(C::Reader, C::Writer), Global>,
+    ended: &Endings,
     count: usize,
 ) -> usize
     ensures { result ≤ count }
 {
     for number in 0..count {
-        match connections.next() {
+        match connections.next(ended) {
             Ok(Some(connection)) => {
                 if to.send(rt, connection).is_err() {
                     return number;
@@ -126,16 +146,30 @@ fn work<R: Wait, M: Machine, A: Source + Drop, B: Sink + Drop>(
     alloc: Global,
     machine: &M,
     jobs: &Receiver<(A, B), Global>,
+    ends: &Teller,
     filed: &[Mutex<Option<Filed<M>>>],
 ) {
     for _ in rt.forever() {
-        let Ok((mut reader, mut writer)) = jobs.recv(rt) else {
+        let Ok((reader, writer)) = jobs.recv(rt) else {
             return;
         };
-        match serve_one(rt, alloc, machine, &mut reader, &mut writer) {
-            Ok(one) => file(rt, one, filed),
-            Err(AllocError) => answer_no_session(&mut reader, &mut writer),
-        }
+        serve_and_file(rt, alloc, machine, reader, writer, filed);
+        ends.tell(rt);
+    }
+}
+
+// Serves one connection, which has ended after it.
+fn serve_and_file<R: Wait, M: Machine, A: Source + Drop, B: Sink + Drop>(
+    rt: &R,
+    alloc: Global,
+    machine: &M,
+    mut reader: A,
+    mut writer: B,
+    filed: &[Mutex<Option<Filed<M>>>],
+) {
+    match serve_one(rt, alloc, machine, &mut reader, &mut writer) {
+        Ok(one) => file(rt, one, filed),
+        Err(AllocError) => answer_no_session(&mut reader, &mut writer),
     }
 }
 

@@ -3,14 +3,15 @@
 ghost use Rattle.std.specs.Io.{ReadsAtMost};
 
 use crate::connections::Connections;
+use crate::endings::Endings;
 use crate::http::{is_request, read_line};
 use hp_wire::ends::{Sink, Source};
 use std::alloc::Global;
+use std::io;
 use std::io::{Read, Write};
 use std::net::{TcpListener, TcpStream};
 use std::sync::{Arc, Wait};
-use std::time::{Clock, Duration};
-use std::{io, thread};
+use std::time::Clock;
 
 // The first pause after an error of `accept` that passes, and the longest, in milliseconds.
 const FIRST_PAUSE: u64 = 10;
@@ -155,8 +156,8 @@ impl<'a, R: Wait + Clock, P: Sink> Connections for Listening<'a, R, P> {
     }
 
     /// A connection that its client gave up before, or for which no memory can be had, can't be opened. Errors that pass are
-    /// waited out.
-    fn next(&mut self) -> io::Result<Option<(Incoming, Outgoing)>> {
+    /// waited out, until another connection has ended.
+    fn next(&mut self, ended: &Endings) -> io::Result<Option<(Incoming, Outgoing)>> {
         let rt = self.rt;
         let mut pause = FIRST_PAUSE;
         for _ in rt.forever() {
@@ -168,7 +169,7 @@ impl<'a, R: Wait + Clock, P: Sink> Connections for Listening<'a, R, P> {
                 After::Gone => return Ok(None),
                 After::Again => {}
                 After::Pause => {
-                    thread::sleep(rt, Duration::from_millis(pause));
+                    ended.wait(rt, pause);
                     pause = pause.saturating_mul(2).min(LONGEST_PAUSE);
                 }
                 After::End => return Err(error),

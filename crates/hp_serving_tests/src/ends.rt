@@ -1,6 +1,6 @@
 //! Readers and writers that fail, and that others look at.
 
-use hp_serving::Connections;
+use hp_serving::{Connections, Endings};
 use hp_wire::ends::{Sink, Source};
 use std::io;
 use std::io::{Read, Write};
@@ -109,7 +109,7 @@ impl<'a, R: Wait + Sync> Connections for InMemory<'a, R> {
         }
     }
 
-    fn next(&mut self) -> io::Result<Option<(&'a [u8], Onto<'a, R>)>> {
+    fn next(&mut self, _ended: &Endings) -> io::Result<Option<(&'a [u8], Onto<'a, R>)>> {
         let Some(next) = self.inputs.get(self.sent) else {
             return Err(io::Error::from(io::ErrorKind::Other));
         };
