@@ -2,11 +2,10 @@
 use Rattle.std.proofs.Common.{◌≡◌, ℕ, ◌+◌, ◌<◌, ◌≤◌, arith}
 use Rattle.hp_store.specs.Store.{dropped, holders_of, page_at}
 use Rattle.hp_lookup.specs.Held.{more_in}
-use Rattle.hp_lookup.proofs.Lifting.{is_it}
 use Rattle.hp_file.specs.HeldPages.{AreDropped, AreHeld, AreShared}
 use Rattle.hp_file.specs.declared.held_pages.HeldPages.{HeldPages}
 use Rattle.hp_file.proofs.Drops.{drop_as, drop_next, drop_start, drop_then, one_at, still_held}
-use Rattle.hp_file.proofs.Sharing.{share_as, share_none, share_then}
+use Rattle.hp_file.proofs.Sharing.{share_none, share_then}
 
 module _ {N : Type 0} {total : ℕ → ℕ} {old : HeldPages N} (h : AreHeld total old) where
   -- a part of them
@@ -41,7 +40,8 @@ pub dropped_then : {N : Type 0} {t1 l1 t2 l2 total left : ℕ → ℕ} {old mid 
 dropped_then {N} {t1} {l1} {t2} {l2} {total} {left} {old} {mid} {now} d p parts =
     record { dropping = drop_then t1 l1 t2 l2 total left old.store mid.store now.store d.dropping p.dropping parts; counted = p.counted }
 
-pub shared_more : {N : Type 0} {a b all : ℕ → ℕ} {i j k : ℕ} {old mid now : HeldPages N} → AreShared a i old mid → AreShared b j mid now → ((n : ℕ) → a n + b n ≡ all n) → i + j ≡ k → AreShared all k old now
+pub shared_more : {N : Type 0} {a b all : ℕ → ℕ} {i j k : ℕ} {old mid now : HeldPages N} → AreShared a i old mid → AreShared b j mid now →
+    ((n : ℕ) → a n + b n ≡ all n) → i + j ≡ k → AreShared all k old now
 shared_more {N} {a} {b} {all} {i} {j} {k} {old} {mid} {now} first then sum count = record {
   sharing = share_then a b all old.store mid.store now.store first.sharing then.sharing sum;
   counted = then.counted;

@@ -22,7 +22,7 @@ use Rattle.hp_store.specs.Store.{Store}
 use Rattle.hp_lookup.specs.Files.{Files, file_at}
 use Rattle.hp_file.specs.Filling.{entered_at, pages_put, with_entries, with_zeros, zeros_at}
 use Rattle.hp_lookup.specs.Held.{IsHeld, in_cell, in_file}
-use Rattle.hp_lookup.specs.Numbered.{NumberedFile, cell_shown, file_shown, files_shown, map_shown, numbered_at}
+use Rattle.hp_lookup.specs.Numbered.{NumberedFile, cell_shown, file_shown, files_shown, numbered_at}
 use Rattle.hp_lookup.proofs.Alike.{alike_held}
 use Rattle.hp_lookup.proofs.Cells.{file_is}
 use Rattle.hp_lookup.proofs.Mapped.{map_drop, map_edited, map_replicate, map_take, sum_edited}

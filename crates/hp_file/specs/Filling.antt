@@ -5,12 +5,12 @@ use Rattle.hp_model.specs.declared.refusal.Refusal.TheVariants.{OutOfMemory}
 use Rattle.hp_model.specs.declared.section.PoolAnswer.{PoolAnswer}
 use Rattle.hp_model.specs.declared.section.Section.{Section}
 use Rattle.hp_model.specs.files.File.{File, at_least, entered}
-use Rattle.hp_model.specs.files.Fill.{cells_filled, range_filled, rising_nodes, zero_page}
+use Rattle.hp_model.specs.files.Fill.{cells_filled, range_filled, zero_page}
 use Rattle.hp_model.specs.files.Page.{Page}
 use Rattle.hp_model.specs.Lists.{edit_range}
 use Rattle.hp_model.specs.pool.Pool.{filled_by}
-use Rattle.hp_mount_door.specs.Door.{IsRefusedAt, by_node}
-use Rattle.hp_mount_door.specs.Filling.{AreRising, fill_for, with_filled}
+use Rattle.hp_mount_door.specs.Door.{IsRefusedAt}
+use Rattle.hp_mount_door.specs.Filling.{fill_for, with_filled}
 use Rattle.hp_subpool.specs.Subpool.{Subpool}
 use Rattle.hp_lookup.specs.Files.{Files, file_at, with_file_at}
 

@@ -38,7 +38,8 @@ pub fn drop_holder<N: Naming>(number: PageNo, pages: &mut HeldPages<N>)
 pub fn drop_pages<N: Naming>(inode: &mut Inode, a: u64, b: u64, pages: &mut HeldPages<N>)
     requires { AreHeld (λ n. sum_by (in_cell n) inode.old) pages.old }
     ensures cells { inode.new ≡ edit_range cell_punched a b inode.old }
-    ensures dropping { AreDropped (λ n. sum_by (in_cell n) inode.old) (λ n. sum_by (in_cell n) inode.new) pages.old pages.new }
+    ensures dropping { AreDropped (λ n. sum_by (in_cell n) inode.old)
+        (λ n. sum_by (in_cell n) inode.new) pages.old pages.new }
 {
     while let Some(number) = inode.take_page(a, b) {
         drop_holder(number, pages);
@@ -63,7 +64,8 @@ fn drop_run<N: Naming>(places: &[PackedPlace], pages: &mut HeldPages<N>) -> usiz
     requires { AreHeld (λ n. sum_by (in_place n) places.now) pages.old }
     ensures past { IsSome (copy_of (slice_index_or places.now 0 Gone)) → 0 < result }
     ensures within { result ≤ length places.now }
-    ensures dropping { AreDropped (λ n. sum_by (in_place n) places.now) (λ n. sum_by (in_place n) (drop result places.now)) pages.old pages.new }
+    ensures dropping { AreDropped (λ n. sum_by (in_place n) places.now)
+        (λ n. sum_by (in_place n) (drop result places.now)) pages.old pages.new }
 {
     let mut at = 0;
     let mut gone = 0;
@@ -95,7 +97,8 @@ pub fn drop_map<N: Naming>(map: &Mapping, pages: &mut HeldPages<N>)
 pub fn drop_copies<N: Naming>(map: &mut Mapping, a: u64, b: u64, pages: &mut HeldPages<N>)
     requires { AreHeld (λ n. in_map n map.old) pages.old }
     ensures map { map.new ≡ map_punched a b map.old }
-    ensures dropping { AreDropped (λ n. in_map n map.old) (λ n. in_map n map.new) pages.old pages.new }
+    ensures dropping { AreDropped (λ n. in_map n map.old)
+        (λ n. in_map n map.new) pages.old pages.new }
 {
     while let Some(number) = map.take_copy(a, b) {
         drop_holder(number, pages);
@@ -106,7 +109,8 @@ pub fn drop_copies<N: Naming>(map: &mut Mapping, a: u64, b: u64, pages: &mut Hel
 pub fn drop_all_copies<N: Naming>(maps: &mut [Mapping], a: u64, b: u64, pages: &mut HeldPages<N>)
     requires { AreHeld (λ n. sum_by (in_map n) maps.old) pages.old }
     ensures maps { maps.new ≡ map (map_punched a b) maps.old }
-    ensures dropping { AreDropped (λ n. sum_by (in_map n) maps.old) (λ n. sum_by (in_map n) maps.new) pages.old pages.new }
+    ensures dropping { AreDropped (λ n. sum_by (in_map n) maps.old)
+        (λ n. sum_by (in_map n) maps.new) pages.old pages.new }
 {
     for map in maps.iter_mut() {
         drop_copies(map, a, b, pages);
@@ -117,7 +121,8 @@ pub fn drop_all_copies<N: Naming>(maps: &mut [Mapping], a: u64, b: u64, pages: &
 fn take_from<N: Naming>(map: &mut Mapping, index: u64, number: PageNo, pages: &mut HeldPages<N>)
     requires { AreHeld (λ n. in_map n map.old) pages.old }
     ensures map { map.new ≡ robbed_at number index map.old }
-    ensures dropping { AreDropped (λ n. in_map n map.old) (λ n. in_map n map.new) pages.old pages.new }
+    ensures dropping { AreDropped (λ n. in_map n map.old)
+        (λ n. in_map n map.new) pages.old pages.new }
 {
     if map.copy_at(index) != Some(number) {
         return;
@@ -138,7 +143,8 @@ pub fn take_from_others<N: Naming>(
     requires held { AreHeld (λ n. sum_by (in_map n) maps.old) pages.old }
     ensures maps { maps.new ≡ slice_set (map (robbed_at number index) maps.old) keeper
         (slice_index_or maps.old keeper no_mapping) }
-    ensures dropping { AreDropped (λ n. sum_by (in_map n) maps.old) (λ n. sum_by (in_map n) maps.new) pages.old pages.new }
+    ensures dropping { AreDropped (λ n. sum_by (in_map n) maps.old)
+        (λ n. sum_by (in_map n) maps.new) pages.old pages.new }
 {
     for (at, map) in maps.iter_mut().enumerate() {
         if at == keeper {
@@ -154,7 +160,8 @@ pub fn leave_range<N: Naming>(map: &mut Mapping, a: u64, b: u64, pages: &mut Hel
     requires order { a ≤ b }
     requires held { AreHeld (λ n. in_map n map.old) pages.old }
     ensures map { map.new ≡ without_range a b map.old }
-    ensures dropping { AreDropped (λ n. in_map n map.old) (λ n. in_map n map.new) pages.old pages.new }
+    ensures dropping { AreDropped (λ n. in_map n map.old)
+        (λ n. in_map n map.new) pages.old pages.new }
     ensures freed { result ≡ reserves_in a b map.old }
 {
     drop_copies(map, a, b, pages);
@@ -170,7 +177,8 @@ fn end_map_of<N: Naming>(
 ) -> u64
     requires { AreHeld (λ n. in_map n map.old) pages.old }
     ensures map { map.new ≡ ended_for task map.old }
-    ensures dropping { AreDropped (λ n. in_map n map.old) (λ n. in_map n map.new) pages.old pages.new }
+    ensures dropping { AreDropped (λ n. in_map n map.old)
+        (λ n. in_map n map.new) pages.old pages.new }
     ensures reserves { result + owed map.new ≡ owed map.old }
     ensures hints { IsMoreButTask task (one_if_named task map.old) hints.old hints.new }
 {
@@ -194,7 +202,8 @@ pub fn end_maps_of<N: Naming>(
     requires held { AreHeld (λ n. sum_by (in_map n) maps.old) pages.old }
     requires few { sum_by owed maps.old < 2 ^ 64 }
     ensures maps { maps.new ≡ map (ended_for task) maps.old }
-    ensures dropping { AreDropped (λ n. sum_by (in_map n) maps.old) (λ n. sum_by (in_map n) maps.new) pages.old pages.new }
+    ensures dropping { AreDropped (λ n. sum_by (in_map n) maps.old)
+        (λ n. sum_by (in_map n) maps.new) pages.old pages.new }
     ensures reserves { result + sum_by owed maps.new ≡ sum_by owed maps.old }
     ensures hints { IsMoreButTask task (λ number. count_by (is_map task number) maps.old)
         hints.old hints.new }

@@ -115,7 +115,8 @@ impl File {
     pub fn punch<N: Naming>(&mut self, a: u64, b: u64, pages: &mut HeldPages<N>)
         requires { AreHeld (λ n. in_file n self.old) pages.old }
         ensures file { self.new ≡ with_punched a b self.old }
-        ensures dropping { AreDropped (λ n. in_file n self.old) (λ n. in_file n self.new) pages.old pages.new }
+        ensures dropping { AreDropped (λ n. in_file n self.old)
+            (λ n. in_file n self.new) pages.old pages.new }
     {
         drop_pages(&mut self.inode, a, b, pages);
         drop_all_copies(&mut self.maps, a, b, pages);
@@ -127,7 +128,8 @@ impl File {
         requires held { AreHeld (λ n. in_file n self.old) pages.old }
         requires small { len < 2 ^ 32 }
         ensures file { self.new ≡ with_truncated len self.old }
-        ensures dropping { AreDropped (λ n. in_file n self.old) (λ n. in_file n self.new) pages.old pages.new }
+        ensures dropping { AreDropped (λ n. in_file n self.old)
+            (λ n. in_file n self.new) pages.old pages.new }
         ensures entries { result ≡ count_by is_waiting (drop len self.old.cells) }
     {
         let end = self.inode.len();

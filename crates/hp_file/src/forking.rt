@@ -81,7 +81,8 @@ pub fn copies_of(maps: &[Mapping]) -> u64
 pub fn share_all<N: Naming>(maps: &[Mapping], pages: &mut HeldPages<N>)
     requires held { AreHeld (λ n. sum_by (in_map n) maps.now) pages.old }
     requires few { pages.old.more + sum_by copies_in maps.now ≤ 2 ^ 32 }
-    ensures { AreShared (λ n. sum_by (in_map n) maps.now) (sum_by copies_in maps.now) pages.old pages.new }
+    ensures { AreShared (λ n. sum_by (in_map n) maps.now)
+        (sum_by copies_in maps.now) pages.old pages.new }
 {
     for map in maps {
         share_map(map, pages);

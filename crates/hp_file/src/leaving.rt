@@ -67,7 +67,8 @@ pub fn sweep_file<N: Naming>(files: &mut FileList, at: usize, pages: &mut HeldPa
     requires within { at < length files.old.files }
     requires held { AreHeld (λ n. in_files n files.old.files) pages.old }
     ensures files { files.new.files ≡ swept_at at files.old.files }
-    ensures dropping { AreDropped (λ n. in_files n files.old.files) (λ n. in_files n files.new.files) pages.old pages.new }
+    ensures dropping { AreDropped (λ n. in_files n files.old.files)
+        (λ n. in_files n files.new.files) pages.old pages.new }
     ensures reserves { result + sum_by file_owed files.new.files
         ≡ sum_by file_owed files.old.files }
 {

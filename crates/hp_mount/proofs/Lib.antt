@@ -2,3 +2,4 @@ mod Commands
 mod Copying
 mod Filling
 mod Here
+pub mod Loading

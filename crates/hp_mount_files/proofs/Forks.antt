@@ -12,7 +12,7 @@ use Rattle.hp_model.specs.files.Fork.{file_forked}
 use Rattle.hp_model.specs.files.GiveBack.{file_without, is_kept}
 use Rattle.hp_model.specs.files.Mapping.{Map, Mapping, is_map, is_of, map_for, map_punched}
 use Rattle.hp_model.proofs.Counting.{count_not}
-use Rattle.hp_store.specs.Store.{Store, held_count, holders_of, page_at}
+use Rattle.hp_store.specs.Store.{Store, held_count, page_at}
 use Rattle.hp_lookup.specs.Dropping.{IsLeft, count_at}
 use Rattle.hp_lookup.specs.Files.{Files}
 use Rattle.hp_lookup.specs.Forking.{AreReady, HaveJoined, HaveNoted, HaveRoom, IsSharing, children_of, in_list, in_lists, joined, list_copies, maps_named, maps_by, with_children}

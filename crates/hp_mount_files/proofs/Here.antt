@@ -1,5 +1,5 @@
 -- What is said of the files as a caller sees them is so of them as the fields show them, and of the file and map that code reads.
-use Rattle.std.proofs.Common.{◌≡◌, ℕ, ◌<◌, ◌≤◌, true, None, Some, List, length, refl, ap, subst, sym, ◌∙◌, arith}
+use Rattle.std.proofs.Common.{◌≡◌, ℕ, ◌<◌, true, None, Some, List, length, refl, ap, subst, sym, ◌∙◌, arith}
 use Rattle.std.specs.Prelude.{IsSome, slice_index_or}
 use Rattle.std.proofs.lemmas.List.{get_or_default, length-map}
 use Rattle.hp_model.specs.declared.place.Place.{Place}

@@ -4,7 +4,9 @@ use Rattle.std.specs.List.{count_by}
 use Rattle.std.proofs.lemmas.List.{length-map}
 use Rattle.hp_model.specs.declared.place.Place.{Place}
 use Rattle.hp_model.specs.declared.place.Place.TheVariants.{Gone, Live}
-use Rattle.hp_model.specs.files.File.{File, at_least, has_page, is_entered, is_hole}
+use Rattle.hp_model.specs.declared.cell.Cell.TheVariants.{Present}
+use Rattle.hp_model.specs.files.Page.{Page}
+use Rattle.hp_model.specs.files.File.{File, at_least, cell_at, has_page, is_entered, is_hole}
 use Rattle.hp_model.specs.files.Fill.{lacking, lacks_page}
 use Rattle.hp_model.specs.files.Mapping.{Map, Mapping, is_live, is_shared, is_unconsumed, place_at}
 use Rattle.hp_model.specs.Lists.{part}
@@ -15,7 +17,7 @@ use Rattle.hp_lookup.specs.Numbered.{NumberedFile, cell_shown, map_shown, place_
 use Rattle.hp_lookup.proofs.Holes.{asked_shown}
 use Rattle.hp_lookup.proofs.Views.{entries_shown, pages_shown, shown_place}
 use Rattle.hp_file.proofs.Filling.{lacking_shown}
-use Rattle.hp_mount_files.specs.Lent.{IsLent, IsMapLent}
+use Rattle.hp_mount_files.specs.Lent.{IsLent, IsMapLent, IsReadable}
 
 module _ {f : File} {lent : NumberedFile} (is : IsLent f lent) where
   pub len_lent : length lent.cells ≡ length f.cells
@@ -72,3 +74,9 @@ module _ {m : Map} {lent : Mapping ℕ} (is : IsMapLent m lent) where
     reserve_lent =
         ap (λ b. b && is_unconsumed (place_at lent i)) owner_lent
         ∙ ap (λ b. m.owner && b) (sym (ap is_unconsumed place_lent ∙ unconsumed_shown is.store (place_at lent i)))
+
+-- ---- a reader who need not ask for a page
+
+module _ {m : Map} {lent : Mapping ℕ} (is : IsMapLent m lent) (i : ℕ) (f : File) where
+  pub page_readable : lent.unmapped ≡ false → (page : Page) → cell_at f i ≡ Present page → IsReadable i f m
+  page_readable kept page there = record { shared = λ e. ap has_page there; bare = λ none. (sym (unmapped_lent is) ∙ kept, ap has_page there) }

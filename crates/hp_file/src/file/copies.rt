@@ -55,7 +55,8 @@ impl File {
         ensures file { (number : ℕ) → copy_of (place_at (mapping_at self.old map) index)
             ≡ Some number
             → self.new ≡ with_taken_back number map index self.old }
-        ensures dropping { AreDropped (λ n. in_file n self.old) (λ n. in_file n self.new) pages.old pages.new }
+        ensures dropping { AreDropped (λ n. in_file n self.old)
+            (λ n. in_file n self.new) pages.old pages.new }
     {
         let number = self.maps[map].copy_at(index).unwrap();
         take_from_others(&mut self.maps, map, index, number, pages);

@@ -54,7 +54,8 @@ impl File {
         requires held { AreHeld (λ n. in_file n self.old) pages.old }
         requires few { file_owed self.old < 2 ^ 64 }
         ensures file { self.new ≡ emptied (left_by task self.old) }
-        ensures dropping { AreDropped (λ n. in_file n self.old) (λ n. in_file n self.new) pages.old pages.new }
+        ensures dropping { AreDropped (λ n. in_file n self.old)
+            (λ n. in_file n self.new) pages.old pages.new }
         ensures reserves { result.reserves + file_owed self.new ≡ file_owed self.old }
         ensures maps { result.maps + length self.new.maps ≡ length self.old.maps }
         ensures hints { IsMoreButTask task (λ number. maps_named task number self.old) hints.old
@@ -80,7 +81,8 @@ impl File {
         requires within { map < length self.old.maps }
         requires held { AreHeld (λ n. in_file n self.old) pages.old }
         ensures file { self.new ≡ record self.old { maps = remove self.old.maps map } }
-        ensures dropping { AreDropped (λ n. in_file n self.old) (λ n. in_file n self.new) pages.old pages.new }
+        ensures dropping { AreDropped (λ n. in_file n self.old)
+            (λ n. in_file n self.new) pages.old pages.new }
         ensures reserves { result + file_owed self.new ≡ file_owed self.old }
     {
         let gone = self.maps.remove(map);
@@ -94,7 +96,8 @@ impl File {
         requires order { a ≤ b }
         requires held { AreHeld (λ n. in_file n self.old) pages.old }
         ensures file { self.new ≡ cut_at map a b self.old }
-        ensures dropping { AreDropped (λ n. in_file n self.old) (λ n. in_file n self.new) pages.old pages.new }
+        ensures dropping { AreDropped (λ n. in_file n self.old)
+            (λ n. in_file n self.new) pages.old pages.new }
         ensures reserves { result + file_owed self.new ≡ file_owed self.old }
     {
         let at = &mut self.maps[map];
@@ -116,7 +119,8 @@ impl File {
         ensures file { self.new ≡ left_at map a b self.old }
         ensures maps { result.maps
             ≡ (if is_mapped (without_range a b (mapping_at self.old map)) then 0 else 1) }
-        ensures dropping { AreDropped (λ n. in_file n self.old) (λ n. in_file n self.new) pages.old pages.new }
+        ensures dropping { AreDropped (λ n. in_file n self.old)
+            (λ n. in_file n self.new) pages.old pages.new }
         ensures reserves { result.reserves + file_owed self.new ≡ file_owed self.old }
     {
         let at = &self.maps[map];

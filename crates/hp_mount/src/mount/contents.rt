@@ -14,6 +14,7 @@ ghost use Rattle.hp_mount_laws.specs.Reach.{with_place_at};
 use super::Mount;
 use hp_model::naming::Naming;
 use hp_mount_files::{FilePages, MapPages, MapPlace};
+use hp_nodes::Page;
 
 impl<N: Naming> Mount<N> {
     // Writes bytes into a file's page, if there is one: whether there is.
@@ -73,6 +74,24 @@ pub(super) fn zeros_of<'a>(count: usize, room: &'a mut [u8]) -> &'a [u8]
     front
 }
 
+/// The same of a page.
+#[inline(always)]
+pub(super) fn part_of<'a, N: Naming>(
+    page: &Page<N>,
+    offset: usize,
+    count: usize,
+    room: &'a mut [u8],
+) -> &'a [u8]
+    requires within { offset + count ≤ N.page_bytes }
+    requires room { count ≤ length room.old }
+    ensures bytes { result.now ≡ take count (drop offset page.now.bytes) }
+    ensures all { length result.now ≡ count }
+{
+    let (front, _) = room.split_at_mut(count);
+    page.copy_to(offset, front);
+    front
+}
+
 impl<N: Naming> Mount<N> {
     // `count` bytes of what a map shows, in the front of the room.
     pub(super) fn shown_bytes<'a>(
@@ -93,11 +112,7 @@ impl<N: Naming> Mount<N> {
         ensures all { length result.now ≡ count }
     {
         match self.files.shown(at, index) {
-            Some(page) => {
-                let (front, _) = room.split_at_mut(count);
-                page.copy_to(offset, front);
-                front
-            }
+            Some(page) => part_of(page, offset, count, room),
             None => zeros_of(count, room),
         }
     }

@@ -17,6 +17,7 @@ ghost use Rattle.hp_mount.specs.declared.mount.reach.Asked.TheVariants.{Bytes};
 ghost use Rattle.hp_mount.specs.Found.{IsPlaced, spot_of};
 
 use super::Mount;
+use super::contents::part_of;
 use hp_model::naming::Naming;
 use hp_model::refusal::Refusal;
 use hp_model::step::Intent;
@@ -214,6 +215,9 @@ impl<N: Naming> Mount<N> {
             Ok(at) => at,
             Err(refusal) => return Err(refusal),
         };
+        if let Some(page) = self.files.found(at, access.index) {
+            return Ok(part_of(page, offset as usize, count as usize, room));
+        }
         match self.reach(door, home as usize, at, access.index, Intent::Read) {
             Ok(()) => {
                 Ok(self.shown_bytes(at, access.index, offset as usize, count as usize, room))

@@ -4,7 +4,7 @@ use Rattle.std.specs.List.{sum_by}
 use Rattle.hp_mapping.specs.Mapped.{IsClear}
 use Rattle.hp_model.specs.declared.place.Place.TheVariants.{Gone}
 use Rattle.hp_model.specs.files.Mapping.{copy_of, place_at}
-use Rattle.hp_lookup.specs.Held.{in_map, in_place}
+use Rattle.hp_lookup.specs.Held.{in_place}
 use Rattle.hp_file.proofs.Counting.{dropped_as, dropped_then, left_held, none_dropped, part_held}
 use Rattle.hp_file.proofs.Runs.{left_sum, run_first, run_fits, run_sum}
 use Rattle.hp_file.proofs.Sharing.{bare_in, no_copy, stands_at, to_copy}

@@ -1,5 +1,4 @@
-use Rattle.std.proofs.Common.{◌≤◌, ◌+◌, drop, arith}
-use Rattle.std.specs.List.{sum_by}
+use Rattle.std.proofs.Common.{arith}
 use Rattle.hp_lookup.specs.Held.{in_map}
 use Rattle.hp_file.proofs.Counting.{dropped_as, dropped_then, left_held, none_dropped, part_held}
 use Rattle.hp_file.proofs.Sharing.{sum_end, sum_read}

@@ -1,6 +1,6 @@
 use Rattle.std.proofs.Common.{arith, ℕ, ◌+◌, ◌<◌, cond, length, take, ap, ◌∙◌}
 use Rattle.std.specs.Prelude.{slice_index_or}
-use Rattle.std.specs.List.{count_by, sum_by}
+use Rattle.std.specs.List.{count_by}
 use Rattle.std.proofs.lemmas.List.Sums.{get_or-le-sum_by, sum_by-set, sum_by_more}
 use Rattle.hp_model.specs.files.Mapping.{Mapping, is_map}
 use Rattle.hp_lookup.specs.Held.{in_map}

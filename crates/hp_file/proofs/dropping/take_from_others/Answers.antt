@@ -18,8 +18,7 @@ loop-at-preserved-then-at-keeper g c =
     let f = robbed_at c.args.number c.args.index in
     let m = slice_index_or c.args.maps.now c.args.keeper no_mapping in
     let same : was.at ≡ c.args.keeper = c.if-at-keeper.true in
-    let back : slice_set was.maps was.at (slice_index_or was.maps was.at c.index-maps-at.result) ≡ was.maps = set_read was.maps was.at c.index-maps-at.result in
-    (
+    let back : slice_set was.maps was.at (slice_index_or was.maps was.at c.index-maps-at.result) ≡ was.maps = set_read was.maps was.at c.index-maps-at.result in (
       dropped_as was.invariant.0 (λ k. (let left = ap (sum_by (in_map k)) back in omega (arith, left))),
       back ∙ was.invariant.1
           ∙ ap (λ i. slice_set (first_mapped f i c.args.maps.now) c.args.keeper m) same

@@ -17,7 +17,8 @@ loop-at-init g c =
     record {
       start = omega (arith, c.start-from.ensures);
       up_to = omega (arith, c.start-from.ensures, c.end-end.ensures);
-      shared = shared_as m.places m.places m.places (drop (c.start-from.result - m.start) m.places) c.args.pages.now.store c.args.pages.now.store (shared_none m.places c.args.pages.now.store c.requires.held.some)
+      shared = shared_as m.places m.places m.places (drop (c.start-from.result - m.start) m.places) c.args.pages.now.store c.args.pages.now.store (shared_none m.places c.args.pages.now.store
+          c.requires.held.some)
           (λ n. refl) (λ n. ap (λ k. sum_by (in_place n) (drop k m.places)) none);
       counted = c.requires.held.counted;
       more = omega (arith, all);

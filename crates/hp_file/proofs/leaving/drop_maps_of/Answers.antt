@@ -4,7 +4,7 @@ use Rattle.std.specs.List.{sum_by}
 use Rattle.std.proofs.lemmas.List.{length-set}
 use Rattle.std.proofs.lemmas.List.Sums.{get_or-le-sum_by, sum_by-set, sum_by_more}
 use Rattle.hp_lookup.specs.Forking.{maps_named}
-use Rattle.hp_lookup.specs.Held.{in_file, in_files}
+use Rattle.hp_lookup.specs.Held.{in_file}
 use Rattle.hp_lookup.specs.Leaving.{emptied, file_owed, left_by}
 use Rattle.hp_lookup.specs.Numbered.{NumberedFile}
 use Rattle.hp_file.proofs.Counting.{dropped_then, left_held, part_held}

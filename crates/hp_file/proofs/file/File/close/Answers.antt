@@ -5,7 +5,7 @@ use Rattle.hp_model.specs.files.MountCounts.{is_waiting}
 use Rattle.hp_model.specs.Lists.{edit_range}
 use Rattle.hp_lookup.specs.Held.{in_cell, in_file, in_map}
 use Rattle.hp_file.proofs.Cutting.{all_waiting, bare_pages, no_pages}
-use Rattle.hp_file.proofs.Counting.{dropped_then, left_held, part_held}
+use Rattle.hp_file.proofs.Counting.{dropped_then}
 use Rattle.hp_lookup.specs.Numbered.{NumberedFile}
 use Rattle.hp_file.proofs.file.File.close.Goals as goal
 

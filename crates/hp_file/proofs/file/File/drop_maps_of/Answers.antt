@@ -3,7 +3,6 @@ use Rattle.std.specs.Prelude.{vec_len}
 use Rattle.std.proofs.lemmas.Fn.{filter_same}
 use Rattle.hp_model.specs.files.Mapping.{Mapping, is_of}
 use Rattle.hp_file.proofs.Counting.{dropped_then}
-use Rattle.hp_lookup.specs.Held.{in_file}
 use Rattle.hp_file.proofs.FileLeaves.{gone_is, gone_reserves, left_dropping, left_reserves, left_used}
 use Rattle.hp_file.proofs.file.File.drop_maps_of.Goals as goal
 

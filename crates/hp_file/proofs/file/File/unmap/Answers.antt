@@ -2,7 +2,6 @@ use Rattle.std.proofs.Common.{◌≡◌, false, cond, ap, arith, sym, ◌∙◌}
 use Rattle.std.specs.Prelude.{slice_index_or}
 use Rattle.std.proofs.lemmas.List.{get_or_default, get_or-set_same}
 use Rattle.hp_model.specs.files.Mapping.{Mapping, is_mapped, without_range}
-use Rattle.hp_lookup.specs.Held.{in_file}
 use Rattle.hp_lookup.specs.Numbered.{NumberedFile, mapping_at, no_mapping}
 use Rattle.hp_file.proofs.Counting.{dropped_as}
 use Rattle.hp_file.proofs.Ended.{all_gone, cut_holds, cut_left, cut_owes, left_without}

@@ -1,5 +1,5 @@
-use Rattle.std.proofs.Common.{◌+◌, ◌≤◌, arith}
-use Rattle.hp_file.proofs.Lacking.{few_paged, lacking_all, paged_part, paged_to}
+use Rattle.std.proofs.Common.{arith}
+use Rattle.hp_file.proofs.Lacking.{few_paged, lacking_all, paged_part}
 use Rattle.hp_file.proofs.file.filling.lacking.Goals as goal
 
 pub overflow_sub-count-in-loop-at : goal.overflow_sub-count-in-loop-at

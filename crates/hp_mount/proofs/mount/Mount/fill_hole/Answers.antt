@@ -11,7 +11,6 @@ use Rattle.hp_lookup.specs.Files.{Files, filled_at, with_cell_at}
 use Rattle.hp_mount_laws.specs.Kept.{mount_from}
 use Rattle.hp_mount_laws.proofs.Keeping.{full_is, rise_is, hole_kept, hole_keeps, hole_stays, granted_left, room_left}
 use Rattle.hp_mount_laws.proofs.Shared.{shared_full, shared_without_memory, shared_granted, shared_denied}
-use Rattle.hp_subpool.specs.Subpool as share
 use Rattle.hp_mount.proofs.Here.{below_here, cell_here, entered_below, entered_cell, entered_file, file_here}
 use Rattle.hp_mount.proofs.mount.Mount.fill_hole.Goals as goal
 

@@ -39,7 +39,8 @@ unwrap-requires g c = c.note_map.ensures.succeeds c.in-Ok.ensures.hints
 pub overflow_add-self : goal.overflow_add-self
 overflow_add-self g c =
     let s = c.self.inside in
-    let few = maps_few s.hints s.pages.store s.pages.more s.maps (count_of s.counts) s.list.files c.self.invariant (subst (λ (v : Files). length (all_maps v.files) < 4096) (sym c.self.view_is) c.requires.maps) in
+    let few = maps_few s.hints s.pages.store s.pages.more s.maps (count_of s.counts) s.list.files c.self.invariant (subst (λ (v : Files). length (all_maps v.files) < 4096) (sym c.self.view_is)
+    c.requires.maps) in
     omega (arith, few)
 
 pub add_one-requires-clause-few : goal.add_one-requires-clause-few

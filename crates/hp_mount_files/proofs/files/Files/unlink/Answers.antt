@@ -75,7 +75,8 @@ invariant_of-self-2 g c =
     gone_keeps s.hints c.forget_file.new.self c.args.name.now c.forget_file.ensures s.pages.store s.pages.more s.maps (count_of s.counts) s.list.files
     c.self.invariant k (subst (λ v. IsNamed v.files c.args.name.now k) (sym c.self.view_is) c.requires) c.remove-gone.result
     c.remove-gone.ensures.value
-    c.close.new.pages.store c.close.new.pages.more c.close.result c.remove-gone.new.self.files c.remove-gone.ensures.files bare c.close.ensures.dropping.dropping c.close.ensures.dropping.counted c.close.ensures.entries
+    c.close.new.pages.store c.close.new.pages.more c.close.result c.remove-gone.new.self.files c.remove-gone.ensures.files bare c.close.ensures.dropping.dropping c.close.ensures.dropping.counted
+    c.close.ensures.entries
 
 pub returns-clause-files : goal.returns-clause-files
 returns-clause-files g c =
@@ -87,7 +88,8 @@ returns-clause-files g c =
     gone_files s.hints c.forget_file.new.self c.args.name.now c.forget_file.ensures s.pages.store s.pages.more s.maps (count_of s.counts) s.list.files
     c.self.invariant k (subst (λ v. IsNamed v.files c.args.name.now k) (sym c.self.view_is) c.requires) c.remove-gone.result
     c.remove-gone.ensures.value
-    c.close.new.pages.store c.close.new.pages.more c.close.result c.remove-gone.new.self.files c.remove-gone.ensures.files bare c.close.ensures.dropping.dropping c.close.ensures.dropping.counted c.close.ensures.entries
+    c.close.new.pages.store c.close.new.pages.more c.close.result c.remove-gone.new.self.files c.remove-gone.ensures.files bare c.close.ensures.dropping.dropping c.close.ensures.dropping.counted
+    c.close.ensures.entries
     ∙ ap (λ (v : Files). edited_at k (unlinked (file_at v.files k)) v.files) c.self.view_is
 
 pub returns-clause-left : goal.returns-clause-left
@@ -101,4 +103,5 @@ returns-clause-left g c =
     (gone_left s.hints c.forget_file.new.self c.args.name.now c.forget_file.ensures s.pages.store s.pages.more s.maps (count_of s.counts) s.list.files
     c.self.invariant k (subst (λ v. IsNamed v.files c.args.name.now k) (sym c.self.view_is) c.requires) c.remove-gone.result
     c.remove-gone.ensures.value
-    c.close.new.pages.store c.close.new.pages.more c.close.result c.remove-gone.new.self.files c.remove-gone.ensures.files bare c.close.ensures.dropping.dropping c.close.ensures.dropping.counted c.close.ensures.entries)
+    c.close.new.pages.store c.close.new.pages.more c.close.result c.remove-gone.new.self.files c.remove-gone.ensures.files bare c.close.ensures.dropping.dropping c.close.ensures.dropping.counted
+    c.close.ensures.entries)

@@ -19,7 +19,8 @@ invariant_of-self g c =
     c.fill.new.self (subst (λ v. k < length v.files) (sym c.self.view_is) c.requires.file) c.index_mut-at.ensures.value
     (ap label_of c.fill.ensures)
     (same_level c.index_mut-at.result.now.maps c.fill.new.self.maps (ap (λ (f : NumberedFile). f.maps) c.fill.ensures)) c.self.invariant
-    (fill_keeps s.pages.store s.pages.more s.list.files c.self.invariant.held k i (subst (λ v. k < length v.files) (sym c.self.view_is) c.requires.file) c.index_mut-at.result.now c.index_mut-at.ensures.value
+    (fill_keeps s.pages.store s.pages.more s.list.files c.self.invariant.held k i (subst (λ v. k < length v.files) (sym c.self.view_is) c.requires.file) c.index_mut-at.result.now
+    c.index_mut-at.ensures.value
     c.insert-number.result c.args.page c.insert-number.new.self c.fill.new.self c.insert-number.ensures.fresh c.insert-number.ensures.within c.insert-number.ensures.inserted c.fill.ensures
     (subst (λ v. cell_at (file_at v.files k) i ≡ Entered) (sym c.self.view_is) c.requires.entered)
     (subst (λ v. i < length (file_at v.files k).cells) (sym c.self.view_is) c.requires.below)
@@ -30,7 +31,8 @@ returns g c =
     let s = c.self.inside in
     let k = c.args.file in
     let i = c.args.index in
-    fill_view s.pages.store s.pages.more s.list.files c.self.invariant.held k i (subst (λ v. k < length v.files) (sym c.self.view_is) c.requires.file) c.index_mut-at.result.now c.index_mut-at.ensures.value
+    fill_view s.pages.store s.pages.more s.list.files c.self.invariant.held k i (subst (λ v. k < length v.files) (sym c.self.view_is) c.requires.file) c.index_mut-at.result.now
+    c.index_mut-at.ensures.value
     c.insert-number.result c.args.page c.insert-number.new.self c.fill.new.self c.insert-number.ensures.fresh c.insert-number.ensures.within c.insert-number.ensures.inserted c.fill.ensures
     (subst (λ v. cell_at (file_at v.files k) i ≡ Entered) (sym c.self.view_is) c.requires.entered)
     ∙ ap (filled_at k i c.args.page) c.self.view_is
