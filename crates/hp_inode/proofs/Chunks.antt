@@ -1,5 +1,5 @@
 -- The rows of chunks, by their homes.
-use Rattle.std.proofs.Common.{◌≡◌, ◌≢◌, ℕ, ◌+◌, ◌-◌, ◌*◌, ◌/◌, ◌<◌, ◌≤◌, ◌^◌, max, min, List, [], ◌++◌, length, replicate, get_or, set, cond, Option, None, refl, sym, ap, ◌∙◌, arith, subst, ⊎_elim}
+use Rattle.std.proofs.Common.{◌≡◌, ◌≢◌, ℕ, ◌+◌, ◌-◌, ◌*◌, ◌/◌, ◌<◌, ◌≤◌, ◌^◌, min, List, [], ◌++◌, length, replicate, get_or, set, cond, Option, None, refl, sym, ap, ◌∙◌, arith, subst, ⊎_elim}
 use Rattle.std.specs.Prelude.{nat_lt}
 use Rattle.std.proofs.Math.ListN.{get_or-map as get_or-mapped}
 use Rattle.std.proofs.lemmas.Bool.{cases_eq, cases_lt, lt-ltb, le-ltb}
@@ -9,56 +9,57 @@ use Rattle.std.proofs.lemmas.List.Folds.{sum_by-replicate}
 use Rattle.std.proofs.lemmas.List.FromFn.{get_or-map-range_with_len, length-map-range_with_len}
 use Rattle.std.proofs.lemmas.List.Sums.{count_by-le-length, sum_by-append, sum_by-le-sum_by, sum_by-set}
 use Rattle.hp_inode.specs.Rows.{slot_in}
-use Rattle.hp_inode.specs.Chunks.{AreHomes, IsPromised, bare, promised, row_of, rows_of, slot_count, slots_from, slotted_count, used_count}
+use Rattle.hp_inode.specs.Chunks.{AreHomes, ArePromised, bare, promised, chunk_row, chunk_rows, slot_count, chunk_slots, slotted_count, used_count}
 
 -- ---- a row
 
 module _ (slots : List (Option ℕ)) (home : ℕ) where
-  pub row_bare : bare ≤ home → row_of slots home ≡ []
+  pub row_bare : bare ≤ home → chunk_row slots home ≡ []
   row_bare le = rw (le-ltb home bare le) refl
 
-  row_slots : home < bare → row_of slots home ≡ slots_from slots home
+  row_slots : home < bare → chunk_row slots home ≡ chunk_slots slots home
   row_slots lt = rw (lt-ltb home bare lt) refl
 
-  pub length_row : home < bare → length (row_of slots home) ≡ 64
+  pub length_row : home < bare → length (chunk_row slots home) ≡ 64
   length_row lt = ap length (row_slots lt) ∙ length-map-range_with_len (λ k. get_or slots (64 * home + k) None) 0 64
 
-  pub slot_there : (k : ℕ) → home < bare → k < 64 → get_or (row_of slots home) k None ≡ get_or slots (64 * home + k) None
+  pub slot_there : (k : ℕ) → home < bare → k < 64 → get_or (chunk_row slots home) k None ≡ get_or slots (64 * home + k) None
   slot_there k lt small = ap (λ r. get_or r k None) (row_slots lt) ∙ get_or-map-range_with_len (λ j. get_or slots (64 * home + j) None) 0 64 k k None small (omega arith)
 
 pub same_row : (slots new : List (Option ℕ)) (home other : ℕ) → home < bare → other < bare →
-    ((k : ℕ) → k < 64 → get_or new (64 * other + k) None ≡ get_or slots (64 * home + k) None) → row_of new other ≡ row_of slots home
-same_row slots new home other lt less same = ext_get_or None (row_of new other) (row_of slots home) (length_row new other less ∙ sym (length_row slots home lt)) (λ k below.
+    ((k : ℕ) → k < 64 → get_or new (64 * other + k) None ≡ get_or slots (64 * home + k) None) → chunk_row new other ≡ chunk_row slots home
+same_row slots new home other lt less same = ext_get_or None (chunk_row new other) (chunk_row slots home) (length_row new other less ∙ sym (length_row slots home lt)) (λ k below.
     let small : k < 64 = omega (arith, below, length_row new other less) in
     slot_there new other k less small ∙ same k small ∙ sym (slot_there slots home k lt small))
 
 -- the same home, where its slots stay
-pub row_stays : (slots new : List (Option ℕ)) (home : ℕ) → (home < bare → (k : ℕ) → k < 64 → get_or new (64 * home + k) None ≡ get_or slots (64 * home + k) None) → row_of new home ≡ row_of slots home
+pub row_stays : (slots new : List (Option ℕ)) (home : ℕ) → (home < bare → (k : ℕ) → k < 64 → get_or new (64 * home + k) None ≡ get_or slots (64 * home + k) None) →
+    chunk_row new home ≡ chunk_row slots home
 row_stays slots new home same = ⊎_elim
     (λ (lt : home < bare). same_row slots new home home lt lt (same lt))
     (λ (le : bare ≤ home). row_bare new home le ∙ sym (row_bare slots home le))
     (cases_lt home bare)
 
 module _ (homes : List ℕ) (slots : List (Option ℕ)) where
-  pub row_at : (j : ℕ) → get_or (rows_of homes slots) j [] ≡ row_of slots (get_or homes j bare)
-  row_at j = get_or-mapped (row_of slots) homes j bare
+  pub row_at : (j : ℕ) → get_or (chunk_rows homes slots) j [] ≡ chunk_row slots (get_or homes j bare)
+  row_at j = get_or-mapped (chunk_row slots) homes j bare
 
-  pub length_rows : length (rows_of homes slots) ≡ length homes
-  length_rows = length-map homes (row_of slots)
+  pub length_rows : length (chunk_rows homes slots) ≡ length homes
+  length_rows = length-map homes (chunk_row slots)
 
-  pub slots_there : (j : ℕ) → get_or homes j bare < bare → slot_count (rows_of homes slots) j ≡ 64
+  pub slots_there : (j : ℕ) → get_or homes j bare < bare → slot_count (chunk_rows homes slots) j ≡ 64
   slots_there j lt = ap length (row_at j) ∙ length_row slots (get_or homes j bare) lt
 
-  pub no_slots : (j : ℕ) → bare ≤ get_or homes j bare → slot_count (rows_of homes slots) j ≡ 0
+  pub no_slots : (j : ℕ) → bare ≤ get_or homes j bare → slot_count (chunk_rows homes slots) j ≡ 0
   no_slots j le = ap length (row_at j ∙ row_bare slots (get_or homes j bare) le)
 
-  pub few_slots : (j : ℕ) → slot_count (rows_of homes slots) j ≤ 64
+  pub few_slots : (j : ℕ) → slot_count (chunk_rows homes slots) j ≤ 64
   few_slots j = ⊎_elim
       (λ (lt : get_or homes j bare < bare). omega (arith, slots_there j lt))
       (λ (le : bare ≤ get_or homes j bare). omega (arith, no_slots j le))
       (cases_lt (get_or homes j bare) bare)
 
-  pub has_home : (j k : ℕ) → k < slot_count (rows_of homes slots) j → get_or homes j bare < bare
+  pub has_home : (j k : ℕ) → k < slot_count (chunk_rows homes slots) j → get_or homes j bare < bare
   has_home j k some = ⊎_elim
       (λ (lt : get_or homes j bare < bare). lt)
       (λ (le : bare ≤ get_or homes j bare). absurd (omega (arith, some, no_slots j le)))
@@ -112,7 +113,7 @@ module _ (homes : List ℕ) (slots : List (Option ℕ)) (are : AreHomes homes sl
   pub all_few : length slots ≤ 2 ^ 32
   all_few = omega (arith, are.used, are.few, count_by-le-length (λ home. nat_lt home promised) homes)
 
-  pub slot_at : (j k : ℕ) → k < 64 → slot_in (rows_of homes slots) j k ≡ get_or slots (64 * get_or homes j bare + k) None
+  pub slot_at : (j k : ℕ) → k < 64 → slot_in (chunk_rows homes slots) j k ≡ get_or slots (64 * get_or homes j bare + k) None
   slot_at j k small = ⊎_elim
       (λ (lt : get_or homes j bare < bare). ap (λ r. get_or r k None) (row_at homes slots j) ∙ slot_there slots (get_or homes j bare) k lt small)
       (λ (le : bare ≤ get_or homes j bare).
@@ -126,7 +127,7 @@ module _ (homes : List ℕ) (slots : List (Option ℕ)) (are : AreHomes homes sl
     pub slot_within : slot < length slots
     slot_within = omega (arith, are.within at own, small, slot_is)
 
-    pub slot_was : get_or slots slot None ≡ slot_in (rows_of homes slots) at k
+    pub slot_was : get_or slots slot None ≡ slot_in (chunk_rows homes slots) at k
     slot_was = ap (λ s. get_or slots s None) slot_is ∙ sym (slot_at at k small)
 
     pub homes_set : AreHomes homes (set slots slot page)
@@ -137,12 +138,12 @@ module _ (homes : List ℕ) (slots : List (Option ℕ)) (are : AreHomes homes sl
       used = length-set slots slot page ∙ are.used;
     }
 
-    row_written : row_of (set slots slot page) (get_or homes at bare) ≡ set (row_of slots (get_or homes at bare)) k page
+    row_written : chunk_row (set slots slot page) (get_or homes at bare) ≡ set (chunk_row slots (get_or homes at bare)) k page
     row_written =
         let home = get_or homes at bare in
         let lt : home < bare = omega (arith, own) in
-        let old = row_of slots home in
-        let new = row_of (set slots slot page) home in
+        let old = chunk_row slots home in
+        let new = chunk_row (set slots slot page) home in
         ext_get_or None new (set old k page) (length_row (set slots slot page) home lt ∙ sym (length-set old k page ∙ length_row slots home lt)) (λ i below.
         let less : i < 64 = omega (arith, below, length_row (set slots slot page) home lt) in
         slot_there (set slots slot page) home i lt less ∙ ⊎_elim
@@ -154,21 +155,21 @@ module _ (homes : List ℕ) (slots : List (Option ℕ)) (are : AreHomes homes sl
         ∙ sym (get_or-set_other old k i page None other ∙ slot_there slots home i lt less))
         (cases_eq i k))
 
-    pub rows_set : rows_of homes (set slots slot page) ≡ set (rows_of homes slots) at (set (get_or (rows_of homes slots) at []) k page)
+    pub rows_set : chunk_rows homes (set slots slot page) ≡ set (chunk_rows homes slots) at (set (get_or (chunk_rows homes slots) at []) k page)
     rows_set =
-        let row = set (get_or (rows_of homes slots) at []) k page in
-        let inside : at < length (rows_of homes slots) = omega (arith, home_within homes slots at (omega (arith, own)), length_rows homes slots) in
-        ext_get_or [] (rows_of homes (set slots slot page)) (set (rows_of homes slots) at row)
-        (length_rows homes (set slots slot page) ∙ sym (length-set (rows_of homes slots) at row ∙ length_rows homes slots))
+        let row = set (get_or (chunk_rows homes slots) at []) k page in
+        let inside : at < length (chunk_rows homes slots) = omega (arith, home_within homes slots at (omega (arith, own)), length_rows homes slots) in
+        ext_get_or [] (chunk_rows homes (set slots slot page)) (set (chunk_rows homes slots) at row)
+        (length_rows homes (set slots slot page) ∙ sym (length-set (chunk_rows homes slots) at row ∙ length_rows homes slots))
         (λ j below. row_at homes (set slots slot page) j ∙ ⊎_elim
         (λ (same : j ≡ at).
-        ap (λ i. row_of (set slots slot page) (get_or homes i bare)) same ∙ row_written ∙ ap (λ r. set r k page) (sym (row_at homes slots at))
-        ∙ sym (ap (λ i. get_or (set (rows_of homes slots) at row) i []) same ∙ get_or-set_same (rows_of homes slots) at row [] inside))
+        ap (λ i. chunk_row (set slots slot page) (get_or homes i bare)) same ∙ row_written ∙ ap (λ r. set r k page) (sym (row_at homes slots at))
+        ∙ sym (ap (λ i. get_or (set (chunk_rows homes slots) at row) i []) same ∙ get_or-set_same (chunk_rows homes slots) at row [] inside))
         (λ (other : j ≢ at).
         row_stays slots (set slots slot page) (get_or homes j bare) (λ lt i less. get_or-set_other slots slot (64 * get_or homes j bare + i) page None (λ e.
         let home : get_or homes j bare ≡ get_or homes at bare = omega (arith, e, slot_is, less, small) in
         other (are.apart j at home (omega (arith, home, own)))))
-        ∙ sym (get_or-set_other (rows_of homes slots) at j row [] other ∙ row_at homes slots j))
+        ∙ sym (get_or-set_other (chunk_rows homes slots) at j row [] other ∙ row_at homes slots j))
         (cases_eq j at))
 
 -- ---- a chunk gets its slots
@@ -245,7 +246,7 @@ module _ (homes : List ℕ) (slots : List (Option ℕ)) (at home : ℕ) (are : A
     used = omega (arith, length_longer, whole, are.used, used_more);
   }
 
-  row_more : (j : ℕ) → row_of longer (get_or more j bare) ≡ row_of slots (get_or homes j bare)
+  row_more : (j : ℕ) → chunk_row longer (get_or more j bare) ≡ chunk_row slots (get_or homes j bare)
   row_more j = ⊎_elim
       (λ (same : j ≡ at).
       let here : get_or more j bare ≡ home = ap (λ i. get_or more i bare) same ∙ home_here in
@@ -255,11 +256,11 @@ module _ (homes : List ℕ) (slots : List (Option ℕ)) (at home : ℕ) (are : A
       ∙ get_or_past slots (64 * get_or more j bare + k) None (omega (arith, here, whole))
       ∙ sym (get_or_past slots (64 * get_or homes j bare + k) None (omega (arith, was, whole, home_few)))))
       (λ (other : j ≢ at).
-      ap (row_of longer) (elsewhere j other) ∙ row_stays slots longer (get_or homes j bare) (λ lt k small. get_or_followed slots 64 (64 * get_or homes j bare + k) None))
+      ap (chunk_row longer) (elsewhere j other) ∙ row_stays slots longer (get_or homes j bare) (λ lt k small. get_or_followed slots 64 (64 * get_or homes j bare + k) None))
       (cases_eq j at)
 
-  pub rows_more : rows_of more longer ≡ rows_of homes slots
-  rows_more = ext_get_or [] (rows_of more longer) (rows_of homes slots) (length_rows more longer ∙ length-set homes at home ∙ sym (length_rows homes slots))
+  pub rows_more : chunk_rows more longer ≡ chunk_rows homes slots
+  rows_more = ext_get_or [] (chunk_rows more longer) (chunk_rows homes slots) (length_rows more longer ∙ length-set homes at home ∙ sym (length_rows homes slots))
       (λ j below. row_at more longer j ∙ row_more j ∙ sym (row_at homes slots j))
 
 -- ---- places for more chunks
@@ -279,12 +280,12 @@ module _ (homes new : List ℕ) (slots : List (Option ℕ)) (same : (j : ℕ) �
     used = are.used ∙ ap (λ n. 64 * n) (sym used);
   }
 
-  pub row_alike : (j : ℕ) → get_or (rows_of new slots) j [] ≡ get_or (rows_of homes slots) j []
-  row_alike j = row_at new slots j ∙ ap (row_of slots) (same j) ∙ sym (row_at homes slots j)
+  pub row_alike : (j : ℕ) → get_or (chunk_rows new slots) j [] ≡ get_or (chunk_rows homes slots) j []
+  row_alike j = row_at new slots j ∙ ap (chunk_row slots) (same j) ∙ sym (row_at homes slots j)
 
 -- ---- slots that are promised
 
-module _ (from end : ℕ) (homes new : List ℕ) (is : IsPromised from end homes new) where
+module _ (from end : ℕ) (homes new : List ℕ) (is : ArePromised from end homes new) where
   promised_or_same : (P : ℕ → Type 0) (j : ℕ) → P (min promised (get_or homes j bare)) → P (get_or homes j bare) → P (get_or new j bare)
   promised_or_same P j one two = ⊎_elim
       (λ (below : j < from). subst P (sym (is.others j (λ low high. absurd (omega (arith, below, low))))) two)
@@ -306,7 +307,7 @@ module _ (from end : ℕ) (homes new : List ℕ) (is : IsPromised from end homes
       used = are.used ∙ ap (λ n. 64 * n) (sym used);
     }
 
-    pub page_promised : (j k : ℕ) → k < 64 → slot_in (rows_of new slots) j k ≡ slot_in (rows_of homes slots) j k
+    pub page_promised : (j k : ℕ) → k < 64 → slot_in (chunk_rows new slots) j k ≡ slot_in (chunk_rows homes slots) j k
     page_promised j k small = slot_at new slots homes_promised j k small ∙ ⊎_elim
         (λ (lt : get_or new j bare < promised). ap (λ n. get_or slots (64 * n + k) None) (lower_stays j lt))
         (λ (le : promised ≤ get_or new j bare).
@@ -315,7 +316,7 @@ module _ (from end : ℕ) (homes new : List ℕ) (is : IsPromised from end homes
         ∙ sym (get_or_past slots (64 * get_or homes j bare + k) None (omega (arith, was, all_few homes slots are))))
         (cases_lt (get_or new j bare) promised) ∙ sym (slot_at homes slots are j k small)
 
-    pub more_promised : (j : ℕ) → slot_count (rows_of homes slots) j ≤ slot_count (rows_of new slots) j
+    pub more_promised : (j : ℕ) → slot_count (chunk_rows homes slots) j ≤ slot_count (chunk_rows new slots) j
     more_promised j = ⊎_elim
         (λ (lt : get_or homes j bare < bare).
         let now = promised_or_same (λ n. n < bare) j (omega (arith, lt)) lt in
@@ -323,16 +324,16 @@ module _ (from end : ℕ) (homes new : List ℕ) (is : IsPromised from end homes
         (λ (le : bare ≤ get_or homes j bare). omega (arith, no_slots homes slots j le))
         (cases_lt (get_or homes j bare) bare)
 
-  pub all_promised : (slots : List (Option ℕ)) (j : ℕ) → from ≤ j → j < end → slot_count (rows_of new slots) j ≡ 64
+  pub all_promised : (slots : List (Option ℕ)) (j : ℕ) → from ≤ j → j < end → slot_count (chunk_rows new slots) j ≡ 64
   all_promised slots j low high = slots_there new slots j (omega (arith, is.here j low high))
 
-  pub none_promised : (slots : List (Option ℕ)) (j : ℕ) → j < from → slot_count (rows_of new slots) j ≡ slot_count (rows_of homes slots) j
+  pub none_promised : (slots : List (Option ℕ)) (j : ℕ) → j < from → slot_count (chunk_rows new slots) j ≡ slot_count (chunk_rows homes slots) j
   none_promised slots j below =
-      ap length (row_at new slots j ∙ ap (row_of slots) (is.others j (λ low high. absurd (omega (arith, below, low)))) ∙ sym (row_at homes slots j))
+      ap length (row_at new slots j ∙ ap (chunk_row slots) (is.others j (λ low high. absurd (omega (arith, below, low)))) ∙ sym (row_at homes slots j))
 
-module _ (from at : ℕ) (homes new : List ℕ) (low : from ≤ at) (is : IsPromised from at homes new) where
+module _ (from at : ℕ) (homes new : List ℕ) (low : from ≤ at) (is : ArePromised from at homes new) where
   -- a chunk that had none
-  pub promised_next : at < length new → get_or new at bare ≡ bare → IsPromised from (at + 1) homes (set new at promised)
+  pub promised_next : at < length new → get_or new at bare ≡ bare → ArePromised from (at + 1) homes (set new at promised)
   promised_next lt none = record {
     len = length-set new at promised ∙ is.len;
     here = λ j from_j below. ⊎_elim
@@ -347,7 +348,7 @@ module _ (from at : ℕ) (homes new : List ℕ) (low : from ≤ at) (is : IsProm
   }
 
   -- and one that had some
-  pub promised_there : get_or new at bare ≤ promised → IsPromised from (at + 1) homes new
+  pub promised_there : get_or new at bare ≤ promised → ArePromised from (at + 1) homes new
   promised_there some = record {
     len = is.len;
     here = λ j from_j below. ⊎_elim

@@ -1,5 +1,5 @@
 -- The slots of chunks, each by its home.
---     rows_of homes slots      the rows of the chunks
+--     chunk_rows homes slots      the rows of the chunks
 --     AreChunks homes slots slotted capacity      so many chunks have slots, for all of which there is room
 use Rattle.std.specs.Prelude.{ℕ, ◌≡◌, ◌+◌, ◌*◌, ◌<◌, ◌≤◌, ◌^◌, List, [], length, map, min, nat_lt, Option, None, if◌then◌else◌}
 use Rattle.std.specs.List.{slice_index_or, range_with_len, count_by}
@@ -12,14 +12,14 @@ bare = 4294967295
 abbrev pub promised : ℕ
 promised = 4294967294
 
-abbrev pub slots_from : List (Option ℕ) → ℕ → List (Option ℕ)
-slots_from slots home = map (λ k. slice_index_or slots (64 * home + k) None) (range_with_len 0 64)
+abbrev pub chunk_slots : List (Option ℕ) → ℕ → List (Option ℕ)
+chunk_slots slots home = map (λ k. slice_index_or slots (64 * home + k) None) (range_with_len 0 64)
 
-abbrev pub row_of : List (Option ℕ) → ℕ → List (Option ℕ)
-row_of slots home = if nat_lt home bare then slots_from slots home else []
+abbrev pub chunk_row : List (Option ℕ) → ℕ → List (Option ℕ)
+chunk_row slots home = if nat_lt home bare then chunk_slots slots home else []
 
-abbrev pub rows_of : List ℕ → List (Option ℕ) → Rows
-rows_of homes slots = map (row_of slots) homes
+abbrev pub chunk_rows : List ℕ → List (Option ℕ) → Rows
+chunk_rows homes slots = map (chunk_row slots) homes
 
 -- how many slots a chunk has
 abbrev pub slot_count : Rows → ℕ → ℕ
@@ -45,7 +45,7 @@ pub record AreChunks (homes : List ℕ) (slots : List (Option ℕ)) (slotted cap
   pub room : 64 * slotted ≤ capacity
 
 -- slots were promised to the chunks from one number up to another that had none
-pub record IsPromised (from end : ℕ) (old new : List ℕ) : Type 0 where
+pub record ArePromised (from end : ℕ) (old new : List ℕ) : Type 0 where
   pub len : length new ≡ length old
   pub here : (j : ℕ) → from ≤ j → j < end → slice_index_or new j bare ≡ min promised (slice_index_or old j bare)
   pub others : (j : ℕ) → (from ≤ j → j < end → ⊥) → slice_index_or new j bare ≡ slice_index_or old j bare

@@ -1,7 +1,7 @@
 //! The slots of a block's chunks, in one piece: a chunk takes its part of it when its first page comes.
 ghost use Rattle.std.specs.Prelude.{ℕ, ◌≡◌, ◌+◌, ◌-◌, ◌*◌, ◌<◌, ◌≤◌, ◌^◌, ◌++◌, [], length, max, replicate, slice_index_or, slice_set, vec_capacity, vec_len, OnOk, None, true};
 ghost use Rattle.hp_inode.specs.Rows.{slot_in};
-ghost use Rattle.hp_inode.specs.Chunks.{AreHomes, IsPromised, bare, promised, rows_of, slot_count, slotted_count, used_count};
+ghost use Rattle.hp_inode.specs.Chunks.{AreHomes, ArePromised, bare, promised, chunk_rows, slot_count, slotted_count, used_count};
 
 use crate::block::BLOCK;
 use hp_model::page_no::PageNo;
@@ -34,11 +34,11 @@ pub struct ChunkList {
 impl Model for ChunkList {
     ghost use Rattle.std.specs.Prelude.{vec_capacity};
     ghost use Rattle.hp_inode.specs.Rows.{Rows};
-    ghost use Rattle.hp_inode.specs.Chunks.{AreChunks, rows_of};
+    ghost use Rattle.hp_inode.specs.Chunks.{AreChunks, chunk_rows};
 
     ghost Value = { Rows };
 
-    ghost view = { λ c. rows_of c.homes.items c.slots.items };
+    ghost view = { λ c. chunk_rows c.homes.items c.slots.items };
 
     ghost invariant = { λ c. AreChunks c.homes.items c.slots.items c.slotted
         (vec_capacity c.slots) };
@@ -152,8 +152,8 @@ fn touch(homes: &mut Vec<u32>, slots: &mut Vec<Option<PageNo>>, at: usize) -> us
     requires room { 64 * slotted_count homes.old.items ≤ vec_capacity slots.old }
     requires slotted { slice_index_or homes.old.items at bare < bare }
     ensures given { AreHomes homes.new.items slots.new.items }
-    ensures rows { rows_of homes.new.items slots.new.items
-        ≡ rows_of homes.old.items slots.old.items }
+    ensures rows { chunk_rows homes.new.items slots.new.items
+        ≡ chunk_rows homes.old.items slots.old.items }
     ensures count { slotted_count homes.new.items ≡ slotted_count homes.old.items }
     ensures capacity { vec_capacity slots.new ≡ vec_capacity slots.old }
     ensures home { result ≡ slice_index_or homes.new.items at bare }
@@ -171,8 +171,8 @@ fn add_chunk(homes: &mut Vec<u32>, slots: &mut Vec<Option<PageNo>>, at: usize)
     requires room { 64 * slotted_count homes.old.items ≤ vec_capacity slots.old }
     requires none { slice_index_or homes.old.items at bare ≡ promised }
     ensures given { AreHomes homes.new.items slots.new.items }
-    ensures rows { rows_of homes.new.items slots.new.items
-        ≡ rows_of homes.old.items slots.old.items }
+    ensures rows { chunk_rows homes.new.items slots.new.items
+        ≡ chunk_rows homes.old.items slots.old.items }
     ensures count { slotted_count homes.new.items ≡ slotted_count homes.old.items }
     ensures capacity { vec_capacity slots.new ≡ vec_capacity slots.old }
     ensures len { length homes.new.items ≡ length homes.old.items }
@@ -214,7 +214,7 @@ fn make_room(slots: &mut Vec<Option<PageNo>>, count: usize, alloc: Global) -> Re
 fn promise(homes: &mut Vec<u32>, from: usize, end: usize) -> usize
     requires ends { from ≤ end }
     requires within { end ≤ length homes.old.items }
-    ensures promised { IsPromised from end homes.old.items homes.new.items }
+    ensures promised { ArePromised from end homes.old.items homes.new.items }
     ensures count { slotted_count homes.new.items ≡ slotted_count homes.old.items + result }
     ensures used { used_count homes.new.items ≡ used_count homes.old.items }
     ensures few { result ≤ end - from }

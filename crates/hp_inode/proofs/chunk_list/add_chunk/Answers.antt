@@ -1,5 +1,5 @@
 use Rattle.std.proofs.Common.{◌≡◌, ◌/◌, ap, length, arith, ◌∙◌}
-use Rattle.hp_inode.proofs.Chunks.{home_few, home_here, homes_more, room_there, rows_more, slotted_more}
+use Rattle.hp_inode.proofs.Chunks.{room_there, rows_more}
 use Rattle.hp_inode.proofs.chunk_list.add_chunk.Goals as goal
 
 pub push_bare-requires : goal.push_bare-requires

@@ -1,8 +1,8 @@
-use Rattle.std.proofs.Common.{ℕ, ◌≡◌, ◌+◌, ◌≤◌, ◌<◌, ◌^◌, None, length, get_or, ap, sym, ◌∙◌, arith, ⊎_elim}
+use Rattle.std.proofs.Common.{◌≤◌, ◌<◌, ◌^◌, None, length, get_or, ap, ◌∙◌, arith, ⊎_elim}
 use Rattle.std.proofs.lemmas.Bool.{cases_lt}
 use Rattle.hp_inode.specs.Rows.{slot_in}
 use Rattle.hp_inode.specs.Chunks.{slot_count}
-use Rattle.hp_inode.proofs.Chunks.{all_promised, few_slots, homes_alike, homes_promised, more_promised, none_promised, page_promised, row_alike, slotted_few}
+use Rattle.hp_inode.proofs.Chunks.{all_promised, homes_alike, homes_promised, more_promised, none_promised, page_promised, row_alike, slotted_few}
 use Rattle.hp_inode.proofs.chunk_list.ChunkList.make.Goals as goal
 
 pub returns-in_err-extend-clause-pages : goal.returns-in_err-extend-clause-pages
@@ -50,7 +50,18 @@ invariant_of-self-2 c =
     record {
       given = rw c.make_room.ensures.items (homes_promised c.made_to-from.result c.args.end mid new did.promised s.slots.items are did.used);
       counted = omega (arith, did.count, c.extend.ensures.slotted, was.counted);
-      room = omega (arith, c.in_ok-make_room.ensures.ok, c.min-count.ensures, c.len.ensures, c.len.ensures ∙ c.extend.new.homes.ok.0, did.few, did.count, did.promised.len, slotted_few new, c.extend.ensures.slotted, was.counted);
+      room = omega (
+        arith,
+        c.in_ok-make_room.ensures.ok,
+        c.min-count.ensures,
+        c.len.ensures ∙ c.extend.new.homes.ok.0,
+        did.few,
+        did.count,
+        did.promised.len,
+        slotted_few new,
+        c.extend.ensures.slotted,
+        was.counted,
+      );
     }
 
 pub returns-clause-pages : goal.returns-clause-pages

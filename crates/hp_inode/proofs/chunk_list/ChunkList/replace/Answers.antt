@@ -1,8 +1,8 @@
-use Rattle.std.proofs.Common.{◌≡◌, ◌+◌, ◌*◌, ◌<◌, None, get_or, sym, ap, ◌∙◌, arith}
+use Rattle.std.proofs.Common.{◌≡◌, ◌+◌, ◌*◌, ◌<◌, None, get_or, ap, ◌∙◌, arith}
 use Rattle.std.proofs.lemmas.List.{get_or_read}
 use Rattle.hp_inode.specs.Rows.{slot_in}
-use Rattle.hp_inode.specs.Chunks.{bare, promised, rows_of, slot_count}
-use Rattle.hp_inode.proofs.Chunks.{few_slots, has_home, homes_set, rows_set, slot_was, slot_within}
+use Rattle.hp_inode.specs.Chunks.{bare, promised, slot_count}
+use Rattle.hp_inode.proofs.Chunks.{few_slots, rows_set, slot_was, slot_within}
 use Rattle.hp_inode.proofs.chunk_list.ChunkList.replace.Goals as goal
 
 pub returns-clause-was : goal.returns-clause-was
