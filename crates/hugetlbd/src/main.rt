@@ -43,10 +43,10 @@ fn main(rt: HostRuntime) -> ExitCode {
 }
 
 // The bytes of a block that is asked for and given back before any other.
-const FIRST_BLOCK: usize = 4 * 1024 * 1024;
+const FIRST_BLOCK: usize = 6 * 1024 * 1024;
 
 // The C library's malloc hands the end of its heap back to the system when more than 128 KB of it are free; but once a block that
-// it had mapped by itself was given back, when twice that block's size is. One that nobody writes to has it keep 8 MB, so that
+// it had mapped by itself was given back, when twice that block's size is. One that nobody writes to has it keep 12 MB, so that
 // maps of 60,000 pages that come and go, and the room of a wide preallocation that is refused, find their memory where it was.
 #[inline(never)]
 fn keep_freed_memory(alloc: Global) {
