@@ -204,7 +204,12 @@ fn make_room(slots: &mut Vec<Option<PageNo>>, count: usize, alloc: Global) -> Re
         return Ok(());
     }
     let twice = 2 * (slots.capacity() / CHUNK).min(MOST / 2);
-    let mut more = Vec::with_capacity(alloc, CHUNK * count.max(twice))?;
+    let room = CHUNK * count.max(twice);
+    // a full piece may grow where it lies; of any other only what was written moves
+    if slots.len() == slots.capacity() {
+        return slots.reserve_exact(room - slots.len());
+    }
+    let mut more = Vec::with_capacity(alloc, room)?;
     more.append(slots)?;
     *slots = more;
     Ok(())
