@@ -3,7 +3,7 @@ use denote.Param.Send.{IsSend, sendable, view_send}
 use denote.Param.SendFields.{declared_send}
 use denote.RattleType.{RattleType}
 use Rattle.hp_inode.specs.contracts.block_list.BlockList as BlockList
-use Rattle.hp_inode.specs.contracts.chunk.Chunk as Chunk
+use Rattle.hp_inode.specs.contracts.chunk_list.ChunkList as ChunkList
 use Rattle.hp_inode.specs.contracts.entries.Entries as Entries
 use Rattle.hp_inode.specs.contracts.entry_block.EntryBlock as EntryBlock
 use Rattle.hp_inode.specs.contracts.indices.Indices as Indices
@@ -58,8 +58,8 @@ places_send = search (sendable, row_send, marks_send) depth 30
 pub mapping_send : IsSend Mapping.the_row
 mapping_send = search (sendable, crosses, places_send) depth 30
 
-chunk_send : IsSend Chunk.the_row
-chunk_send = search (sendable, crosses) depth 30
+chunk_list_send : IsSend ChunkList.the_row
+chunk_list_send = search (sendable, crosses) depth 30
 
 entry_block_send : IsSend EntryBlock.the_row
 entry_block_send = search (sendable, crosses) depth 30
@@ -71,7 +71,7 @@ entries_send : IsSend Entries.the_row
 entries_send = search (sendable, crosses, entry_block_send, block_list_send) depth 30
 
 page_block_send : IsSend PageBlock.the_row
-page_block_send = search (sendable, crosses, chunk_send) depth 30
+page_block_send = search (sendable, crosses, chunk_list_send) depth 30
 
 page_table_send : IsSend PageTable.the_row
 page_table_send = search (sendable, crosses, page_block_send, block_list_send) depth 30
