@@ -1,4 +1,4 @@
--- Loads and stores under one hold of their slot.
+-- Loads, stores and faults under one hold of their slot.
 use Rattle.std.proofs.Common.{◌≡◌, ℕ, ◌+◌, ◌<◌, List, [], ◌∷◌, length, take, drop, slice_set, Bool, false, Ok, subst, sym}
 use lib.ListN.{get_or}
 use Rattle.hp_model.proofs.Queues.{does_next}

@@ -1,4 +1,4 @@
-//! Loads and stores that are done while their slot's lock is held, where no entries are kept.
+//! Loads, stores and faults that are done while their slot's lock is held, where no entries are kept.
 ghost use Rattle.std.specs.Prelude.{◌≡◌, ◌==◌, ◌≤◌, false, length, IfNone, IfSome, true};
 ghost use Rattle.hp_model.specs.Profile.{most_bytes};
 ghost use Rattle.hp_events.specs.Queues.{AreFirstHanded, IsAccessHanded};
@@ -14,7 +14,7 @@ use hp_shared::{SeatedSlot, Shared, Ways};
 use hp_trail::trace::Trace;
 use std::sync::Wait;
 
-// The first loads and stores of a queue, up to one of another slot or of a task that is not noted, or behind one that entered
+// The first loads, stores and faults of a queue, up to one of another slot or of a task that is not noted, or behind one that entered
 // the pool: so that nobody waits long for the slot. How many were done.
 pub(crate) fn held_accesses<N: Naming + Places, R: Wait, G: Gate, const K: usize>(
     shared: &Shared<N, K>,
@@ -42,7 +42,7 @@ pub(crate) fn held_accesses<N: Naming + Places, R: Wait, G: Gate, const K: usize
     queue.len()
 }
 
-// A load or a store that waits, if it is one of this slot and its task is noted: whether it entered the pool.
+// A load, a store or a fault that waits, if it is one of this slot and its task is noted: whether it entered the pool.
 #[inline(always)]
 fn held_access<N: Naming + Places, R: Wait, G: Gate, const K: usize>(
     shared: &Shared<N, K>,
@@ -91,7 +91,18 @@ fn held_access<N: Naming + Places, R: Wait, G: Gate, const K: usize>(
                 bytes,
             };
             let (told, entered) = member.unnoted(ways, slot, page_bytes, home, event, &mut []);
-            queued.answer_store(into_done(told));
+            queued.answer_done(into_done(told));
+            Some(entered)
+        }
+        Doing::Fault { intent } => {
+            let event = MountEvent::Fault {
+                task: access.task,
+                map: access.map,
+                index: access.index,
+                intent,
+            };
+            let (told, entered) = member.unnoted(ways, slot, page_bytes, home, event, &mut []);
+            queued.answer_done(into_done(told));
             Some(entered)
         }
     }

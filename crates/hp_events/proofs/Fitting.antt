@@ -1,4 +1,4 @@
--- What a load and a store are answered.
+-- What a load, a store and a fault are answered.
 use Rattle.std.proofs.Common.{◌≡◌, ℕ, Bool, List, None, Some, Ok, Err, refl, sym, subst, length}
 use Rattle.std.specs.Prelude.{IfOk, Result}
 use Rattle.hp_model.specs.declared.answer.Answer.{Answer}
@@ -13,9 +13,10 @@ use Rattle.hp_model.specs.files.File.{Mount}
 use Rattle.hp_model.specs.files.Mapping.{is_map}
 use Rattle.hp_model.specs.files.Spot.{Spot, again, spot, written}
 use Rattle.hp_model.specs.files.Value.{value}
+use Rattle.hp_model.specs.declared.step.Intent.{Intent}
 use Rattle.hp_model.specs.declared.step.Intent.TheVariants.{Read, Write}
 use Rattle.hp_model.specs.machine.Plan.{Answered, Choice, Outcome, Refused, Reply, Slot, continued}
-use Rattle.hp_model.specs.machine.SlotEvent.{byte_access, bytes_answer, load, slot_event, store}
+use Rattle.hp_model.specs.machine.SlotEvent.{byte_access, bytes_answer, fault, load, slot_event, store}
 use Rattle.hp_model.specs.declared.told.Told.{Told}
 use Rattle.hp_model.specs.beside.Told.{told_answer, told_reply}
 use Rattle.hp_model.specs.threads.LocalRun.{Gives}
@@ -23,13 +24,14 @@ use Rattle.hp_laws.specs.Balance.{Always}
 use Rattle.hp_laws.proofs.names.Accessed.{bytes_on}
 use Rattle.hp_laws.proofs.counts.MountMoves.{spot_is}
 use Rattle.hp_laws.proofs.steps.Outcomes.{always_then}
+use Rattle.hp_laws.proofs.accesses.EndsDone.{fault_done}
 use Rattle.hp_laws.proofs.accesses.Shown.{On}
 use Rattle.hp_laws.proofs.accesses.SlotShows.{always_value}
 use Rattle.hp_events.specs.Answered.{CanAnswer, IsHanded}
 use Rattle.hp_events.proofs.Came.{always_came}
 use Rattle.hp_events.specs.Fitting.{HasAnswerOf, IsBytes}
 
--- ---- what a load and a store are answered
+-- ---- what a load, a store and a fault are answered
 
 -- no mount goes by an access
 abbrev Any : Mount → Type 0
@@ -40,9 +42,9 @@ module _ (size k : ℕ) (c : Choice) (task home number i offset : ℕ) where
   IsLoaded (Refused r) = Unit {0}
   IsLoaded (Answered a s) = IsBytes a
 
-  abbrev IsStored : Outcome → Type 0
-  IsStored (Refused r) = Unit {0}
-  IsStored (Answered a s) = a ≡ Done
+  abbrev EndsDone : Outcome → Type 0
+  EndsDone (Refused r) = Unit {0}
+  EndsDone (Answered a s) = a ≡ Done
 
   loads : (count : ℕ) (old : Slot) → Always IsLoaded (slot_event size k c old (slot.Load task home number i offset count))
   loads count None = tt
@@ -56,17 +58,22 @@ module _ (size k : ℕ) (c : Choice) (task home number i offset : ℕ) where
       ends_in s (Answered a None) on = absurd on
       ends_in s (Answered a (Some n)) on = tt
 
-  stores : (bytes : List ℕ) (old : Slot) → Always IsStored (slot_event size k c old (slot.Store task home number i offset bytes))
+  stores : (bytes : List ℕ) (old : Slot) → Always EndsDone (slot_event size k c old (slot.Store task home number i offset bytes))
   stores bytes None = tt
   stores bytes (Some x) =
-      always_value IsStored (λ r. tt) (spot x (is_map task number)) NoSuchMap (store c size x home i offset bytes)
-      (λ s e. always_then (On Any) IsStored (λ n. Answered Done (Some (written n s i offset bytes))) (ends_in s)
+      always_value EndsDone (λ r. tt) (spot x (is_map task number)) NoSuchMap (store c size x home i offset bytes)
+      (λ s e. always_then (On Any) EndsDone (λ n. Answered Done (Some (written n s i offset bytes))) (ends_in s)
       (byte_access c size x home i offset (length bytes) Write s) (bytes_on c x Any tt s (spot_is x (is_map task number) s e) (λ f same. tt) size home i offset (length bytes) Write))
     where
-      ends_in : (s : Spot) (o : Outcome) → On Any o → IsStored (continued (λ n. Answered Done (Some (written n s i offset bytes))) o)
+      ends_in : (s : Spot) (o : Outcome) → On Any o → EndsDone (continued (λ n. Answered Done (Some (written n s i offset bytes))) o)
       ends_in s (Refused r) on = tt
       ends_in s (Answered a None) on = absurd on
       ends_in s (Answered a (Some n)) on = refl
+
+  faults : (intent : Intent) (old : Slot) → Always EndsDone (slot_event size k c old (slot.Fault task home number i intent))
+  faults intent None = tt
+  faults intent (Some x) =
+      always_value EndsDone (λ r. tt) (spot x (is_map task number)) NoSuchMap (fault c size x home i intent) (λ s e. fault_done EndsDone (λ r. tt) (λ n. refl) c size x s home i intent)
 
   loaded : (o : Outcome) (old new : Slot) (a : Answer) → IsLoaded o → Gives o old (Ok a) new → IsBytes a
   loaded (Refused r) old new a h g = absurd (let same = g.0 in cc)
@@ -76,9 +83,9 @@ module _ (size k : ℕ) (c : Choice) (task home number i offset : ℕ) where
       OfOk (Ok x) = IsBytes x
       OfOk (Err e) = Unit {0}
 
-  stored : (o : Outcome) (old new : Slot) (a : Answer) → IsStored o → Gives o old (Ok a) new → a ≡ Done
-  stored (Refused r) old new a h g = absurd (let same = g.0 in cc)
-  stored (Answered b s) old new a h g = (let same = g.0 in cc)
+  ended : (o : Outcome) (old new : Slot) (a : Answer) → EndsDone o → Gives o old (Ok a) new → a ≡ Done
+  ended (Refused r) old new a h g = absurd (let same = g.0 in cc)
+  ended (Answered b s) old new a h g = (let same = g.0 in cc)
 
 pub fits : (size k : ℕ) (e : SlotEvent) (a : Answer) → CanAnswer size (OnSlot k e) (Ok a) → HasAnswerOf e a
 fits size k (slot.Load task home number i offset count) a (old, asked, new, went) =
@@ -86,9 +93,13 @@ fits size k (slot.Load task home number i offset count) a (old, asked, new, went
     (loads size k went.0 task home number i offset count old) went.2 in
     loaded size k went.0 task home number i offset came.0 old new a came.1 came.2
 fits size k (slot.Store task home number i offset bytes) a (old, asked, new, went) =
-    let came = always_came (IsStored size k went.0 task home number i offset) (slot_event size k went.0 old (slot.Store task home number i offset bytes)) asked old (Ok a) new
+    let came = always_came (EndsDone size k went.0 task home number i offset) (slot_event size k went.0 old (slot.Store task home number i offset bytes)) asked old (Ok a) new
     (stores size k went.0 task home number i offset bytes old) went.2 in
-    stored size k went.0 task home number i offset came.0 old new a came.1 came.2
+    ended size k went.0 task home number i offset came.0 old new a came.1 came.2
+fits size k (slot.Fault task home number i intent) a (old, asked, new, went) =
+    let came = always_came (EndsDone size k went.0 task home number i 0) (slot_event size k went.0 old (slot.Fault task home number i intent)) asked old (Ok a) new
+    (faults size k went.0 task home number i 0 intent old) went.2 in
+    ended size k went.0 task home number i 0 came.0 old new a came.1 came.2
 fits size k other a can = tt
 
 -- what was handed back fits

@@ -1,4 +1,4 @@
--- Loads and stores of one slot, done one after another.
+-- Loads, stores and faults of one slot, done one after another.
 use Rattle.std.specs.Prelude.{◌≡◌, ℕ, ◌≤◌, false, List, [], ◌∷◌, length, take, drop, Ok}
 use Rattle.hp_model.specs.beside.Queue.{QueuedView}
 use Rattle.hp_model.specs.declared.answer.Answer.TheVariants.{Home}
@@ -8,7 +8,7 @@ use Rattle.hp_model.specs.declared.event.SlotEvent.{SlotEvent}
 use Rattle.hp_model.specs.declared.event.SlotEvent.TheVariants as slot
 use Rattle.hp_model.specs.declared.event.TableEvent.TheVariants.{Find}
 use Rattle.hp_model.specs.declared.step.Step.{Step}
-use Rattle.hp_model.specs.declared.step.Step.TheVariants.{Load, Store}
+use Rattle.hp_model.specs.declared.step.Step.TheVariants.{Fault, Load, Store}
 use Rattle.hp_model.specs.machine.Plan.{Reply}
 use Rattle.hp_events.specs.Answered.{IsHanded}
 
@@ -19,12 +19,14 @@ pub record IsFoundAndHanded (size at task : ℕ) (event : ℕ → SlotEvent) (re
   pub found : IsHanded false size (OnTasks (Find task)) (Ok (Home home)) was between
   pub handed : IsHanded false size (OnSlot at (event home)) reply between now
 
--- a load or a store of this slot is answered so
+-- a load, a store or a fault of this slot is answered so
 abbrev pub IsAccessHanded : (size at : ℕ) → Step → Reply → (was now : List Receipt) → Type 0
 IsAccessHanded size at (Load task k number i offset count) reply was now =
     (k ≡ at) × IsFoundAndHanded size at task (λ home. slot.Load task home number i offset count) reply was now
 IsAccessHanded size at (Store task k number i offset bytes) reply was now =
     (k ≡ at) × IsFoundAndHanded size at task (λ home. slot.Store task home number i offset bytes) reply was now
+IsAccessHanded size at (Fault task k number i intent) reply was now =
+    (k ≡ at) × IsFoundAndHanded size at task (λ home. slot.Fault task home number i intent) reply was now
 IsAccessHanded size at step reply was now = ⊥
 
 -- each of these is answered as is noted

@@ -1,4 +1,4 @@
-//! What a load and a store are answered.
+//! What a load, a store and a fault are answered.
 ghost use Rattle.std.specs.Prelude.{◌≡◌, ◌≤◌, length, IfOk};
 ghost use Rattle.hp_model.specs.declared.answer.Answer.TheVariants.{Done};
 ghost use Rattle.hp_model.specs.beside.Accesses.{bytes_reply, done_reply};
@@ -25,7 +25,7 @@ pub fn into_bytes<'b>(told: Result<Told<'b>, Refusal>) -> Result<&'b [u8], Refus
     }
 }
 
-/// That a store is done.
+/// That a store or a fault is done.
 #[inline(always)]
 pub fn into_done(told: Result<Told<'_>, Refusal>) -> Result<(), Refusal>
     requires { IfOk told (λ told. told_answer told ≡ Done) }

@@ -124,7 +124,7 @@ pub trait Parts: Drop {
         ensures slots { slots self.new ≡ slots self.old }
         ensures places { places self.new ≡ places self.old };
 
-    /// The first loads and stores of a queue, where no entries are kept: those of the slot of this number, of tasks that are
+    /// The first loads, stores and faults of a queue, where no entries are kept: those of the slot of this number, of tasks that are
     /// found without waiting; so many were done, one after another, and what each was answered is noted.
     fn accesses(&mut self, at: usize, queue: &mut [Queued], room: &mut [u8]) -> usize
         requires unkept { keeps ≡ false }

@@ -1,9 +1,9 @@
 -- How many indices of a range have no page, by those that have one.
-use Rattle.std.proofs.Common.{◌≡◌, ℕ, zero, suc, ◌+◌, ◌-◌, ◌<◌, ◌≤◌, min, max, cond, List, [], ◌∷◌, ◌++◌, length, take, drop, replicate, refl, sym, ap, ◌∙◌, arith, ⊎_elim}
+use Rattle.std.proofs.Common.{◌≡◌, ℕ, zero, suc, ◌+◌, ◌-◌, ◌<◌, ◌≤◌, min, cond, List, [], ◌∷◌, ◌++◌, length, take, drop, replicate, refl, sym, ap, ◌∙◌, arith, ⊎_elim}
 use Rattle.std.specs.List.{count_by}
 use Rattle.std.proofs.lemmas.Bool.{cases_lt}
 use Rattle.std.proofs.lemmas.List.{drop-take, length-append, length-drop, length-replicate, length-take, take_all}
-use Rattle.std.proofs.lemmas.List.Sums.{count_by-le-length, sum_by-take-drop}
+use Rattle.std.proofs.lemmas.List.Sums.{sum_by-take-drop}
 use Rattle.hp_model.specs.declared.cell.Cell.{Cell}
 use Rattle.hp_model.specs.declared.cell.Cell.TheVariants.{Hole}
 use Rattle.hp_model.specs.files.File.{at_least, has_page}
@@ -12,7 +12,7 @@ use Rattle.hp_model.specs.Lists.{part}
 use Rattle.hp_model.proofs.Counting.{count_cons, count_not}
 
 -- how many of the first n have a page
-abbrev pub paged_to : ℕ → List (Cell ℕ) → ℕ
+abbrev paged_to : ℕ → List (Cell ℕ) → ℕ
 paged_to n cells = count_by has_page (take n cells)
 
 take_twice : (xs : List (Cell ℕ)) (a n : ℕ) → a ≤ n → take a (take n xs) ≡ take a xs
@@ -24,16 +24,13 @@ take_twice (x ∷ xs) zero n le = refl
 take_twice (x ∷ xs) (suc a) zero le = absurd (omega (arith, le))
 take_twice (x ∷ xs) (suc a) (suc n) le = ap (λ ys. x ∷ ys) (take_twice xs a n (omega (arith, le)))
 
-pub paged_part : (xs : List (Cell ℕ)) (a n : ℕ) → a ≤ n → paged_to a xs + count_by has_page (part a n xs) ≡ paged_to n xs
+paged_part : (xs : List (Cell ℕ)) (a n : ℕ) → a ≤ n → paged_to a xs + count_by has_page (part a n xs) ≡ paged_to n xs
 paged_part xs a n le =
     let back : a + (n - a) ≡ n = omega (arith, le) in
     let halves = sum_by-take-drop (λ c. cond {A = ℕ} (has_page c) 1 0) (take n xs) a in
     let low = ap (count_by has_page) (take_twice xs a n le) in
     let high = ap (count_by has_page) (ap (λ m. drop a (take m xs)) (sym back) ∙ drop-take a (n - a) xs) in
     omega (arith, halves, low, high)
-
-pub few_paged : (xs : List (Cell ℕ)) (a n : ℕ) → a ≤ n → paged_to n xs ≤ paged_to a xs + (n - a)
-few_paged xs a n le = omega (arith, paged_part xs a n le, count_by-le-length has_page (part a n xs), length-take (n - a) (drop a xs))
 
 abbrev hole : Cell ℕ
 hole = Hole
@@ -51,19 +48,22 @@ paged_longer [] r (suc n) = none_in_holes r (suc n)
 paged_longer (c ∷ cells) r zero = refl
 paged_longer (c ∷ cells) r (suc n) = omega (arith, paged_longer cells r n, count_cons has_page c (take n (cells ++ replicate r Hole)), count_cons has_page c (take n cells))
 
-pub lacking_all : (cells : List (Cell ℕ)) (a b at count : ℕ) → a ≤ b → min (length cells) b ≤ at → at ≤ max a (min (length cells) b)
-    → count + paged_to at cells ≡ b - a + paged_to a cells → count ≡ count_by lacks_page (part a b (at_least b cells))
-lacking_all cells a b at count order past to counted =
+-- a part up to the end is the whole part
+same_part : (cells : List (Cell ℕ)) (a b : ℕ) → part a (min (length cells) b) cells ≡ part a b cells
+same_part cells a b = ⊎_elim
+    (λ (short : length cells < b).
+    let few : length (drop a cells) ≤ min (length cells) b - a = omega (arith, length-drop a cells, short) in
+    take_all (min (length cells) b - a) (drop a cells) few ∙ sym (take_all (b - a) (drop a cells) (omega (arith, few))))
+    (λ (enough : b ≤ length cells). ap (λ n. part a n cells) {x = min (length cells) b} {y = b} (omega (arith, enough)))
+    (cases_lt (length cells) b)
+
+pub lacking_all : (cells : List (Cell ℕ)) (a b : ℕ) → a ≤ b →
+    count_by has_page (part a (min (length cells) b) cells) + count_by lacks_page (part a b (at_least b cells)) ≡ b - a
+lacking_all cells a b order =
     let xs : List (Cell ℕ) = at_least b cells in
     let long = length-append cells (replicate (b - length cells) Hole) in
     let more = length-replicate {A = Cell ℕ} (b - length cells) Hole in
     let wide : length (part a b xs) ≡ b - a = length-take (b - a) (drop a xs) ∙ omega (arith, length-drop a xs, long, more, order) in
-    let both = count_not has_page (part a b xs) in
-    let parts = paged_part xs a b order in
     let low = paged_longer cells (b - length cells) a in
     let high = paged_longer cells (b - length cells) b in
-    let same : paged_to at cells ≡ paged_to b cells = ⊎_elim
-    (λ (short : length cells < b). ap (count_by has_page) (take_all at cells (omega (arith, past, short)) ∙ sym (take_all b cells (omega (arith, short)))))
-    (λ (enough : b ≤ length cells). ap (λ n. paged_to n cells) {x = at} {y = b} (omega (arith, past, to, enough, order)))
-    (cases_lt (length cells) b) in
-    omega (arith, wide, both, parts, low, high, same, counted)
+    omega (arith, wide, count_not has_page (part a b xs), paged_part xs a b order, paged_part cells a b order, low, high, ap (count_by has_page) (same_part cells a b))

@@ -21,3 +21,4 @@ pub mod Joining
 pub mod Ordered
 pub mod Listed
 mod Lacking
+pub mod Crossing

@@ -1,28 +1,28 @@
--- Files in places that they keep, in their order.
-use Rattle.std.specs.Prelude.{◌≢◌, ℕ, ◌+◌, ◌-◌, ◌<◌, ◌≤◌, ◌^◌, List, length, map, min}
+-- Files under keys that they keep, in their order.
+use Rattle.std.specs.Prelude.{◌≢◌, ℕ, ◌-◌, ◌^◌, List, Option, None, [], map, min}
 use Rattle.std.specs.List.{All, AllPairs}
-use Rattle.hp_lookup.specs.Numbered.{NumberedFile, numbered_at}
+use Rattle.std.specs.Option.{unwrap_or}
+use Rattle.slab.specs.Slab.{ContainsKey, Slab, get, slab_len}
+use Rattle.hp_lookup.specs.Numbered.{NumberedFile}
 
 -- files in order, and for how many more there is room
 pub record Listed : Type 0 where
   pub files : List NumberedFile
   pub room : ℕ
 
--- the files in the places of an order
-abbrev pub files_in : List NumberedFile → List ℕ → List NumberedFile
-files_in places order = map (numbered_at places) order
+-- the file that lies there, or a bare one
+abbrev pub filed : Option NumberedFile → NumberedFile
+filed slot = unwrap_or slot (record { name = None; cells = []; maps = [] })
 
--- a file more takes a vacant place or a new one, whose number has 16 bits, and a word in the order; and the vacant ones' list has
--- room for all places
-abbrev pub room_in : (places capacity order order_capacity vacant vacant_capacity : ℕ) → ℕ
-room_in places capacity order order_capacity vacant vacant_capacity = min (vacant + min (2 ^ 16 - places) (capacity - places)) (min (order_capacity - order) (vacant_capacity - (order + vacant)))
+-- the files under the keys of an order
+abbrev pub files_in : Slab NumberedFile → List ℕ → List NumberedFile
+files_in slab order = map (λ key. filed (get slab key)) order
 
--- each place of the order is there, and no two are the same; so it is with the vacant places, none of which is in the order; and
--- the list of the vacant ones has room for all
-pub record IsFileOrder (places : ℕ) (order vacant : List ℕ) (capacity : ℕ) : Type 0 where
-  pub there : All (λ number. number < places) order
+-- a file more takes the next key, which has 16 bits, and a word in the order
+abbrev pub room_in : Slab NumberedFile → (order capacity : ℕ) → ℕ
+room_in slab order capacity = min (2 ^ 16 - slab.vacant_key) (min (slab.capacity - slab_len slab) (capacity - order))
+
+-- a file lies under each key of the order, and no two keys are the same
+pub record IsFileOrder (slab : Slab NumberedFile) (order : List ℕ) : Type 0 where
+  pub there : All (ContainsKey slab) order
   pub apart : AllPairs (λ x y. x ≢ y) order
-  pub vacant_there : All (λ number. number < places) vacant
-  pub vacant_apart : AllPairs (λ x y. x ≢ y) vacant
-  pub no_file : All (λ number. All (λ other. other ≢ number) order) vacant
-  pub room : length order + length vacant ≤ capacity

@@ -6,9 +6,9 @@ ghost use Rattle.hp_lookup.specs.Leaving.{is_used};
 
 use crate::File;
 use hp_lookup::TaggedNumber;
+use slab::Slab;
 use std::alloc::{AllocError, Global};
 use std::marker::Model;
-use std::mem;
 use std::ops::{Index, IndexMut};
 
 // A file is looked for at so many places, from the one where it stood down, and searched for in so many below these, before it
@@ -17,14 +17,12 @@ const NEAR: usize = 16;
 
 const FAR: usize = 64;
 
-/// Files in order of creation. Each lies in a place that it keeps, so where a file goes, the words that say where the others lie
+/// Files in order of creation. Each lies under a key that it keeps, so where a file goes, the words that say where the others lie
 /// close up, and no other file is moved. A file that was made later has a greater tag, so that it is found by a binary search.
-/// In a vacant place lies a bare file. Contracts see the files, and for how many more there is room.
+/// Contracts see the files, and for how many more there is room.
 pub struct FileList {
-    alloc: Global,
-    files: Vec<File>,
+    files: Slab<File>,
     order: Vec<TaggedNumber>,
-    vacant: Vec<u16>,
 }
 
 impl Model for FileList {
@@ -34,24 +32,19 @@ impl Model for FileList {
     ghost Value = { Listed };
 
     ghost view = { λ l. record {
-      files = files_in l.files.items l.order.items;
-      room = room_in (vec_len l.files) (vec_capacity l.files) (vec_len l.order)
-          (vec_capacity l.order)
-          (vec_len l.vacant) (vec_capacity l.vacant);
+      files = files_in l.files l.order.items;
+      room = room_in l.files (vec_len l.order) (vec_capacity l.order);
     } };
 
-    ghost invariant = { λ l. IsFileOrder (vec_len l.files) l.order.items l.vacant.items
-        (vec_capacity l.vacant) };
+    ghost invariant = { λ l. IsFileOrder l.files l.order.items };
 }
 
 // What drops one calls this, and need not know what it holds.
 impl Drop for FileList {
     fn drop(self) {
         let FileList {
-            alloc: _alloc,
             files: _files,
             order: _order,
-            vacant: _vacant,
         } = self;
     }
 }
@@ -62,10 +55,8 @@ impl FileList {
         ensures { result.files ≡ [] }
     {
         FileList {
-            alloc,
-            files: Vec::new(alloc),
+            files: Slab::new(alloc),
             order: Vec::new(alloc),
-            vacant: Vec::new(alloc),
         }
     }
 
@@ -76,19 +67,16 @@ impl FileList {
         self.order.len()
     }
 
-    /// Makes room for a file more. Refused where memory is, or where the places' numbers end.
+    /// Makes room for a file more. Refused where memory is, or where the next key has over 16 bits.
     pub fn make_room(&mut self) -> Result<(), AllocError>
         ensures same { self.new.files ≡ self.old.files }
         ensures ok { OnOk result (0 < self.new.room) }
     {
-        if self.vacant.is_empty() {
-            if self.files.len() > u16::MAX as usize {
-                return Err(AllocError);
-            }
-            self.files.reserve(1)?;
+        if self.files.vacant_key() > u16::MAX as usize {
+            return Err(AllocError);
         }
+        self.files.reserve(1)?;
         self.order.reserve(1)?;
-        self.vacant.reserve(self.order.len() + 1)?;
         Ok(())
     }
 
@@ -97,17 +85,8 @@ impl FileList {
         requires { 0 < self.old.room }
         ensures { self.new.files ≡ self.old.files ++ file ∷ [] }
     {
-        match self.vacant.pop() {
-            Some(number) => {
-                self.files[number as usize] = file;
-                self.order.push_reserved(TaggedNumber::new(tag, number));
-            }
-            None => {
-                let number = self.files.len() as u16;
-                self.files.push_reserved(file);
-                self.order.push_reserved(TaggedNumber::new(tag, number));
-            }
-        }
+        let number = self.files.insert_reserved(file) as u16;
+        self.order.push_reserved(TaggedNumber::new(tag, number));
     }
 
     /// The tag of the file at a place.
@@ -163,12 +142,7 @@ impl FileList {
         ensures files { self.new.files ≡ remove self.old.files at }
     {
         let spot = self.order.remove(at);
-        let number = spot.number();
-        self.vacant.push_reserved(number);
-        mem::replace(
-            &mut self.files[number as usize],
-            File::new(self.alloc, None),
-        )
+        self.files.remove(spot.number() as usize)
     }
 
     /// Takes the last file out, if there is one.

@@ -1,8 +1,8 @@
 -- The rows of chunks, by their homes.
-use Rattle.std.proofs.Common.{◌≡◌, ◌≢◌, ℕ, ◌+◌, ◌-◌, ◌*◌, ◌/◌, ◌<◌, ◌≤◌, ◌^◌, min, List, [], ◌++◌, length, replicate, get_or, set, cond, Option, None, refl, sym, ap, ◌∙◌, arith, subst, ⊎_elim}
+use Rattle.std.proofs.Common.{◌≡◌, ◌≢◌, ℕ, ◌+◌, ◌-◌, ◌*◌, ◌/◌, ◌<◌, ◌≤◌, ◌^◌, min, List, [], ◌++◌, length, replicate, get_or, set, cond, Option, None, IsSome, refl, sym, ap, ◌∙◌, arith, subst, ⊎_elim}
 use Rattle.std.specs.Prelude.{nat_lt}
 use Rattle.std.proofs.Math.ListN.{get_or-map as get_or-mapped}
-use Rattle.std.proofs.lemmas.Bool.{cases_eq, cases_lt, lt-ltb, le-ltb}
+use Rattle.std.proofs.lemmas.Bool.{cases_eq, cases_lt, false≢true, lt-ltb, le-ltb}
 use Rattle.std.proofs.lemmas.List.{ext_get_or, get_or-replicate, get_or-set_same, get_or-set_other, get_or_past, get_or_append_left, get_or-append_right}
 use Rattle.std.proofs.lemmas.List.{length-append, length-map, length-replicate, length-set}
 use Rattle.std.proofs.lemmas.List.Folds.{sum_by-replicate}
@@ -120,6 +120,15 @@ module _ (homes : List ℕ) (slots : List (Option ℕ)) (are : AreHomes homes sl
       ap (λ r. get_or r k None) (row_at homes slots j ∙ row_bare slots (get_or homes j bare) le) ∙ get_or_past [] k None (omega arith)
       ∙ sym (get_or_past slots (64 * get_or homes j bare + k) None (omega (arith, le, all_few))))
       (cases_lt (get_or homes j bare) bare)
+
+  -- a chunk with a page has a home of its own
+  pub home_of_page : (j k : ℕ) → k < 64 → IsSome (slot_in (chunk_rows homes slots) j k) → get_or homes j bare < promised
+  home_of_page j k small some = ⊎_elim
+      (λ (lt : get_or homes j bare < promised). lt)
+      (λ (le : promised ≤ get_or homes j bare).
+      let none = slot_at j k small ∙ get_or_past slots (64 * get_or homes j bare + k) None (omega (arith, le, all_few)) in
+      absurd (false≢true (subst IsSome none some)))
+      (cases_lt (get_or homes j bare) promised)
 
   -- ---- a slot is written
 

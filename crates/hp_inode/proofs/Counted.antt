@@ -1,5 +1,5 @@
--- How many indices of one word of 64 have a page.
-use Rattle.std.proofs.Common.{◌≡◌, ℕ, Bool, true, not, ◌+◌, ◌-◌, ◌*◌, ◌/◌, ◌%◌, ◌<◌, ◌≤◌, [], get_or, sym, ap, ◌∙◌, arith}
+-- How many indices of one block have a page.
+use Rattle.std.proofs.Common.{◌≡◌, ℕ, Bool, true, not, ◌+◌, ◌/◌, ◌%◌, ◌<◌, ◌≤◌, [], get_or, sym, ap, ◌∙◌, arith}
 use Rattle.std.specs.List.{count_by, range_with_len}
 use Rattle.std.specs.Option.{is_some}
 use Rattle.std.proofs.lemmas.List.FromFn.{length-range_with_len}
@@ -8,7 +8,7 @@ use Rattle.hp_inode.specs.Blocks.{RowBlocks, page_at}
 use Rattle.hp_inode.specs.Rows.{Rows, page_in}
 use Rattle.hp_inode.proofs.Blocks.{count_moved}
 
--- where each has one
+-- where each is counted
 pub counted_whole : (p : ℕ → Bool) (a n : ℕ) → ((k : ℕ) → a ≤ k → k < a + n → p k ≡ true) → n ≡ count_by p (range_with_len a n)
 counted_whole p a n all =
     omega (arith, count_not p (range_with_len a n), count_outside (λ k. not (p k)) a n (λ k low high. ap not (all k low high)), length-range_with_len a n)
@@ -28,7 +28,3 @@ module _ (rows : RowBlocks) (a n : ℕ) (fits : a % 65536 + n ≤ 65536) where
   none_in_block is = sym (count_outside (λ k. is_some (page_at rows k)) a n (λ k low high.
       let here : k / 65536 ≡ a / 65536 = omega (arith, fits, low, high) in
       ap (λ q. is_some (page_in (get_or rows q []) (k % 65536))) here ∙ ap (λ rs. is_some (page_in rs (k % 65536))) is))
-
--- the part of a block
-pub word_fits : (a b : ℕ) → a < b → b ≤ 64 * (a / 64) + 64 → a % 65536 + (b - a) ≤ 65536
-word_fits a b some one = omega (arith, some, one)

@@ -4,18 +4,31 @@ use Rattle.std.specs.Option.{is_some}
 use Rattle.std.proofs.lemmas.Bool.{cases_lt, false≢true, true≢false}
 use Rattle.hp_marks.specs.Marks.{marked, FindsWithin, IsFirstFrom}
 use Rattle.hp_marks.proofs.Words.{unmarked_past}
+use Rattle.hp_inode.specs.EntryBlock.{IsEntries}
 use Rattle.hp_inode.specs.Rows.{Rows, page_in, FindsPage, IsFirstPage, IsTable}
 
 pub marked_within : (marks : List ℕ) (q : ℕ) → marked marks q ≡ true → q < 64 * length marks
 marked_within marks q on = ⊎_elim (λ (lt : q < 64 * length marks). lt) (λ (le : 64 * length marks ≤ q). absurd (false≢true (sym (unmarked_past marks q le) ∙ on))) (cases_lt q (64 * length marks))
 
+pub none_of : (o : Option ℕ) → is_some o ≡ false → o ≡ None
+none_of None off = refl
+none_of (Some page) off = absurd (true≢false off)
+
 module _ (rows : Rows) (words marks : List ℕ) (table : IsTable rows words marks) where
   pub no_page : (i : ℕ) → marked words i ≡ false → page_in rows i ≡ None
   no_page i off = none_of (page_in rows i) (sym (table.pages i) ∙ off)
-    where
-      none_of : (o : Option ℕ) → is_some o ≡ false → o ≡ None
-      none_of None t = refl
-      none_of (Some page) t = absurd (true≢false t)
+
+  -- the words and their marks are a set of entries
+  pub table_entries : IsEntries words marks
+  table_entries = record {
+    few = table.few;
+    places = table.places;
+    within = λ w on. ⊎_elim
+        (λ (lt : w < length words). lt)
+        (λ (le : length words ≤ w). absurd (table.some w on (λ i chunk. unmarked_past words i (omega (arith, le, chunk)))))
+        (cases_lt w (length words));
+    none = table.none;
+  }
 
   first_page : (a i : ℕ) → a ≤ i → marked words i ≡ true → ((k : ℕ) → a ≤ k → k < i → marked words k ≡ false) → IsFirstPage (page_in rows) a i
   first_page a i from here before = record {

@@ -28,6 +28,23 @@ table_alike rows made words marks new news is few places wide pages same above =
   none = λ i off. same i ∙ is.none i (sym (above (i / 64)) ∙ off);
 }
 
+-- a word with a bit has its mark
+pub mark_there : (words marks : List ℕ) → ((k : ℕ) → marked marks (k / 64) ≡ false → marked words k ≡ false) → (at : ℕ) → (((k : ℕ) → k / 64 ≡ at → marked words k ≡ false) → ⊥) →
+    marked marks at ≡ true
+mark_there words marks none at some = ⊎_elim
+    (λ (on : marked marks at ≡ true). on)
+    (λ (off : marked marks at ≡ false). absurd (some (λ k here. none k (ap (marked marks) here ∙ off))))
+    (cases_Bool (marked marks at))
+
+-- and one with none has none
+pub mark_is : (rows : Rows) (words marks : List ℕ) → IsTable rows words marks → (at : ℕ) (had : Bool) → (had ≡ true → ((k : ℕ) → k / 64 ≡ at → marked words k ≡ false) → ⊥) →
+    (had ≡ false → (k : ℕ) → k / 64 ≡ at → marked words k ≡ false) → marked marks at ≡ had
+mark_is rows words marks table at true some none = mark_there words marks table.none at (some refl)
+mark_is rows words marks table at false some none = ⊎_elim
+    (λ (on : marked marks at ≡ true). absurd (table.some at on (none refl)))
+    (λ (off : marked marks at ≡ false). off)
+    (cases_Bool (marked marks at))
+
 -- ---- a slot written
 
 module _ (rows : Rows) (i : ℕ) (o : Option ℕ) (slot : has_slot rows i ≡ true) where
@@ -72,18 +89,12 @@ module _ (rows : Rows) (i : ℕ) (o : Option ℕ) (slot : has_slot rows i ≡ tr
   module _ (words marks new : List ℕ) (on : Bool) (table : IsTable rows words marks) (long : length new ≡ length words) (here : marked new i ≡ is_some o)
       (others : (k : ℕ) → (k ≡ i → ⊥) → marked new k ≡ marked words k) (some : on ≡ true → ((k : ℕ) → k / 64 ≡ i / 64 → marked new k ≡ false) → ⊥)
       (none : on ≡ false → (k : ℕ) → k / 64 ≡ i / 64 → marked new k ≡ false) where
-    -- the mark stays where the word keeps a bit
-    pub mark_stays : (already : Bool) → is_some o ≡ not already → already ≡ on → marked marks (i / 64) ≡ on
-    mark_stays already is same = ⊎_elim
-        (λ (set_on : on ≡ true). ⊎_elim
-        (λ (there : marked marks (i / 64) ≡ true). there ∙ sym set_on)
-        (λ (gone : marked marks (i / 64) ≡ false). absurd (some set_on (λ k chunk. ⊎_elim
-        (λ (this : k ≡ i). ap (marked new) this ∙ here ∙ is ∙ ap not (same ∙ set_on))
-        (λ (other : k ≡ i → ⊥). others k other ∙ table.none k (ap (marked marks) chunk ∙ gone))
-        (cases_eq k i))))
-        (cases_Bool (marked marks (i / 64))))
-        (λ (set_off : on ≡ false). absurd (false≢true (sym (none set_off i refl) ∙ here ∙ is ∙ ap not (same ∙ set_off))))
-        (cases_Bool on)
+    -- the mark stays where the word of a page that goes keeps a bit
+    pub mark_stays : is_some o ≡ false → on ≡ true → marked marks (i / 64) ≡ true
+    mark_stays gone set_on = mark_there words marks table.none (i / 64) (λ blank. some set_on (λ k chunk. ⊎_elim
+        (λ (this : k ≡ i). ap (marked new) this ∙ here ∙ gone)
+        (λ (other : k ≡ i → ⊥). others k other ∙ blank k chunk)
+        (cases_eq k i)))
 
     pub table_set : (news : List ℕ) → length news ≡ length marks → marked news (i / 64) ≡ on → ((j : ℕ) → (j ≡ i / 64 → ⊥) → marked news j ≡ marked marks j) → IsTable changed new news
     table_set news same mark above = record {

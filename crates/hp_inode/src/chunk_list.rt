@@ -1,5 +1,5 @@
 //! The slots of a block's chunks, in one piece: a chunk takes its part of it when its first page comes.
-ghost use Rattle.std.specs.Prelude.{ℕ, ◌≡◌, ◌+◌, ◌-◌, ◌*◌, ◌<◌, ◌≤◌, ◌^◌, ◌++◌, [], length, max, replicate, slice_index_or, slice_set, vec_capacity, vec_len, OnOk, None, true};
+ghost use Rattle.std.specs.Prelude.{ℕ, ◌≡◌, ◌+◌, ◌-◌, ◌*◌, ◌<◌, ◌≤◌, ◌^◌, ◌++◌, [], length, max, replicate, slice_index_or, slice_set, vec_capacity, vec_len, IsSome, OnOk, None, true, false};
 ghost use Rattle.hp_inode.specs.Rows.{slot_in};
 ghost use Rattle.hp_inode.specs.Chunks.{AreHomes, ArePromised, bare, promised, chunk_rows, slot_count, slotted_count, used_count};
 
@@ -80,15 +80,16 @@ impl ChunkList {
         at < self.homes.len() && self.homes[at] != BARE
     }
 
-    /// Puts a page in a slot, or none, and answers what stood there.
+    /// Puts a page in a slot, or none where there is one, and answers what stood there.
     #[inline(always)]
     pub fn replace(&mut self, at: usize, k: usize, page: Option<PageNo>) -> Option<PageNo>
-        requires { k < slot_count self.old at }
+        requires slot { k < slot_count self.old at }
+        requires some { page ≡ None → IsSome (slot_in self.old at k) }
         ensures was { result ≡ slot_in self.old at k }
         ensures set { self.new ≡ slice_set self.old at
             (slice_set (slice_index_or self.old at []) k page) }
     {
-        let slot = CHUNK * touch(&mut self.homes, &mut self.slots, at) + k;
+        let slot = CHUNK * touch(&mut self.homes, &mut self.slots, at, page.is_some()) + k;
         let was = self.slots[slot];
         self.slots[slot] = page;
         was
@@ -145,28 +146,30 @@ fn extend(homes: &mut Vec<u32>, end: usize) -> Result<(), AllocError>
     Ok(())
 }
 
-// Gives a chunk that has slots its home, and answers it.
+// Gives a chunk that has slots its home, where it may have none yet, and answers it.
 #[inline(always)]
-fn touch(homes: &mut Vec<u32>, slots: &mut Vec<Option<PageNo>>, at: usize) -> usize
+fn touch(homes: &mut Vec<u32>, slots: &mut Vec<Option<PageNo>>, at: usize, first: bool) -> usize
     requires given { AreHomes homes.old.items slots.old.items }
     requires room { 64 * slotted_count homes.old.items ≤ vec_capacity slots.old }
     requires slotted { slice_index_or homes.old.items at bare < bare }
+    requires own { first ≡ false → slice_index_or homes.old.items at bare < promised }
     ensures given { AreHomes homes.new.items slots.new.items }
     ensures rows { chunk_rows homes.new.items slots.new.items
         ≡ chunk_rows homes.old.items slots.old.items }
     ensures count { slotted_count homes.new.items ≡ slotted_count homes.old.items }
-    ensures capacity { vec_capacity slots.new ≡ vec_capacity slots.old }
+    ensures capacity { vec_capacity slots.old ≤ vec_capacity slots.new }
     ensures home { result ≡ slice_index_or homes.new.items at bare }
     ensures own { result < promised }
 {
-    if homes[at] == PROMISED {
-        add_chunk(homes, slots, at);
+    let home = homes[at];
+    if first && home == PROMISED {
+        return add_chunk(homes, slots, at);
     }
-    homes[at] as usize
+    home as usize
 }
 
-// The slots of a chunk come, without a page.
-fn add_chunk(homes: &mut Vec<u32>, slots: &mut Vec<Option<PageNo>>, at: usize)
+// The slots of a chunk come, without a page, and it has its home.
+fn add_chunk(homes: &mut Vec<u32>, slots: &mut Vec<Option<PageNo>>, at: usize) -> usize
     requires given { AreHomes homes.old.items slots.old.items }
     requires room { 64 * slotted_count homes.old.items ≤ vec_capacity slots.old }
     requires none { slice_index_or homes.old.items at bare ≡ promised }
@@ -174,26 +177,26 @@ fn add_chunk(homes: &mut Vec<u32>, slots: &mut Vec<Option<PageNo>>, at: usize)
     ensures rows { chunk_rows homes.new.items slots.new.items
         ≡ chunk_rows homes.old.items slots.old.items }
     ensures count { slotted_count homes.new.items ≡ slotted_count homes.old.items }
-    ensures capacity { vec_capacity slots.new ≡ vec_capacity slots.old }
-    ensures len { length homes.new.items ≡ length homes.old.items }
-    ensures own { slice_index_or homes.new.items at bare < promised }
+    ensures capacity { vec_capacity slots.old ≤ vec_capacity slots.new }
+    ensures home { result ≡ slice_index_or homes.new.items at bare }
+    ensures own { result < promised }
 {
-    homes[at] = (slots.len() / CHUNK) as u32;
+    let home = slots.len() / CHUNK;
+    homes[at] = home as u32;
     push_bare(slots);
+    home
 }
 
-// The slots of a chunk, without a page.
+// The slots of a chunk, without a page. There is room, so that no memory is asked for.
 fn push_bare(slots: &mut Vec<Option<PageNo>>)
     requires { vec_len slots.old + 64 ≤ vec_capacity slots.old }
     ensures items { slots.new.items ≡ slots.old.items ++ replicate 64 None }
-    ensures capacity { vec_capacity slots.new ≡ vec_capacity slots.old }
+    ensures capacity { vec_capacity slots.old ≤ vec_capacity slots.new }
 {
-    for _ in 0..CHUNK {
-        slots.push_reserved(None);
-    }
+    let _ = slots.resize(slots.len() + CHUNK, None);
 }
 
-// Makes room for the slots of so many chunks: at least for twice as many as before, where a block may have them.
+// Makes room for the slots of so many chunks: at least for four times as many as before, where a block may have them.
 fn make_room(slots: &mut Vec<Option<PageNo>>, count: usize, alloc: Global) -> Result<(), AllocError>
     requires { count ≤ 2 ^ 26 }
     ensures items { slots.new.items ≡ slots.old.items }
@@ -203,8 +206,8 @@ fn make_room(slots: &mut Vec<Option<PageNo>>, count: usize, alloc: Global) -> Re
     if CHUNK * count <= slots.capacity() {
         return Ok(());
     }
-    let twice = 2 * (slots.capacity() / CHUNK).min(MOST / 2);
-    let room = CHUNK * count.max(twice);
+    let more = 4 * (slots.capacity() / CHUNK).min(MOST / 4);
+    let room = CHUNK * count.max(more);
     // a full piece may grow where it lies; of any other only what was written moves
     if slots.len() == slots.capacity() {
         return slots.reserve_exact(room - slots.len());

@@ -4,6 +4,7 @@ ghost use Rattle.hp_model.specs.beside.Ranges.{within};
 ghost use Rattle.hp_inode.specs.EntryBlock.{count_in, missing_in, FindsWord, IsEntries, IsRemoved};
 ghost use Rattle.hp_marks.specs.Marks.{marked};
 
+use crate::bits::count_bits;
 use crate::block::Block;
 use hp_marks::marks::{
     WORD, bits_within, change_mark, clear_marks, first_within, make_places, set_mark, set_marks,
@@ -52,28 +53,11 @@ impl EntryBlock {
         at < words.len() && words[at] >> (i as usize % WORD) & 1 == 1
     }
 
-    // How many indices from `a` up to `b` are in the set.
-    fn count(&self, a: u64, b: u64) -> u64
-        ensures { result ≡ count_in self.now a b }
-    {
-        let (a, b) = (a as usize, b as usize);
-        let end = b.div_ceil(WORD);
-        let mut count = 0;
-        let mut at = a / WORD;
-        while let Some(next) = self.next_word(at, end) {
-            let words = self.words.as_slice();
-            let here = u64::from((words[next] & bits_within(next, a, b)).count_ones());
-            at = full_to(words, next + 1, b / WORD);
-            count += here + 64 * (at - next - 1) as u64;
-        }
-        count
-    }
-
     /// How many indices from `a` up to `b` are not in the set.
     pub fn missing(&self, a: u64, b: u64) -> u64
         ensures { result ≡ missing_in self.now a b }
     {
-        b.saturating_sub(a) - self.count(a, b)
+        b.saturating_sub(a) - count_bits(self.words.as_slice(), self.marks.as_slice(), a, b)
     }
 
     /// Whether there is room for an index, and none is in the set.
@@ -136,8 +120,11 @@ impl EntryBlock {
         if self.contains(i) {
             return false;
         }
-        set_mark(self.words.as_mut_slice(), i as usize, true);
-        set_mark(self.marks.as_mut_slice(), i as usize / WORD, true);
+        let at = i as usize / WORD;
+        let words = self.words.as_mut_slice();
+        let had = words[at] != 0;
+        set_mark(words, i as usize, true);
+        change_mark(&mut self.marks, at, had, true);
         true
     }
 
@@ -209,20 +196,6 @@ impl EntryBlock {
     {
         first_within(self.marks.as_slice(), from, end)
     }
-}
-
-// Passes the full words from `from` on, up to `end` at most, and answers where they end.
-fn full_to(words: &[u64], from: usize, end: usize) -> usize
-    ensures from { from ≤ result }
-    ensures to { from < result → result ≤ end }
-    ensures full { (k : ℕ) → 64 * from ≤ k → k < 64 * result → marked words.now k ≡ true }
-{
-    let last = end.min(words.len());
-    let mut at = from;
-    while at < last && words[at] == u64::MAX {
-        at += 1;
-    }
-    at
 }
 
 // Clears the words from `from` up to `end`, and answers how many bits they had. Those with no mark are passed.

@@ -109,10 +109,8 @@ impl Indices {
         self.pages
     }
 
-    pub fn pages_in_word(&self, a: u64, b: u64) -> u64
-        requires some { a < b }
-        requires one { b ≤ 64 * (a / 64) + 64 }
-        requires within { b ≤ length self.now.cells }
+    pub fn pages_within(&self, a: u64, b: u64) -> u64
+        requires { b ≤ length self.now.cells }
         ensures { result ≡ count_by has_page (part a b self.now.cells) }
     {
         self.table.count(a, b)

@@ -14,6 +14,7 @@ pub use ready::ReadyInode;
 use std::alloc::{AllocError, Global};
 use std::marker::Model;
 
+mod bits;
 mod block;
 mod block_list;
 mod chunk_list;
@@ -121,16 +122,14 @@ impl Inode {
         }
     }
 
-    /// How many indices from `a` up to `b`, which lie in one word of 64, have a page.
-    pub fn pages_in_word(&self, a: u64, b: u64) -> u64
-        requires some { a < b }
-        requires one { b ≤ 64 * (a / 64) + 64 }
-        requires within { b ≤ length self.now }
+    /// How many indices from `a` up to `b` have a page.
+    pub fn pages_within(&self, a: u64, b: u64) -> u64
+        requires { b ≤ length self.now }
         ensures { result ≡ count_by has_page (part a b self.now) }
     {
         match &self.form {
             Form::Holes(_) => 0,
-            Form::Kept(indices) => indices.pages_in_word(a, b),
+            Form::Kept(indices) => indices.pages_within(a, b),
         }
     }
 

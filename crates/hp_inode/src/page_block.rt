@@ -1,12 +1,13 @@
 //! Pages by index, in chunks of 64 slots: an index's slot is found in one step, and so is a chunk with pages.
-ghost use Rattle.std.specs.Prelude.{ℕ, ◌≡◌, ◌+◌, ◌-◌, ◌*◌, ◌/◌, ◌<◌, ◌≤◌, ◌^◌, ◌++◌, ◌∷◌, [], length, OnOk, OnErr, true, None, Some};
+ghost use Rattle.std.specs.Prelude.{ℕ, ◌≡◌, ◌+◌, ◌-◌, ◌*◌, ◌/◌, ◌<◌, ◌≤◌, ◌^◌, ◌++◌, ◌∷◌, [], length, IsSome, OnOk, OnErr, true, None, Some};
 ghost use Rattle.std.specs.List.{count_by, range_with_len, slice_index_or};
 ghost use Rattle.std.specs.Option.{is_some};
 ghost use Rattle.hp_inode.specs.Rows.{page_in, has_slot, FindsPage, TakesFirst};
 
+use crate::bits::count_bits;
 use crate::block::Block;
 use crate::chunk_list::{CHUNK, ChunkList};
-use hp_marks::marks::{bits_within, change_mark, first_from, first_in_word, make_places, set_mark};
+use hp_marks::marks::{change_mark, first_from, first_in_word, make_places, set_mark};
 use hp_model::page_no::PageNo;
 use smallvec::SmallVec;
 use std::alloc::{AllocError, Global};
@@ -49,21 +50,11 @@ impl PageBlock {
         self.chunks.page_at(i as usize / CHUNK, i as usize % CHUNK)
     }
 
-    /// How many indices from `a` up to `b`, which lie in one chunk, have a page.
+    /// How many indices from `a` up to `b` have a page.
     pub fn count(&self, a: u64, b: u64) -> u64
-        requires some { a < b }
-        requires one { b ≤ 64 * (a / 64) + 64 }
         ensures { result ≡ count_by (λ k. is_some (page_in self.now k)) (range_with_len a (b - a)) }
     {
-        let words = self.words.as_slice();
-        let at = a as usize / CHUNK;
-        if at >= words.len() {
-            return 0;
-        }
-        if words[at] == u64::MAX {
-            return b - a;
-        }
-        u64::from((words[at] & bits_within(at, a as usize, b as usize)).count_ones())
+        count_bits(self.words.as_slice(), self.marks.as_slice(), a, b)
     }
 
     /// Gives an index its page.
@@ -77,10 +68,11 @@ impl PageBlock {
         self.replace(i as usize, Some(page));
     }
 
-    // Gives an index a page, or none, and answers which it had.
+    // Gives an index a page, or none where it has one, and answers which it had.
     #[inline(always)]
     fn replace(&mut self, i: usize, page: Option<PageNo>) -> Option<PageNo>
-        requires { has_slot self.old i ≡ true }
+        requires slot { has_slot self.old i ≡ true }
+        requires some { page ≡ None → IsSome (page_in self.old i) }
         ensures was { result ≡ page_in self.old i }
         ensures here { page_in self.new i ≡ page }
         ensures others { (k : ℕ) → (k ≡ i → ⊥) → page_in self.new k ≡ page_in self.old k }
@@ -89,9 +81,10 @@ impl PageBlock {
         let at = i / CHUNK;
         let was = self.chunks.replace(at, i % CHUNK, page);
         let words = self.words.as_mut_slice();
+        let had = page.is_none() || words[at] != 0;
         set_mark(words, i, page.is_some());
         let some = words[at] != 0;
-        change_mark(&mut self.marks, at, page.is_none(), some);
+        change_mark(&mut self.marks, at, had, some);
         was
     }
 

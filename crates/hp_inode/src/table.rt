@@ -1,5 +1,5 @@
 //! Pages by index, in blocks of 65,536.
-ghost use Rattle.std.specs.Prelude.{ℕ, ◌≡◌, ◌≢◌, ◌+◌, ◌-◌, ◌*◌, ◌/◌, ◌<◌, ◌≤◌, ◌^◌, [], OnOk, true, None, Some, MatchOption};
+ghost use Rattle.std.specs.Prelude.{ℕ, ◌≡◌, ◌≢◌, ◌+◌, ◌-◌, ◌/◌, ◌%◌, ◌<◌, ◌≤◌, ◌^◌, [], OnOk, true, None, Some, MatchOption};
 ghost use Rattle.std.specs.List.{count_by, range_with_len, slice_index_or};
 ghost use Rattle.std.specs.Option.{is_some};
 ghost use Rattle.hp_inode.specs.Blocks.{block_size, most_blocks, page_at, has_slot_at};
@@ -64,16 +64,29 @@ impl PageTable {
         self.block(i / BLOCK)?.page_at(i % BLOCK)
     }
 
-    /// How many indices from `a` up to `b`, which lie in one word of 64, have a page.
-    #[inline(always)]
+    /// How many indices from `a` up to `b` have a page.
     pub fn count(&self, a: u64, b: u64) -> u64
-        requires some { a < b }
-        requires one { b ≤ 64 * (a / 64) + 64 }
         ensures { result ≡ count_by (λ k. is_some (page_at self.now k)) (range_with_len a (b - a)) }
+    {
+        let mut count = 0;
+        let mut at = a;
+        while at < b {
+            let part = within_block(at, b);
+            count += self.count_in(at, part);
+            at += part;
+        }
+        count
+    }
+
+    // How many indices from `a` on, of so many in one block, have a page.
+    #[inline(always)]
+    fn count_in(&self, a: u64, part: u64) -> u64
+        requires { a % block_size + part ≤ block_size }
+        ensures { result ≡ count_by (λ k. is_some (page_at self.now k)) (range_with_len a part) }
     {
         let from = a % BLOCK;
         match self.block(a / BLOCK) {
-            Some(block) => block.count(from, from + (b - a)),
+            Some(block) => block.count(from, from + part),
             None => 0,
         }
     }

@@ -7,3 +7,4 @@ pub mod Backed
 pub mod KeptPlaces
 pub mod StoredMaps
 pub mod CopiesSound
+pub mod EndsDone

@@ -1,13 +1,14 @@
-//! Loads and stores that wait, so that several are done together.
+//! Loads, stores and faults that wait, so that several are done together.
 ghost use Rattle.std.specs.Prelude.{◌≡◌, ◌≤◌, true, false, length, take, IfOk};
 ghost use Rattle.hp_model.specs.Profile.{most_bytes};
-ghost use Rattle.hp_model.specs.beside.Accesses.{bytes_reply, done_reply, load_step, store_step};
+ghost use Rattle.hp_model.specs.beside.Accesses.{bytes_reply, done_reply, fault_step, load_step, store_step};
 ghost use Rattle.hp_model.specs.beside.Queue.{doing_step, is_load};
 ghost use Rattle.hp_model.specs.beside.Told.{told_reply};
 ghost use Rattle.hp_model.specs.text.Writing.{IsWithinLimits};
 
 use crate::refusal::Refusal;
 use crate::service::Access;
+use crate::step::Intent;
 use crate::told::Told;
 use std::marker::Model;
 
@@ -18,14 +19,22 @@ pub const QUEUED_BYTES: usize = 512;
 pub enum Doing<'a> {
     Load { count: u64 },
     Store { bytes: &'a [u8] },
+    Fault { intent: Intent },
 }
 
-/// A load or a store that waits, and what it was answered, once it is done.
+/// What is wanted at the place of an access: so many bytes of a load, the bytes of a store, which stand elsewhere, or a fault.
+#[derive(Clone, Copy)]
+pub enum Wanted {
+    Load(u64),
+    Store,
+    Fault(Intent),
+}
+
+/// A load, a store or a fault that waits, and what it was answered, once it is done.
 #[derive(Drop)]
 pub struct Queued {
     access: Access,
-    // how many bytes a load wants; none at a store
-    wanted: Option<u64>,
+    wanted: Wanted,
     // the bytes to be stored, or those that were loaded, are so many in front
     len: usize,
     bytes: [u8; QUEUED_BYTES],
@@ -33,8 +42,8 @@ pub struct Queued {
 }
 
 impl Model for Queued {
-    ghost use Rattle.std.specs.Prelude.{◌≡◌, ◌≤◌, true, is_some, take};
-    ghost use Rattle.hp_model.specs.beside.Queue.{QueuedView, access_step, noted_reply};
+    ghost use Rattle.std.specs.Prelude.{◌≡◌, ◌≤◌, true, take};
+    ghost use Rattle.hp_model.specs.beside.Queue.{QueuedView, access_step, noted_reply, wants_bytes};
     ghost use Rattle.hp_model.specs.Profile.{most_bytes};
 
     ghost Value = { QueuedView };
@@ -45,7 +54,7 @@ impl Model for Queued {
       reply = noted_reply q.refused q.wanted (take q.len q.bytes);
     } };
 
-    ghost invariant = { λ q. (q.len ≤ 512) × (is_some q.wanted ≡ true → q.len ≤ most_bytes) };
+    ghost invariant = { λ q. (q.len ≤ 512) × (wants_bytes q.wanted ≡ true → q.len ≤ most_bytes) };
 }
 
 // Puts bytes in front, and says how many they are.
@@ -71,7 +80,7 @@ impl Queued {
         };
         Queued {
             access,
-            wanted: Some(0),
+            wanted: Wanted::Load(0),
             len: 0,
             bytes: [0; QUEUED_BYTES],
             refused: None,
@@ -85,7 +94,7 @@ impl Queued {
         ensures access { self.new.access ≡ access }
     {
         self.access = access;
-        self.wanted = Some(count);
+        self.wanted = Wanted::Load(count);
         self.len = 0;
     }
 
@@ -97,8 +106,18 @@ impl Queued {
         ensures access { self.new.access ≡ access }
     {
         self.access = access;
-        self.wanted = None;
+        self.wanted = Wanted::Store;
         self.len = put(&mut self.bytes, bytes);
+    }
+
+    /// A fault takes this one's place.
+    #[inline(always)]
+    pub fn set_fault(&mut self, access: Access, intent: Intent)
+        ensures step { self.new.step ≡ fault_step access intent }
+        ensures access { self.new.access ≡ access }
+    {
+        self.access = access;
+        self.wanted = Wanted::Fault(intent);
     }
 
     /// Where it begins.
@@ -115,10 +134,11 @@ impl Queued {
         ensures { doing_step self.now.access result ≡ self.now.step }
     {
         match self.wanted {
-            Some(count) => Doing::Load { count },
-            None => Doing::Store {
+            Wanted::Load(count) => Doing::Load { count },
+            Wanted::Store => Doing::Store {
                 bytes: &self.bytes[..self.len],
             },
+            Wanted::Fault(intent) => Doing::Fault { intent },
         }
     }
 
@@ -140,15 +160,15 @@ impl Queued {
         }
     }
 
-    /// Notes what the store was answered.
+    /// Notes what the store or the fault was answered.
     #[inline(always)]
-    pub fn answer_store(&mut self, stored: Result<(), Refusal>)
-        requires store { is_load self.old.step ≡ false }
+    pub fn answer_done(&mut self, done: Result<(), Refusal>)
+        requires done { is_load self.old.step ≡ false }
         ensures step { self.new.step ≡ self.old.step }
-        ensures reply { self.new.reply ≡ done_reply stored }
+        ensures reply { self.new.reply ≡ done_reply done }
         ensures access { self.new.access ≡ self.old.access }
     {
-        self.refused = stored.err();
+        self.refused = done.err();
     }
 
     /// What was answered.
@@ -161,8 +181,8 @@ impl Queued {
             return Err(refusal);
         }
         match self.wanted {
-            Some(_count) => Ok(Told::Bytes(&self.bytes[..self.len])),
-            None => Ok(Told::Done),
+            Wanted::Load(_count) => Ok(Told::Bytes(&self.bytes[..self.len])),
+            Wanted::Store | Wanted::Fault(_) => Ok(Told::Done),
         }
     }
 }

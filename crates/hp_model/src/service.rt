@@ -2,7 +2,7 @@
 ghost use Rattle.std.specs.Prelude.{◌≡◌, ◌≤◌, ℕ, length, IfOk};
 ghost use Rattle.hp_model.specs.declared.step.Step.{Step as TheStep};
 ghost use Rattle.hp_model.specs.Profile.{most_bytes};
-ghost use Rattle.hp_model.specs.beside.Accesses.{bytes_reply, done_reply, load_step, store_step};
+ghost use Rattle.hp_model.specs.beside.Accesses.{bytes_reply, done_reply, fault_step, load_step, store_step};
 ghost use Rattle.hp_model.specs.machine.Plan.{Reply as TheReply};
 ghost use Rattle.hp_model.specs.beside.Queue.{DoesAll, DoesOne};
 ghost use Rattle.hp_model.specs.beside.Told.{told_reply};
@@ -11,10 +11,11 @@ ghost use Rattle.hp_model.specs.text.Writing.{IsWithinLimits};
 use crate::answer::Reply;
 use crate::queued::{Doing, Queued};
 use crate::refusal::Refusal;
-use crate::step::Step;
+use crate::step::{Intent, Step};
 use crate::told::Told;
 
-/// Where a load or a store begins: at a byte of a page, which a task's map on a slot shows at an index of its file.
+/// Where a load or a store begins: at a byte of a page, which a task's map on a slot shows at an index of its file. A fault
+/// touches the page, at whatever byte.
 #[derive(Clone, Copy, Debug, PartialEq, Eq)]
 pub struct Access {
     pub task: u64,
@@ -82,13 +83,21 @@ pub trait Service {
         ensures ready { is_ready self.new }
         ensures same_page { page self.new ≡ page self.old };
 
-    /// Whether it is best asked for several loads and stores at once.
+    /// Does the step of a fault of this page.
+    fn fault(&mut self, access: &Access, intent: Intent) -> Result<(), Refusal>
+        requires ready { is_ready self.old }
+        ensures answered { may_answer self.old (fault_step access.now intent)
+            (done_reply result) self.new }
+        ensures ready { is_ready self.new }
+        ensures same_page { page self.new ≡ page self.old };
+
+    /// Whether it is best asked for several loads, stores and faults at once.
     #[inline(always)]
     fn takes_several(&self) -> bool {
         false
     }
 
-    /// Does these loads and stores, one after another, and notes what each was answered.
+    /// Does these loads, stores and faults, one after another, and notes what each was answered.
     fn do_queued(&mut self, queue: &mut [Queued], room: &mut [u8])
         requires ready { is_ready self.old }
         requires room { most_bytes ≤ length room.old }
@@ -101,7 +110,7 @@ pub trait Service {
         }
     }
 
-    /// Does a load or a store that waits, and notes what it was answered.
+    /// Does a load, a store or a fault that waits, and notes what it was answered.
     fn do_one(&mut self, queued: &mut Queued, room: &mut [u8])
         requires ready { is_ready self.old }
         requires room { most_bytes ≤ length room.old }
@@ -117,7 +126,11 @@ pub trait Service {
             }
             Doing::Store { bytes } => {
                 let stored = self.store(&access, bytes);
-                queued.answer_store(stored);
+                queued.answer_done(stored);
+            }
+            Doing::Fault { intent } => {
+                let ended = self.fault(&access, intent);
+                queued.answer_done(ended);
             }
         }
     }

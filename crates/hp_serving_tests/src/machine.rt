@@ -7,7 +7,7 @@ ghost use Rattle.hp_serving.specs.Ended.{IsOfMachine};
 use hp_model::answer::{Counts, Reply};
 use hp_model::refusal::Refusal;
 use hp_model::service::{Access, Service};
-use hp_model::step::Step;
+use hp_model::step::{Intent, Step};
 use hp_model::told::Told;
 use hp_serving::{Closed, Host, Machine, serve_session};
 use hp_wire::ends::{Sink, Source};
@@ -121,6 +121,11 @@ impl<'x, R: Wait> Service for Session<'x, R> {
     }
 
     fn store(&mut self, _access: &Access, _bytes: &[u8]) -> Result<(), Refusal> {
+        self.note();
+        Ok(())
+    }
+
+    fn fault(&mut self, _access: &Access, _intent: Intent) -> Result<(), Refusal> {
         self.note();
         Ok(())
     }

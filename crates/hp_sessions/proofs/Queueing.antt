@@ -1,4 +1,4 @@
--- Loads and stores that their slot takes together.
+-- Loads, stores and faults that their slot takes together.
 use Rattle.std.proofs.Common.{◌≡◌, ℕ, ◌+◌, ◌-◌, ◌<◌, ◌≤◌, Bool, false, List, [], ◌∷◌, ◌++◌, Ok, length, take, drop, refl, sym, ap, subst, ◌∙◌, arith}
 use Rattle.std.proofs.Common.{append-nil, length-drop, take-add, take_all}
 use Rattle.std.proofs.Math.ListN.{drop_of_length-le}
@@ -14,7 +14,7 @@ use Rattle.hp_model.specs.declared.event.SlotEvent.{SlotEvent}
 use Rattle.hp_model.specs.declared.event.SlotEvent.TheVariants as slot
 use Rattle.hp_model.specs.declared.event.TableEvent.TheVariants.{Find}
 use Rattle.hp_model.specs.declared.step.Step.{Step}
-use Rattle.hp_model.specs.declared.step.Step.TheVariants.{Load, Store}
+use Rattle.hp_model.specs.declared.step.Step.TheVariants.{Fault, Load, Store}
 use Rattle.hp_model.specs.machine.Plan.{Reply}
 use Rattle.hp_model.specs.machine.Step.{finding, on_slot}
 use Rattle.hp_events.specs.Queues.{AreAccessesHanded, AreFirstHanded, IsAccessHanded, IsFoundAndHanded}
@@ -46,6 +46,10 @@ module _ (size slots room at : ℕ) (within : at < slots) where
       answered false size (Told was) (Told now) (Store task k number i offset bytes) reply (λ k. cc)
       (subst (λ n. Carries false size (Told was) (finding task (λ home. on_slot slots n (slot.Store task home number i offset bytes))) reply (Told now)) (sym h.0)
       (found_and_answered task (λ home. slot.Store task home number i offset bytes) reply was now h.1))
+  access_answered (Fault task k number i intent) reply was now h =
+      answered false size (Told was) (Told now) (Fault task k number i intent) reply (λ k. cc)
+      (subst (λ n. Carries false size (Told was) (finding task (λ home. on_slot slots n (slot.Fault task home number i intent))) reply (Told now)) (sym h.0)
+      (found_and_answered task (λ home. slot.Fault task home number i intent) reply was now h.1))
   access_answered other reply was now h = absurd h
 
   -- each is answered

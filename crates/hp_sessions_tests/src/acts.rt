@@ -17,7 +17,7 @@ use std::process::Abort;
 pub enum Act {
     /// Task 1 stores into its map of a reserved page.
     Store,
-    /// It does so by a line that came together with others.
+    /// It does so by a line that came together with a fault of that page.
     Queue,
     /// It faults at a hole of which nothing is reserved.
     Fault,
@@ -75,13 +75,14 @@ fn store_queued<P: Parts>(session: &mut Session<P>) -> Reply {
         index: 0,
         offset: 0,
     };
-    let mut queue = [Queued::new()];
+    let mut queue = [Queued::new(), Queued::new()];
     queue[0].set_store(access, &[0x11]);
+    queue[1].set_fault(access, Intent::Write);
     let mut room = [0u8; MOST_BYTES];
     session.do_queued(&mut queue, &mut room);
-    match queue[0].reply() {
-        Ok(_done) => Ok(Answer::Done),
-        Err(refusal) => Err(refusal),
+    match (queue[0].reply(), queue[1].reply()) {
+        (Ok(_stored), Ok(_touched)) => Ok(Answer::Done),
+        (Err(refusal), _) | (_, Err(refusal)) => Err(refusal),
     }
 }
 

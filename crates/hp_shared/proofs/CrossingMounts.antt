@@ -20,6 +20,7 @@ use Rattle.hp_mapping.specs.contracts.sparse.Sparse as Sparse
 use Rattle.hp_mapping.specs.contracts.summed.Summed as Summed
 use Rattle.hp_model.specs.declared.naming.Naming.{Ghosts}
 use Rattle.hp_mount.specs.contracts.mount.Mount as Mount
+use Rattle.hp_file.proofs.Crossing as files
 use Rattle.hp_file.specs.contracts.file.File as File
 use Rattle.hp_file.specs.contracts.file_list.FileList as FileList
 use Rattle.hp_mount_files.specs.contracts.files.Files as Files
@@ -92,7 +93,7 @@ file_send : IsSend File.the_row
 file_send = search (sendable, crosses, mapping_send, inode_send, file_name_send) depth 30
 
 file_list_send : IsSend FileList.the_row
-file_list_send = search (sendable, crosses, file_send) depth 40
+file_list_send = files.file_list_send file_send
 
 tagged_send : (K T : RattleType) → IsSend K → IsSend T → IsSend (Tagged.the_row K T)
 tagged_send K T k t = search (sendable, crosses) depth 30

@@ -2,6 +2,7 @@
 ghost use Rattle.std.specs.Prelude.{◌≡◌, ◌<◌, ◌≤◌, IsTrue, min, vec_len, vec_capacity, OnOk, OnErr};
 
 use std::alloc::AllocError;
+use std::mem;
 
 // Room is much where it is more than so many times what is wanted, and than what so few want.
 const MUCH: usize = 4;
@@ -24,6 +25,12 @@ pub(crate) fn widen<T>(list: &mut Vec<T>, count: usize, most: usize) -> Result<(
         return Ok(());
     }
     let wanted = capacity.saturating_mul(2).max(count).min(most);
+    if list.is_empty() {
+        // (a piece that grows is copied whole, also where nothing was written)
+        let more = Vec::with_capacity(*list.allocator(), wanted)?;
+        mem::replace(list, more).destroy_empty();
+        return Ok(());
+    }
     list.reserve_exact(wanted - list.len())?;
     Ok(())
 }

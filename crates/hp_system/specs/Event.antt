@@ -6,10 +6,11 @@ use Rattle.hp_model.specs.declared.refusal.Refusal.{Refusal}
 use Rattle.hp_model.specs.declared.event.Event.TheVariants.{Slot as OnSlot}
 use Rattle.hp_model.specs.declared.answer.Answer.TheVariants.{Done}
 use Rattle.hp_model.specs.declared.event.SlotEvent.{SlotEvent}
-use Rattle.hp_model.specs.declared.event.SlotEvent.TheVariants.{ExitMaps, ForkMaps, Load, Store}
+use Rattle.hp_model.specs.declared.event.SlotEvent.TheVariants.{ExitMaps, Fault, ForkMaps, Load, Store}
 use Rattle.hp_model.specs.declared.section.PoolAnswer.{PoolAnswer}
 use Rattle.hp_model.specs.declared.section.Section.{Section}
 use Rattle.hp_model.specs.declared.service.Access.{Access}
+use Rattle.hp_model.specs.declared.step.Intent.{Intent}
 use Rattle.hp_model.specs.files.File.{Mount}
 use Rattle.hp_model.specs.machine.Event.{IsEvent, IsFresh, has_maps_of}
 use Rattle.hp_model.specs.threads.LocalRun.{ThroughDoor}
@@ -80,9 +81,12 @@ abbrev pub AllGo : List Slot → (p q : Pool) → Type 0
 AllGo [] p q = q ≡ p
 AllGo (slot ∷ slots) p q = (r : Pool) × AllGo slots p r × SlotGoes slot r q
 
--- the event of a load of so many bytes and of a store, of a task with that home
+-- the event of a load of so many bytes, of a store and of a fault, of a task with that home
 abbrev pub load_event : Access → (count home : ℕ) → SlotEvent
 load_event a count home = Load a.task home a.map a.index a.offset count
 
 abbrev pub store_event : Access → List ℕ → (home : ℕ) → SlotEvent
 store_event a bytes home = Store a.task home a.map a.index a.offset bytes
+
+abbrev pub fault_event : Access → Intent → (home : ℕ) → SlotEvent
+fault_event a intent home = Fault a.task home a.map a.index intent

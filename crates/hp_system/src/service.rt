@@ -5,7 +5,7 @@ use hp_model::answer::Reply;
 use hp_model::naming::Naming;
 use hp_model::refusal::Refusal;
 use hp_model::service::{Access, Service};
-use hp_model::step::Step;
+use hp_model::step::{Intent, Step};
 use hp_model::told::Told;
 
 impl<N: Naming> Service for System<N> {
@@ -42,6 +42,10 @@ impl<N: Naming> Service for System<N> {
 
     fn store(&mut self, access: &Access, bytes: &[u8]) -> Result<(), Refusal> {
         System::store(self, access, bytes)
+    }
+
+    fn fault(&mut self, access: &Access, intent: Intent) -> Result<(), Refusal> {
+        System::fault(self, access, intent)
     }
 
     fn page_bytes(&self) -> u64 {

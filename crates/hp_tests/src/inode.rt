@@ -139,6 +139,39 @@ fn every_second_page_is_taken(rt: HostRuntime) -> Result<(), Fail> {
     Ok(ended?)
 }
 
+// So many indices of a range have a page.
+fn has_pages<R: Abort>(rt: &R, inode: &Inode, a: u64, b: u64, count: u64) {
+    assert!(rt; b <= inode.len());
+    same!(rt; inode.pages_within(a, b), count);
+}
+
+// Pages are counted in a part of a word, in a full one, in many, on both sides of a block's end, and where there are none.
+fn counts_in_parts<R: Abort>(rt: &R, inode: &mut Inode) -> Result<(), AllocError> {
+    has_pages(rt, inode, 0, 200_000, 0);
+    reserve(rt, inode, 65_436, 65_736)?;
+    for i in 65_500..65_636u32 {
+        fill(rt, inode, u64::from(i), i);
+    }
+    has_pages(rt, inode, 0, 65_500, 0);
+    has_pages(rt, inode, 65_501, 65_503, 2);
+    has_pages(rt, inode, 65_490, 65_536, 36);
+    has_pages(rt, inode, 65_536, 65_600, 64);
+    has_pages(rt, inode, 65_537, 65_600, 63);
+    has_pages(rt, inode, 65_510, 65_630, 120);
+    has_pages(rt, inode, 0, 200_000, 136);
+    has_pages(rt, inode, 140_000, 140_010, 0);
+    has_pages(rt, inode, 65_600, 65_500, 0);
+    Ok(())
+}
+
+#[test]
+fn pages_are_counted_in_parts(rt: HostRuntime) -> Result<(), Fail> {
+    let mut inode = sized(&rt, rt.alloc(), 200_000);
+    let ended = counts_in_parts(&rt, &mut inode);
+    drop(inode);
+    Ok(ended?)
+}
+
 // Entries go in the middle of full words; then some on both sides of that hole; then all, past the last that there was.
 fn drops_in_parts<R: Abort>(rt: &R, inode: &mut Inode) -> Result<(), AllocError> {
     reserve(rt, inode, 0, 12800)?;

@@ -1,4 +1,4 @@
--- Loads and stores that were read and wait.
+-- Loads, stores and faults that were read and wait.
 use Rattle.std.specs.Prelude.{◌≡◌, ℕ, List, [], ◌∷◌, ◌++◌, Ok, Option}
 use Rattle.std.specs.List.{flat_map}
 use Rattle.hp_model.specs.beside.Queue.{QueuedView}

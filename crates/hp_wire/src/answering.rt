@@ -1,7 +1,7 @@
 //! The answers to lines.
 ghost use Rattle.std.specs.Prelude.{◌≡◌, ◌+◌, ◌<◌, ◌^◌, [], ◌∷◌, length, IfErr, IfOk, IsOk, OnOk, false};
 ghost use Rattle.hp_model.specs.text.Lines.{ended, ended_lines};
-ghost use Rattle.hp_model.specs.text.Reading.{load_of, step_of, step_of_command, store_of};
+ghost use Rattle.hp_model.specs.text.Reading.{fault_of, load_of, step_of, step_of_command, store_of};
 ghost use Rattle.hp_wire.specs.Added.{AddsAnswer, AddsReply};
 ghost use Rattle.hp_wire.specs.Answered.{AnswersAll, AnswersSome, RunsAll, RunsSome};
 ghost use Rattle.hp_wire.specs.Sent.{Writes, WritesFront};
@@ -20,7 +20,7 @@ use hp_model::service::Service;
 use hp_model::step::Step;
 use hp_model::told::Told;
 use hp_text::pieces::first_long_piece;
-use hp_wire_lines::accesses::{loading, storing};
+use hp_wire_lines::accesses::{faulting, loading, storing};
 use hp_wire_lines::reading::{LineKind, kind_of_line, step_of_word};
 use hp_wire_lines::words::Words;
 
@@ -127,6 +127,7 @@ impl Replies {
         match kind_of_line(line) {
             Ok(LineKind::Load(words)) => self.add_load(words, room, service),
             Ok(LineKind::Store(words)) => self.add_store(words, room, service),
+            Ok(LineKind::Fault(words)) => self.add_fault(words, service),
             Ok(LineKind::Other { word, mut words }) => {
                 self.add_other(word, &mut words, room, service)
             }
@@ -164,7 +165,25 @@ impl Replies {
         match storing(words, room) {
             Ok((access, bytes)) => {
                 let stored = service.store(&access, bytes);
-                self.add_stored(stored);
+                self.add_ended(stored);
+            }
+            Err(refusal) => self.add_refusal(refusal),
+        }
+    }
+
+    // Does the fault of these words.
+    #[inline(never)]
+    fn add_fault<S: Service>(&mut self, words: Words<'_>, service: &mut S)
+        requires ready { S.is_ready service.old }
+        requires room { HasRoomForOne self.old }
+        ensures answered { AddsReply S.may_answer (fault_of words.entry)
+            service.old service.new self.old self.new }
+        ensures ready { S.is_ready service.new }
+    {
+        match faulting(words) {
+            Ok((access, intent)) => {
+                let ended = service.fault(&access, intent);
+                self.add_ended(ended);
             }
             Err(refusal) => self.add_refusal(refusal),
         }

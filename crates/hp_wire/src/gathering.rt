@@ -1,4 +1,4 @@
-//! Answers to lines of which loads and stores are done several at a time.
+//! Answers to lines of which loads, stores and faults are done several at a time.
 ghost use Rattle.std.specs.Prelude.{◌≡◌, ◌<◌, ◌++◌, ◌∷◌, [], List, length, IfErr, IfOk, IsOk, OnOk};
 ghost use Rattle.hp_model.specs.text.Lines.{Line, ended, ended_lines};
 ghost use Rattle.hp_model.specs.text.Writing.{line_of};
@@ -47,7 +47,7 @@ impl Replies {
         self.answer_lines(bytes, service, writer)
     }
 
-    // The same, where loads and stores wait in the queue for those behind them, and none waits at the end.
+    // The same, where loads, stores and faults wait in the queue for those behind them, and none waits at the end.
     fn answer_together<W: Sink, S: Service>(
         &mut self,
         bytes: &[u8],
@@ -172,7 +172,7 @@ impl Replies {
         Ok(())
     }
 
-    // Adds the reply of a load or a store that was done.
+    // Adds the reply of a load, a store or a fault that was done.
     #[inline(always)]
     fn add_done(&mut self, queued: &Queued)
         requires { HasRoomForOne self.old }
@@ -181,7 +181,7 @@ impl Replies {
     {
         match queued.reply() {
             Ok(Told::Bytes(bytes)) => self.add_loaded(Ok(bytes)),
-            Ok(Told::Done) => self.add_stored(Ok(())),
+            Ok(Told::Done) => self.add_ended(Ok(())),
             told => self.add(&told),
         }
     }

@@ -1,6 +1,6 @@
-//! Loads and stores that were read and wait.
+//! Loads, stores and faults that were read and wait.
 ghost use Rattle.std.specs.Prelude.{◌≡◌, ◌≤◌, ◌<◌, [], ◌∷◌, ◌++◌, length, true, false};
-ghost use Rattle.hp_model.specs.beside.Accesses.{load_step, store_step};
+ghost use Rattle.hp_model.specs.beside.Accesses.{fault_step, load_step, store_step};
 ghost use Rattle.hp_model.specs.beside.Queue.{DoesAll, QueuedView};
 ghost use Rattle.hp_model.specs.Profile.{most_bytes};
 ghost use Rattle.hp_model.specs.text.Lines.{ended};
@@ -9,15 +9,16 @@ ghost use Rattle.hp_wire.specs.Queues.{IsAdded, IsLineTaken};
 use hp_model::profile::MOST_LINE_BYTES;
 use hp_model::queued::{QUEUED_BYTES, Queued};
 use hp_model::service::{Access, Service};
-use hp_wire_lines::accesses::{loading, storing};
+use hp_model::step::Intent;
+use hp_wire_lines::accesses::{faulting, loading, storing};
 use hp_wire_lines::reading::{LineKind, kind_of_line};
 use std::array;
 use std::marker::Model;
 
-// How many loads and stores wait at most: nobody else waits long for a slot that does as many at once.
+// How many loads, stores and faults wait at most: nobody else waits long for a slot that does as many at once.
 const MOST: usize = 16;
 
-/// Loads and stores that wait, in the order of their lines.
+/// Loads, stores and faults that wait, in the order of their lines.
 #[derive(Drop)]
 pub struct Queue {
     items: [Queued; MOST],
@@ -81,7 +82,7 @@ impl Queue {
         service.do_queued(&mut items[..*count], room);
     }
 
-    /// Takes a line that is a load or a store, and says whether it is one.
+    /// Takes a line that is a load, a store or a fault, and says whether it is one.
     #[inline(always)]
     pub fn take(&mut self, line: &[u8], room: &mut [u8; 512]) -> bool
         requires { length self.old < 16 }
@@ -106,6 +107,13 @@ impl Queue {
                 }
                 _ => false,
             },
+            Ok(LineKind::Fault(words)) => match faulting(words) {
+                Ok((access, intent)) => {
+                    self.add_fault(access, intent);
+                    true
+                }
+                Err(_refusal) => false,
+            },
             _ => false,
         }
     }
@@ -126,6 +134,15 @@ impl Queue {
         ensures { IsAdded (store_step access bytes.now) self.old self.new }
     {
         self.items[self.count].set_store(access, bytes);
+        self.count += 1;
+    }
+
+    #[inline(always)]
+    fn add_fault(&mut self, access: Access, intent: Intent)
+        requires { length self.old < 16 }
+        ensures { IsAdded (fault_step access intent) self.old self.new }
+    {
+        self.items[self.count].set_fault(access, intent);
         self.count += 1;
     }
 }

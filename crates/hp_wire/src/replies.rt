@@ -81,14 +81,14 @@ impl Replies {
         line_of_load(loaded, &mut self.waiting);
     }
 
-    /// Adds the text of what a store answered.
+    /// Adds the text of what a store or a fault answered.
     #[inline(always)]
-    pub fn add_stored(&mut self, stored: Result<(), Refusal>)
+    pub fn add_ended(&mut self, ended: Result<(), Refusal>)
         requires room { HasRoomForOne self.old }
         ensures page { self.new.page ≡ self.old.page }
-        ensures text { self.new.text ≡ self.old.text ++ line_of self.old.page (done_reply stored) }
+        ensures text { self.new.text ≡ self.old.text ++ line_of self.old.page (done_reply ended) }
     {
-        line_of_store(stored, &mut self.waiting);
+        line_of_store(ended, &mut self.waiting);
     }
 
     /// Adds the text of a refusal.

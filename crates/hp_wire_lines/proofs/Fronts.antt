@@ -1,7 +1,7 @@
 -- Pieces that are read from the front of a line on.
 use Rattle.std.proofs.Common.{◌≡◌, ℕ, List, [], ◌∷◌, ◌++◌, ◌+◌, ◌-◌, ◌*◌, ◌^◌, ◌<◌, ◌≤◌, length, refl}
 use Rattle.std.proofs.Common.{sym, ◌∙◌, ap, arith, Bool, true, false, ◌&&◌, ◌==◌, nat_lt, nat_le, if◌then◌else◌, Option, Some}
-use Rattle.std.proofs.Common.{None, Result, Ok, Err, drop, get_or, add-one, drop-cons, drop-drop, drop_of_length-le, append-nil, length-append, length-drop}
+use Rattle.std.proofs.Common.{None, Result, Ok, Err, drop, get_or, add-one, drop-cons, drop-drop, append-nil, length-append, length-drop}
 use Rattle.std.proofs.Math.Nat.{pow-suc, pow-le-pow_right}
 use Rattle.std.proofs.Math.Seq.{drop-append-add}
 use Rattle.std.proofs.lemmas.Bool.Decides.{nat_tests}

@@ -3,10 +3,10 @@ use Rattle.std.specs.Prelude.{ℕ, List, Option, Some, None, Result, Err}
 use Rattle.hp_model.specs.declared.refusal.Refusal.{Refusal}
 use Rattle.hp_model.specs.declared.refusal.Refusal.TheVariants.{BadLine}
 use Rattle.hp_model.specs.declared.step.Step.{Step}
-use Rattle.hp_model.specs.text.Reading.{connect_of, attach_of, fork_of, exit_of, map_of, anon_of, unmap_of, fault_of, mount_of, remount_of, umount_of, create_of}
+use Rattle.hp_model.specs.text.Reading.{connect_of, attach_of, fork_of, exit_of, map_of, anon_of, unmap_of, mount_of, remount_of, umount_of, create_of}
 use Rattle.hp_model.specs.text.Reading.{unlink_of, truncate_of, punch_of, preallocate_of, read_of, ls_of, stat_of, df_of, nr_of, overcommit_of, meminfo_of, nodes_of}
 use Rattle.hp_wire_lines.specs.declared.command.Command.{Command}
-use Rattle.hp_wire_lines.specs.declared.command.Command.TheVariants.{Connect, Attach, Fork, Exit, Map, Anon, Unmap, Fault, Mount, Remount, Umount, Create}
+use Rattle.hp_wire_lines.specs.declared.command.Command.TheVariants.{Connect, Attach, Fork, Exit, Map, Anon, Unmap, Mount, Remount, Umount, Create}
 use Rattle.hp_wire_lines.specs.declared.command.Command.TheVariants.{Unlink, Truncate, Punch, Preallocate, Read, Ls, Stat, Df, Nr, Overcommit, Meminfo, Nodes}
 
 -- by the words after it. With no command the line is bad
@@ -18,7 +18,6 @@ step_as (Some Exit) words = exit_of words
 step_as (Some Map) words = map_of words
 step_as (Some Anon) words = anon_of words
 step_as (Some Unmap) words = unmap_of words
-step_as (Some Fault) words = fault_of words
 step_as (Some Mount) words = mount_of words
 step_as (Some Remount) words = remount_of words
 step_as (Some Umount) words = umount_of words

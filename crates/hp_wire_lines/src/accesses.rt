@@ -1,12 +1,13 @@
-//! Loads and stores, by what stands after the command's word. They are read with no step made of them.
+//! Loads, stores and faults, by what stands after the command's word. They are read with no step made of them.
 ghost use Rattle.std.specs.Prelude.{◌≡◌, length};
-ghost use Rattle.hp_model.specs.text.Reading.{load_of, store_of};
-ghost use Rattle.hp_wire_lines.specs.Accesses.{read_load, read_store};
+ghost use Rattle.hp_model.specs.text.Reading.{fault_of, load_of, store_of};
+ghost use Rattle.hp_wire_lines.specs.Accesses.{read_fault, read_load, read_store};
 
-use crate::parts::last_hex;
+use crate::parts::{intent, last_hex};
 use crate::words::Words;
 use hp_model::refusal::Refusal;
 use hp_model::service::Access;
+use hp_model::step::Intent;
 
 /// Reads a load and its count of bytes, or answers `BadLine`.
 #[tactic(auto, unfolding(hp_model::specs::text::Reading::load_of))]
@@ -52,4 +53,26 @@ pub fn storing<'a>(mut words: Words<'_>, room: &'a mut [u8]) -> Result<(Access, 
         offset,
     };
     Ok((access, bytes))
+}
+
+/// Reads a fault and its intent, or answers `BadLine`.
+#[tactic(auto, unfolding(hp_model::specs::text::Reading::fault_of))]
+#[inline(always)]
+pub fn faulting(mut words: Words<'_>) -> Result<(Access, Intent), Refusal>
+    ensures { read_fault result ≡ fault_of words.entry }
+{
+    let task = words.number()?;
+    let slot = words.number()?;
+    let map = words.number()?;
+    let index = words.number()?;
+    let intent = intent(&mut words)?;
+    words.end()?;
+    let access = Access {
+        task,
+        slot,
+        map,
+        index,
+        offset: 0,
+    };
+    Ok((access, intent))
 }

@@ -6,7 +6,7 @@ ghost use Rattle.hp_wire_lines.specs.Commands.{step_as};
 
 use crate::known::is_known;
 
-/// What the first word of a line asks for that is no load or store.
+/// What the first word of a line asks for that is no load, store or fault.
 #[derive(Clone, Copy)]
 pub enum Command {
     Connect,
@@ -16,7 +16,6 @@ pub enum Command {
     Map,
     Anon,
     Unmap,
-    Fault,
     Mount,
     Remount,
     Umount,
@@ -35,7 +34,7 @@ pub enum Command {
     Nodes,
 }
 
-/// The command of a word that is not that of a load or a store, if it is one.
+/// The command of a word that is not that of a load, a store or a fault, if it is one.
 #[tactic(auto, unfolding(hp_model::specs::text::Reading::step_of_command))]
 pub fn command_of(word: &[u8]) -> Option<Command>
     requires { is_access word.now ≡ false }
@@ -55,8 +54,6 @@ pub fn command_of(word: &[u8]) -> Option<Command>
         Some(Command::Anon)
     } else if is_known(word, b"unmap") {
         Some(Command::Unmap)
-    } else if is_known(word, b"fault") {
-        Some(Command::Fault)
     } else {
         slot_command(word)
     }

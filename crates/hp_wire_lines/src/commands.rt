@@ -2,8 +2,8 @@
 ghost use Rattle.std.specs.Prelude.{◌≡◌, length};
 ghost use Rattle.hp_model.specs.text.Reading.{anon_of, attach_of, connect_of, create_of, df_of, exit_of, fault_of, fork_of, load_of, ls_of, map_of, meminfo_of, mount_of, nodes_of, nr_of, overcommit_of, preallocate_of, punch_of, read_of, remount_of, stat_of, store_of, truncate_of, umount_of, unlink_of, unmap_of};
 
-use crate::accesses::{loading, storing};
-use crate::parts::{intent, reserving, sharing, word};
+use crate::accesses::{faulting, loading, storing};
+use crate::parts::{reserving, sharing, word};
 use crate::words::Words;
 use hp_model::lent::Lent;
 use hp_model::refusal::Refusal;
@@ -105,16 +105,17 @@ pub fn unmap(words: &mut Words<'_>) -> Result<Step<'static>, Refusal>
     })
 }
 
-#[tactic(auto, unfolding(hp_model::specs::text::Reading::fault_of))]
-pub fn fault(words: &mut Words<'_>) -> Result<Step<'static>, Refusal>
-    ensures { result ≡ fault_of words.old }
+pub fn fault(words: Words<'_>) -> Result<Step<'static>, Refusal>
+    ensures { result ≡ fault_of words.entry }
 {
-    let task = words.number()?;
-    let slot = words.number()?;
-    let map = words.number()?;
-    let index = words.number()?;
-    let intent = intent(words)?;
-    words.end()?;
+    let (access, intent) = faulting(words)?;
+    let Access {
+        task,
+        slot,
+        map,
+        index,
+        offset: _,
+    } = access;
     Ok(Step::Fault {
         task,
         slot,

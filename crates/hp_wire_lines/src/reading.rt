@@ -14,15 +14,17 @@ use crate::words::Words;
 use hp_model::refusal::Refusal;
 use hp_model::step::Step;
 
-/// A load or a store, by the words after the line's first, or a line of another word.
+/// A load, a store or a fault, by the words after the line's first, or a line of another word.
 #[derive(Drop)]
 pub enum LineKind<'a> {
     Load(Words<'a>),
     Store(Words<'a>),
+    Fault(Words<'a>),
     Other { word: &'a [u8], words: Words<'a> },
 }
 
-/// What a line's first word asks for. The words of a load or a store can be read with no step made of them.
+/// What a line's first word asks for. The words of a load, a store or a fault can be read with no step made of
+/// them.
 #[tactic(auto, unfolding(hp_model::specs::text::Reading::step_of_bytes, hp_model::specs::text::Reading::step_of_command))]
 #[inline(always)]
 pub fn kind_of_line<'a>(line: &'a [u8]) -> Result<LineKind<'a>, Refusal>
@@ -35,6 +37,8 @@ pub fn kind_of_line<'a>(line: &'a [u8]) -> Result<LineKind<'a>, Refusal>
         Ok(LineKind::Load(words))
     } else if is_known(word, b"store") {
         Ok(LineKind::Store(words))
+    } else if is_known(word, b"fault") {
+        Ok(LineKind::Fault(words))
     } else {
         Ok(LineKind::Other { word, words })
     }
@@ -50,11 +54,12 @@ pub fn step_of_line<'a>(line: &'a [u8], room: &'a mut [u8]) -> Result<Step<'a>, 
     match kind_of_line(line)? {
         LineKind::Load(words) => load(words),
         LineKind::Store(words) => store(words, room),
+        LineKind::Fault(words) => fault(words),
         LineKind::Other { word, mut words } => step_of_word(word, &mut words),
     }
 }
 
-/// The step of a line's first word, which is not that of a load or a store, and the words after it, or `BadLine`.
+/// The step of a line's first word, which is not that of a load, a store or a fault, and the words after it, or `BadLine`.
 #[inline(always)]
 pub fn step_of_word<'a>(word: &[u8], words: &mut Words<'a>) -> Result<Step<'a>, Refusal>
     requires { is_access word.now ≡ false }
@@ -70,7 +75,6 @@ pub fn step_of_word<'a>(word: &[u8], words: &mut Words<'a>) -> Result<Step<'a>, 
         Some(Command::Map) => map(words),
         Some(Command::Anon) => anon(words),
         Some(Command::Unmap) => unmap(words),
-        Some(Command::Fault) => fault(words),
         Some(Command::Mount) => mount(words),
         Some(Command::Remount) => remount(words),
         Some(Command::Umount) => umount(words),

@@ -5,7 +5,7 @@ ghost use Rattle.hp_model.specs.text.Writing.{IsWithinLimits};
 use hp_model::answer::{Counts, NodeCount, Reply};
 use hp_model::refusal::Refusal;
 use hp_model::service::{Access, Service};
-use hp_model::step::Step;
+use hp_model::step::{Intent, Step};
 use hp_model::told::Told;
 
 /// Answers by the step alone.
@@ -95,6 +95,11 @@ impl Service for Sample {
     fn store(&mut self, _access: &Access, _bytes: &[u8]) -> Result<(), Refusal> {
         self.calls = self.calls.saturating_add(1);
         Ok(())
+    }
+
+    fn fault(&mut self, _access: &Access, _intent: Intent) -> Result<(), Refusal> {
+        self.calls = self.calls.saturating_add(1);
+        Err(Refusal::NoSuchSlot)
     }
 
     fn page_bytes(&self) -> u64 {

@@ -37,14 +37,8 @@ fn lacking(inode: &Inode, a: u64, b: u64) -> u64
     ensures { result ≡ count_by lacks_page (part a b (at_least b inode.now)) }
 {
     let end = inode.len().min(b);
-    let mut count = b - a;
-    let mut at = a;
-    while at < end {
-        let next = word_end(at, end);
-        count -= inode.pages_in_word(at, next);
-        at = next;
-    }
-    count
+    let paged = inode.pages_within(a, end);
+    b - a - paged
 }
 
 // Fills an empty batch through the door.
@@ -73,7 +67,7 @@ fn fill<N: Naming, D: PoolDoor<N>>(
 }
 
 impl File {
-    /// How many indices from `a` up to `b` have no page. Past the end none has. It takes a step for each word of 64.
+    /// How many indices from `a` up to `b` have no page. Past the end none has. It takes a step for each word of 64 at most.
     pub fn lacking(&self, a: u64, b: u64) -> u64
         requires { a ≤ b }
         ensures { result ≡ count_by lacks_page (part a b (at_least b self.now.cells)) }

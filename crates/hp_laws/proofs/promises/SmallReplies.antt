@@ -1,6 +1,6 @@
 -- What each step of a settled machine answers is within the limits of a reply's text.
-use Rattle.std.proofs.Common.{◌≡◌, subst, ℕ, suc, ◌+◌, ◌*◌, ◌^◌, ◌<◌, ◌≤◌, ◌||◌, ◌&&◌, ◌==◌, ◌∙◌, Bool, true, false, not, Option, None, Some}
-use Rattle.std.proofs.Common.{is_some, Ok, Err, List, [], ◌∷◌, ◌++◌, drop, replicate, map, length, refl, sym, ap, arith, if◌then◌else◌, cond, nat_lt, nat_le}
+use Rattle.std.proofs.Common.{◌≡◌, subst, ℕ, suc, ◌+◌, ◌*◌, ◌^◌, ◌<◌, ◌≤◌, ◌||◌, ◌==◌, ◌∙◌, Bool, true, false, not, Option, None, Some}
+use Rattle.std.proofs.Common.{is_some, Ok, Err, List, [], ◌∷◌, ◌++◌, drop, replicate, map, length, refl, sym, ap, arith, cond, nat_lt, nat_le}
 use Rattle.std.specs.List.{All, filter, position_or_len, range_with_len}
 use Rattle.std.proofs.lemmas.Bool.{cond_both, leb-false, ltb-false, or_parts}
 use Rattle.std.proofs.lemmas.List.{length-map}
@@ -13,57 +13,50 @@ use Rattle.hp_model.specs.declared.event.Event.TheVariants.{Tasks, Slot as OnSlo
 use Rattle.hp_model.specs.declared.event.PoolEvent.{PoolEvent}
 use Rattle.hp_model.specs.declared.event.TableEvent.{TableEvent}
 use Rattle.hp_model.specs.declared.answer.NodeCount.{NodeCount}
-use Rattle.hp_model.specs.declared.cell.Cell.{Cell}
-use Rattle.hp_model.specs.declared.cell.Cell.TheVariants.{Hole, Entered, Present}
-use Rattle.hp_model.specs.declared.place.Place.{Place}
-use Rattle.hp_model.specs.declared.place.Place.TheVariants.{Gone, Live}
-use Rattle.hp_model.specs.declared.section.Section.TheVariants.{GrantPage}
 use Rattle.hp_model.specs.declared.event.PoolEvent.TheVariants as pool
 use Rattle.hp_model.specs.declared.event.SlotEvent.{SlotEvent}
 use Rattle.hp_model.specs.declared.event.SlotEvent.TheVariants as slot
 use Rattle.hp_model.specs.declared.event.TableEvent.TheVariants as table
 use Rattle.hp_model.specs.declared.node.NodeRow.{NodeRow}
 use Rattle.hp_model.specs.declared.refusal.Refusal.{Refusal}
-use Rattle.hp_model.specs.declared.refusal.Refusal.TheVariants.{MountFull, NoPages, OutOfMemory, OutOfRange, CrossesPage, TooMany, BeyondEnd, NoSuchMap}
+use Rattle.hp_model.specs.declared.refusal.Refusal.TheVariants.{OutOfMemory, OutOfRange, CrossesPage, TooMany, BeyondEnd, NoSuchMap}
 use Rattle.hp_model.specs.declared.refusal.Refusal.TheVariants.{NoSuchFile, NoSuchNode, TaskExists, BadName, FileExists, NoInodes, Busy}
-use Rattle.hp_model.specs.declared.step.Intent.{Intent}
 use Rattle.hp_model.specs.declared.step.Intent.TheVariants.{Read, Write}
 use Rattle.hp_model.specs.declared.step.Reserving.{Reserving}
 use Rattle.hp_model.specs.declared.step.Sharing.{Sharing}
 use Rattle.hp_model.specs.declared.step.Step.{Step}
 use Rattle.hp_model.specs.declared.step.Step.TheVariants.{Exit, Fork}
-use Rattle.hp_model.specs.files.Access.{access, new_copy, private_access, shared_access}
-use Rattle.hp_model.specs.files.CopyWrite.{copy_write, is_held_once, taken_back}
+use Rattle.hp_model.specs.files.Access.{access}
 use Rattle.hp_model.specs.machine.Event.{IsEvent, has_maps_of}
 use Rattle.hp_model.specs.files.Fork.{forked}
 use Rattle.hp_model.specs.files.GiveBack.{punched, truncated, unlinked, unmapped_from, without_task}
-use Rattle.hp_model.specs.files.File.{File, Mount, cell_at, has_page, maps_of, new_file, with_file}
-use Rattle.hp_model.specs.pool.Grant.{is_full, is_over, rise}
+use Rattle.hp_model.specs.files.File.{File, Mount, cell_at, maps_of, new_file, with_file}
+use Rattle.hp_model.specs.pool.Grant.{is_over}
 use Rattle.hp_model.specs.Lists.{is_among}
 use Rattle.hp_model.specs.machine.Machine.{pool_of, rows_of}
 use Rattle.hp_model.specs.files.MakeMap.{asked, mapped, next_number, numbers_of, with_new}
-use Rattle.hp_model.specs.files.Mapping.{is_map, is_of, is_shared, place_at}
+use Rattle.hp_model.specs.files.Mapping.{is_map, is_of}
 use Rattle.hp_model.specs.pool.NodeRows.{IsRow, total_of, frames_of}
-use Rattle.hp_model.specs.files.Page.{Copy, Page}
 use Rattle.hp_model.specs.pool.PoolCounts.{Pool}
-use Rattle.hp_model.specs.machine.Plan.{Ask, grant_page, when_granted, with_value, Reply, Slot, Outcome, Refused, Answered, Plan, Finish, Choice, unless, continued, grant, gives}
+use Rattle.hp_model.specs.machine.Plan.{with_value, Reply, Slot, Outcome, Refused, Answered, Plan, Finish, Choice, unless, continued, grant, gives}
 use Rattle.hp_model.specs.Profile.{most_overcommit, most_bytes, most_file_pages, most_files, most_map_pages, most_maps, most_frames, most_frames_in_all}
 use Rattle.hp_model.specs.machine.Promises.{is_usage}
 use Rattle.hp_model.specs.pool.Resize.{no_count, node_count, pool_event}
 use Rattle.hp_model.specs.machine.Settled.{IsSettledState}
-use Rattle.hp_model.specs.machine.SlotEvent.{anon_tests, edited, fault, fault_tests, fork_tests, is_bad_range, on_mount, punch, read, preallocate}
+use Rattle.hp_model.specs.machine.SlotEvent.{anon_tests, edited, fault, fork_tests, is_bad_range, on_mount, punch, read, preallocate}
 use Rattle.hp_model.specs.machine.SlotEvent.{truncate, unlink, unmap, are_too_many_maps, byte_access, bytes_answer, file_named, has_maps, is_beyond}
 use Rattle.hp_model.specs.machine.SlotEvent.{is_name, is_new_task_over, is_unmapped, load, map_file, slot_event, store}
-use Rattle.hp_model.specs.files.Spot.{Spot, again, copied, spot, written}
+use Rattle.hp_model.specs.files.Spot.{Spot, again, spot, written}
 use Rattle.hp_model.specs.machine.State.{Node, State, slot_at}
 use Rattle.hp_model.specs.machine.Step.{Answer_with, Do, IsScript, IsStep, Script, Where_mapped, exit_slots, fork_slots, or_undone, script, when_done}
 use Rattle.hp_model.specs.machine.Table.{Table, added, home_of, is_crowded, is_known, or_refused, removed, table_event, when_known}
 use Rattle.hp_model.specs.files.Value.{shown, value}
 use Rattle.hp_model.specs.text.Writing.{IsWithinLimits}
 use Rattle.hp_laws.proofs.counts.MountMoves.{IsSpot, spot_is}
-use Rattle.hp_laws.proofs.steps.Outcomes.{either_way, Always, always_if, outcome_if, always_test, always_then, always_weaker, event_ends, reply_of}
+use Rattle.hp_laws.proofs.steps.Outcomes.{either_way, Always, always_test, always_then, always_weaker, event_ends, reply_of}
 use Rattle.hp_laws.proofs.accesses.Shown.{On, Same, Result, on_weaker, read_same, write_done}
 use Rattle.hp_laws.proofs.steps.Whole.{by_event, is_whole, step_of}
+use Rattle.hp_laws.proofs.accesses.EndsDone.{fault_done}
 use Rattle.hp_laws.proofs.accesses.SlotShows.{always_gives, always_grant, always_mount, always_remount, always_unless, always_value, bytes_on, always_preallocate}
 
 abbrev pub Small : Outcome → Type 0
@@ -230,44 +223,6 @@ anon_small size k c m task home n sharing reserving =
     both_parts false true c e = cc
     both_parts false false c e = refl
 
--- an access is answered `Done`
-granted_small : (b : Bool) (o : Outcome) → Small o → Small (if b then o else Refused NoPages)
-granted_small true o h = h
-granted_small false o h = tt
-
-module _ (c : Choice) (size : ℕ) (m : Mount) (s : Spot) (home i : ℕ) where
-  page_small : (f : ℕ → Outcome) → ((node : ℕ) → Small (f node)) → Always Small (grant_page c m home f)
-  page_small f h =
-      always_unless Small (λ r. tt) ((is_full m 1, MountFull) ∷ (c.refused, OutOfMemory) ∷ []) (Ask (λ nr. GrantPage home (rise m 1)) (λ a. when_granted (f a.node) a))
-      (λ a. granted_small a.granted (f a.node) (h a.node))
-
-  shared_small : (cell : Cell Page) → Always Small (shared_access c size m s home i cell)
-  shared_small (Present page) = tt
-  shared_small Entered = λ a. tt
-  shared_small Hole = page_small _ (λ node. tt)
-
-  copy_small : (consumed : Bool) → Always Small (new_copy c size m s home i consumed)
-  copy_small consumed = always_if Small (s.map.owner && not consumed) _ _ (λ e a. tt) (λ e. page_small _ (λ node. tt))
-
-  write_small : (consumed : Bool) (copy : Copy) → Always Small (copy_write c m s home i consumed copy)
-  write_small consumed copy =
-      let fresh : ℕ → Outcome = λ node. copied m s i consumed (record { stamp = c.stamp; page = record { node = node; bytes = copy.page.bytes } }) in
-      always_if Small (is_held_once s.file copy.stamp) _ _ (λ e. tt)
-      (λ e. always_if Small s.map.owner _ _
-      (λ owner. always_if Small (is_full m 1) _ _ (λ full. tt) (λ room a. outcome_if Small a.granted (fresh a.node) (taken_back m s copy.stamp) tt tt))
-      (λ other. page_small _ (λ node. tt)))
-
-  private_small : (p : Place Copy) (intent : Intent) → Always Small (private_access c size m s home i p intent)
-  private_small Gone intent = tt
-  private_small (Live consumed (Some copy)) Read = tt
-  private_small (Live consumed (Some copy)) Write = write_small consumed copy
-  private_small (Live consumed None) Read =
-      always_if Small s.map.unmapped _ _ (λ e. tt) (λ e. always_if Small (has_page (cell_at s.file i)) _ _ (λ e. tt) (λ e. copy_small consumed))
-  private_small (Live consumed None) Write = always_if Small s.map.unmapped _ _ (λ e. tt) (λ e. copy_small consumed)
-
-  access_small : (intent : Intent) → Always Small (access c size m s home i intent)
-  access_small intent = always_if Small (is_shared s.map.sharing) _ _ (λ e. shared_small (cell_at s.file i)) (λ e. private_small (place_at s.map i) intent)
-
 read_small : (size : ℕ) (m : Mount) (i offset count : ℕ) (f : ℕ × File) → Always Small (read size m i offset count f)
 read_small size m i offset count f =
     let rest : Plan = Finish (Answered (bytes_answer offset count (shown size (cell_at f.1 i))) (Some m)) in
@@ -312,7 +267,7 @@ module _ (size k : ℕ) (c : Choice) (m : Mount) where
   mounted_small (slot.Unmap task number a b) e =
       of_map task number (unmap m task number a b) (λ s. tested ((is_bad_range a b, OutOfRange) ∷ []) _ (done_small (Some (unmapped_from task number a b m))))
   mounted_small (slot.Fault task home number i intent) e =
-      of_map task number (fault c size m home i intent) (λ s. tested (fault_tests i s) (access c size m s home i intent) (access_small c size m s home i intent))
+      of_map task number (fault c size m home i intent) (λ s. fault_done Small (λ r. tt) (λ n. tt) c size m s home i intent)
   mounted_small (slot.Load task home number i offset count) e = load_small size k c (Some m) task home number i offset count
   mounted_small (slot.Store task home number i offset bytes) e = store_small size k c (Some m) task home number i offset bytes
   mounted_small (slot.ForkMaps parent child) e = tested (fork_tests c m parent child) _ (done_small (Some (forked parent child m)))

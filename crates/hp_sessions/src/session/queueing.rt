@@ -1,4 +1,4 @@
-//! Loads and stores that wait, done several at a time.
+//! Loads, stores and faults that wait, done several at a time.
 ghost use Rattle.std.specs.Prelude.{◌≡◌, ◌<◌, ◌≤◌, drop, length, take};
 ghost use Rattle.hp_model.specs.beside.Queue.{DoesAll};
 ghost use Rattle.hp_model.specs.Profile.{most_bytes};
@@ -10,7 +10,7 @@ use hp_model::queued::Queued;
 use hp_model::service::Service;
 
 impl<P: Parts> Session<P> {
-    // Does the loads and stores of a queue: those of one slot that follow each other together, where no entries are kept, and
+    // Does the loads, stores and faults of a queue: those of one slot that follow each other together, where no entries are kept, and
     // each other one by itself.
     pub(super) fn do_waiting(&mut self, queue: &mut [Queued], room: &mut [u8])
         requires { most_bytes ≤ length room.old }
@@ -28,7 +28,7 @@ impl<P: Parts> Session<P> {
         }
     }
 
-    // Does the first loads and stores of a queue, as many as their slot takes at once.
+    // Does the first loads, stores and faults of a queue, as many as their slot takes at once.
     #[inline(always)]
     fn do_together(&mut self, queue: &mut [Queued], room: &mut [u8]) -> usize
         requires some { 0 < length queue.old }

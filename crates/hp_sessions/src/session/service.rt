@@ -7,7 +7,7 @@ use hp_model::answer::Reply;
 use hp_model::queued::Queued;
 use hp_model::refusal::Refusal;
 use hp_model::service::{Access, Service};
-use hp_model::step::Step;
+use hp_model::step::{Intent, Step};
 use hp_model::told::Told;
 
 impl<P: Parts> Service for Session<P> {
@@ -42,6 +42,10 @@ impl<P: Parts> Service for Session<P> {
 
     fn store(&mut self, access: &Access, bytes: &[u8]) -> Result<(), Refusal> {
         Session::store(self, access, bytes)
+    }
+
+    fn fault(&mut self, access: &Access, intent: Intent) -> Result<(), Refusal> {
+        Session::fault(self, access, intent)
     }
 
     #[inline(always)]

@@ -3,7 +3,7 @@ ghost use Rattle.std.specs.Prelude.{◌≡◌, ◌+◌, ◌<◌, ◌≤◌, ◌=
 ghost use Rattle.std.specs.Bool.{MatchBool};
 ghost use Rattle.hp_laws.specs.Answers.{lists_names};
 ghost use Rattle.hp_model.specs.declared.answer.Answer.TheVariants.{Done};
-ghost use Rattle.hp_model.specs.beside.Accesses.{bytes_reply, done_reply, load_step, store_step};
+ghost use Rattle.hp_model.specs.beside.Accesses.{bytes_reply, done_reply, fault_step, load_step, store_step};
 ghost use Rattle.hp_model.specs.beside.Told.{told_answer, told_reply};
 ghost use Rattle.hp_model.specs.text.Writing.{IsWithinLimits};
 ghost use Rattle.hp_model.specs.Profile.{most_bytes};
@@ -26,7 +26,7 @@ use hp_model::event::{PoolEvent, TableEvent};
 use hp_model::profile::MOST_BYTES;
 use hp_model::refusal::Refusal;
 use hp_model::service::Access;
-use hp_model::step::Step;
+use hp_model::step::{Intent, Step};
 use hp_model::told::Told;
 use std::alloc::AllocError;
 
@@ -74,13 +74,14 @@ impl<P: Parts> Session<P> {
                 index,
                 intent,
             } => {
-                let event = MountEvent::Fault {
+                let access = Access {
                     task: *task,
+                    slot: *slot,
                     map: *map,
                     index: *index,
-                    intent: *intent,
+                    offset: 0,
                 };
-                *reply = self.of_task(*task, *slot, event, room);
+                *reply = Told::done(self.fault(&access, *intent));
             }
             Step::Stat { slot, name } => {
                 let event = MountEvent::Stat {
@@ -145,6 +146,21 @@ impl<P: Parts> Session<P> {
         };
         let told = self.of_task(access.task, access.slot, event, &mut []);
         into_done(told)
+    }
+
+    /// Does the step of a fault, as `call` does.
+    pub fn fault(&mut self, access: &Access, intent: Intent) -> Result<(), Refusal>
+        ensures { IsCallAnswered P.keeps P.page self.old (fault_step access.now intent)
+            (done_reply result) self.new }
+    {
+        let event = MountEvent::Fault {
+            task: access.task,
+            map: access.map,
+            index: access.index,
+            intent,
+        };
+        let ended = self.of_task(access.task, access.slot, event, &mut []);
+        into_done(ended)
     }
 
     // What a step asks of which part.

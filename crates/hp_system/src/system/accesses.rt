@@ -1,19 +1,20 @@
-//! Loads and stores, with no step and no answer made of them.
+//! Loads, stores and faults, with no step and no answer made of them.
 ghost use Rattle.std.specs.Prelude.{◌≡◌, ◌≢◌, ◌≤◌, length, false, Err, IfOk};
 ghost use Rattle.hp_model.specs.declared.refusal.Refusal.TheVariants as Refusal;
-ghost use Rattle.hp_model.specs.beside.Accesses.{bytes_reply, done_reply, load_step, store_step};
+ghost use Rattle.hp_model.specs.beside.Accesses.{bytes_reply, done_reply, fault_step, load_step, store_step};
 ghost use Rattle.hp_model.specs.machine.Promises.{IsPromised, takes_memory};
 ghost use Rattle.hp_model.specs.machine.State.{slot_at};
 ghost use Rattle.hp_model.specs.machine.Step.{IsStep};
 ghost use Rattle.hp_model.specs.Profile.{most_bytes};
 ghost use Rattle.hp_events.specs.Memory.{asks_memory};
-ghost use Rattle.hp_system.specs.Event.{DoesOnSlot, load_event, store_event};
+ghost use Rattle.hp_system.specs.Event.{DoesOnSlot, fault_event, load_event, store_event};
 ghost use Rattle.hp_model.specs.machine.Ready.{IsReadyMachine};
 
 use super::System;
 use hp_model::naming::Naming;
 use hp_model::refusal::Refusal;
 use hp_model::service::Access;
+use hp_model::step::Intent;
 use hp_mount::MapAccess;
 
 impl<N: Naming> System<N> {
@@ -40,7 +41,10 @@ impl<N: Naming> System<N> {
         ensures few { IfOk result (λ bytes. length bytes.now ≤ most_bytes) }
         ensures ready { IsReadyMachine self.new }
     {
-        self.load_of_task(access, count, room)
+        match self.table.home(access.task) {
+            Some(home) => self.load_on_slot(home, access, count, room),
+            None => Err(Refusal::NoSuchTask),
+        }
     }
 
     /// Does the step of a store of these bytes, as `apply` does. Refused as a load of as many bytes.
@@ -55,44 +59,30 @@ impl<N: Naming> System<N> {
         ensures size { self.new.state.page_size ≡ self.old.state.page_size }
         ensures ready { IsReadyMachine self.new }
     {
-        self.store_of_task(access, bytes)
-    }
-
-    #[inline(always)]
-    fn load_of_task<'a>(
-        &mut self,
-        access: &Access,
-        count: u64,
-        room: &'a mut [u8],
-    ) -> Result<&'a [u8], Refusal>
-        requires ready { IsReadyMachine self.old }
-        requires room { most_bytes ≤ length room.old }
-        ensures step { IsStep self.old.state (load_step access.now count)
-            (bytes_reply result) self.new.state }
-        ensures memory { asks_memory (slot_at self.old.state access.now.slot)
-            (load_event access.now count 0) ≡ false → result ≢ Err Refusal.OutOfMemory }
-        ensures size { self.new.state.page_size ≡ self.old.state.page_size }
-        ensures few { IfOk result (λ bytes. length bytes.now ≤ most_bytes) }
-        ensures ready { IsReadyMachine self.new }
-    {
         match self.table.home(access.task) {
-            Some(home) => self.load_on_slot(home, access, count, room),
+            Some(home) => self.store_on_slot(home, access, bytes),
             None => Err(Refusal::NoSuchTask),
         }
     }
 
-    #[inline(always)]
-    fn store_of_task(&mut self, access: &Access, bytes: &[u8]) -> Result<(), Refusal>
+    /// Does the step of a fault, as `apply` does: where no page is there, one comes.
+    ///
+    /// Refused, and then nothing changes, by the first of these that holds: NoSuchTask, NoSuchSlot, NoSuchMap;
+    /// OutOfRange where the index is not mapped, BeyondEnd; and where no page is there or reserved, MountFull, OutOfMemory or
+    /// NoPages.
+    pub fn fault(&mut self, access: &Access, intent: Intent) -> Result<(), Refusal>
         requires ready { IsReadyMachine self.old }
-        ensures step { IsStep self.old.state (store_step access.now bytes.now)
+        ensures step { IsStep self.old.state (fault_step access.now intent)
             (done_reply result) self.new.state }
-        ensures memory { asks_memory (slot_at self.old.state access.now.slot)
-            (store_event access.now bytes.now 0) ≡ false → result ≢ Err Refusal.OutOfMemory }
+        ensures promised { IsPromised self.old.state (fault_step access.now intent)
+            (done_reply result) self.new.state }
+        ensures memory { takes_memory self.old.state (fault_step access.now intent) ≡ false
+            → result ≢ Err Refusal.OutOfMemory }
         ensures size { self.new.state.page_size ≡ self.old.state.page_size }
         ensures ready { IsReadyMachine self.new }
     {
         match self.table.home(access.task) {
-            Some(home) => self.store_on_slot(home, access, bytes),
+            Some(home) => self.fault_on_slot(home, access, intent),
             None => Err(Refusal::NoSuchTask),
         }
     }
@@ -172,5 +162,30 @@ impl<N: Naming> System<N> {
             access.offset,
             bytes,
         )
+    }
+    // A fault for a task with that home node, whose slot is there or not.
+    #[inline(always)]
+    fn fault_on_slot(&mut self, home: u64, access: &Access, intent: Intent) -> Result<(), Refusal>
+        requires ready { IsReadyMachine self.old }
+        ensures done { DoesOnSlot self.old.state access.now.slot
+            (fault_event access.now intent home) (done_reply result) self.new.state }
+        ensures memory { asks_memory (slot_at self.old.state access.now.slot)
+            (fault_event access.now intent home) ≡ false → result ≢ Err Refusal.OutOfMemory }
+        ensures size { self.new.state.page_size ≡ self.old.state.page_size }
+        ensures ready { IsReadyMachine self.new }
+    {
+        let at = access.slot as usize;
+        if at >= self.slots.len() {
+            return Err(Refusal::NoSuchSlot);
+        }
+        let Some(mount) = &mut self.slots[at] else {
+            return Err(Refusal::NoSuchSlot);
+        };
+        let place = MapAccess {
+            task: access.task,
+            map: access.map,
+            index: access.index,
+        };
+        mount.fault(&mut self.pool, home, &place, intent)
     }
 }

@@ -1,5 +1,5 @@
 use Rattle.std.proofs.Common.{◌≡◌, ◌==◌, ℕ, sym, subst, ap, ◌∙◌}
-use Rattle.hp_model.specs.beside.Accesses.{load_step, store_step}
+use Rattle.hp_model.specs.beside.Accesses.{fault_step, load_step, store_step}
 use Rattle.hp_model.specs.beside.Told.{told_reply}
 use Rattle.hp_model.specs.declared.event.Event.TheVariants.{Slot as OnSlot}
 use Rattle.hp_model.specs.declared.event.SlotEvent.{SlotEvent}
@@ -24,6 +24,12 @@ into_done-requires g c =
     let a = c.access-access.result.now in
     fits_result (g.row.K == 1) g.N.Naming.page_bytes c.args.slot.now.slot.number (slot.Store a.task c.in_ok-home.home a.map a.index a.offset c.in-Store.bytes.now)
     c.unnoted-told-in-Store.result.0 c.look.new.self.receipts c.unnoted-told-in-Store.new.self.receipts c.unnoted-told-in-Store.ensures.handed
+
+pub into_done-requires-in-Fault : goal.into_done-requires-in-Fault
+into_done-requires-in-Fault g c =
+    let a = c.access-access.result.now in
+    fits_result (g.row.K == 1) g.N.Naming.page_bytes c.args.slot.now.slot.number (slot.Fault a.task c.in_ok-home.home a.map a.index c.in-Fault.intent)
+    c.unnoted-told-in-Fault.result.0 c.look.new.self.receipts c.unnoted-told-in-Fault.new.self.receipts c.unnoted-told-in-Fault.ensures.handed
 
 pub returns-in-Load-clause-done : goal.returns-in-Load-clause-done
 returns-in-Load-clause-done g c =
@@ -57,10 +63,30 @@ returns-in-Store-clause-done g c =
     let now = c.unnoted-told-in-Store.new.self.receipts in
     let event : ℕ → SlotEvent = λ home. slot.Store a.task home a.map a.index a.offset bytes in
     let step : store_step a bytes ≡ c.args.queued.now.step = ap (λ (x : Access). store_step x bytes) c.access-access.ensures ∙ c.in-Store.ensures in
-    let reply : c.answer_store.new.self.reply ≡ told = c.answer_store.ensures.reply ∙ c.into_done.ensures in
-    subst (λ (s : Step). IsAccessHanded size at s c.answer_store.new.self.reply was now) step
+    let reply : c.answer_done.new.self.reply ≡ told = c.answer_done.ensures.reply ∙ c.into_done.ensures in
+    subst (λ (s : Step). IsAccessHanded size at s c.answer_done.new.self.reply was now) step
     (subst (λ (r : Reply). IsAccessHanded size at (store_step a bytes) r was now) (sym reply) (
       c.if-access-at.false,
       found_handed (g.row.K == 1) size at a.task c.in_ok-home.home event told was mid now c.requires.unkept (c.in_ok-home.ensures.found size)
           (subst (λ (n : ℕ). IsHanded (g.row.K == 1) size (OnSlot n (event c.in_ok-home.home)) told mid now) c.requires.number c.unnoted-told-in-Store.ensures.handed),
+    ))
+
+pub returns-in-Fault-clause-done : goal.returns-in-Fault-clause-done
+returns-in-Fault-clause-done g c =
+    let size = g.N.Naming.page_bytes in
+    let at = c.args.at in
+    let a = c.access-access.result.now in
+    let intent = c.in-Fault.intent in
+    let told = told_reply c.unnoted-told-in-Fault.result.0 in
+    let was = c.args.member.now.receipts in
+    let mid = c.look.new.self.receipts in
+    let now = c.unnoted-told-in-Fault.new.self.receipts in
+    let event : ℕ → SlotEvent = λ home. slot.Fault a.task home a.map a.index intent in
+    let step : fault_step a intent ≡ c.args.queued.now.step = ap (λ (x : Access). fault_step x intent) c.access-access.ensures ∙ c.in-Fault.ensures in
+    let reply : c.answer_done-in-Fault.new.self.reply ≡ told = c.answer_done-in-Fault.ensures.reply ∙ c.into_done-in-Fault.ensures in
+    subst (λ (s : Step). IsAccessHanded size at s c.answer_done-in-Fault.new.self.reply was now) step
+    (subst (λ (r : Reply). IsAccessHanded size at (fault_step a intent) r was now) (sym reply) (
+      c.if-access-at.false,
+      found_handed (g.row.K == 1) size at a.task c.in_ok-home.home event told was mid now c.requires.unkept (c.in_ok-home.ensures.found size)
+          (subst (λ (n : ℕ). IsHanded (g.row.K == 1) size (OnSlot n (event c.in_ok-home.home)) told mid now) c.requires.number c.unnoted-told-in-Fault.ensures.handed),
     ))

@@ -4,10 +4,10 @@ use Rattle.hp_inode.proofs.chunk_list.add_chunk.Goals as goal
 
 pub push_bare-requires : goal.push_bare-requires
 push_bare-requires c =
-    let home : c.len.result / 64 ≡ length c.args.slots.now.items / 64 = ap (λ n. n / 64) (c.len.ensures ∙ c.args.slots.now.ok.0) in
-    omega (arith, room_there c.args.homes.now.items c.args.slots.now.items c.args.at (c.len.result / 64) c.requires.given c.requires.none home _ c.requires.room, c.args.slots.now.ok.0)
+    let home : c.len-home.result / 64 ≡ length c.args.slots.now.items / 64 = ap (λ n. n / 64) (c.len-home.ensures ∙ c.args.slots.now.ok.0) in
+    omega (arith, room_there c.args.homes.now.items c.args.slots.now.items c.args.at (c.len-home.result / 64) c.requires.given c.requires.none home _ c.requires.room, c.args.slots.now.ok.0)
 
 pub returns-clause-rows : goal.returns-clause-rows
 returns-clause-rows c =
-    let home : c.len.result / 64 ≡ length c.args.slots.now.items / 64 = ap (λ n. n / 64) (c.len.ensures ∙ c.args.slots.now.ok.0) in
-    rw c.push_bare.ensures.items (rows_more c.args.homes.now.items c.args.slots.now.items c.args.at (c.len.result / 64) c.requires.given c.requires.none home)
+    let home : c.len-home.result / 64 ≡ length c.args.slots.now.items / 64 = ap (λ n. n / 64) (c.len-home.ensures ∙ c.args.slots.now.ok.0) in
+    rw c.push_bare.ensures.items (rows_more c.args.homes.now.items c.args.slots.now.items c.args.at (c.len-home.result / 64) c.requires.given c.requires.none home)

@@ -1,29 +1,16 @@
-use Rattle.std.proofs.Common.{arith}
-use Rattle.hp_file.proofs.Lacking.{few_paged, lacking_all, paged_part}
+use Rattle.std.proofs.Common.{◌≡◌, ◌+◌, ◌-◌, min, ap, ◌∙◌, arith}
+use Rattle.std.specs.List.{count_by}
+use Rattle.hp_model.specs.files.File.{at_least, has_page}
+use Rattle.hp_model.specs.files.Fill.{lacks_page}
+use Rattle.hp_model.specs.Lists.{part}
+use Rattle.hp_file.proofs.Lacking.{lacking_all}
 use Rattle.hp_file.proofs.file.filling.lacking.Goals as goal
 
-pub overflow_sub-count-in-loop-at : goal.overflow_sub-count-in-loop-at
-overflow_sub-count-in-loop-at c =
-    let cells = c.args.inode.now in
-    let was = c.loop-at.invariant in
-    let next = c.word_end-next.result in
-    let part = paged_part cells c.loop-at.at next (omega (arith, c.word_end-next.ensures.past)) in
-    let few = few_paged cells c.args.a next (omega (arith, was.from, c.word_end-next.ensures.past)) in
-    omega (arith, part, few, was.counted, c.pages_in_word-count.ensures, c.word_end-next.ensures.to, c.min-end.ensures, c.requires)
-
-pub loop-at-preserved : goal.loop-at-preserved
-loop-at-preserved c =
-    let was = c.loop-at.invariant in
-    let next = c.word_end-next.result in
-    let part = paged_part c.args.inode.now c.loop-at.at next (omega (arith, c.word_end-next.ensures.past)) in
-    let enough = overflow_sub-count-in-loop-at c in
-    record {
-      from = omega (arith, was.from, c.word_end-next.ensures.past);
-      to = omega (arith, c.word_end-next.ensures.to, c.min-end.ensures, c.len.ensures.len);
-      counted = omega (arith, part, was.counted, c.pages_in_word-count.ensures, enough);
-    }
+both : (c : goal.After-pages_within-paged) → c.pages_within-paged.result + count_by lacks_page (part c.args.a c.args.b (at_least c.args.b c.args.inode.now)) ≡ c.args.b - c.args.a
+both c =
+    let end = c.min-end.ensures ∙ ap (λ n. min n c.args.b) c.len.ensures.len in
+    let paged = c.pages_within-paged.ensures ∙ ap (λ n. count_by has_page (part c.args.a n c.args.inode.now)) end in
+    omega (arith, paged, lacking_all c.args.inode.now c.args.a c.args.b c.requires)
 
 pub returns : goal.returns
-returns c =
-    let was = c.loop-at.invariant in
-    lacking_all c.args.inode.now c.args.a c.args.b c.loop-at.at c.loop-at.count c.requires (omega (arith, c.loop-at-test.false, c.min-end.ensures, c.len.ensures.len)) was.to was.counted
+returns c = omega (arith, both c)

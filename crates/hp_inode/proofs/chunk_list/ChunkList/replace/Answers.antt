@@ -1,9 +1,19 @@
-use Rattle.std.proofs.Common.{◌≡◌, ◌+◌, ◌*◌, ◌<◌, None, get_or, ap, ◌∙◌, arith}
+use Rattle.std.proofs.Common.{◌≡◌, ◌+◌, ◌*◌, ◌<◌, None, get_or, sym, ap, ◌∙◌, arith}
 use Rattle.std.proofs.lemmas.List.{get_or_read}
 use Rattle.hp_inode.specs.Rows.{slot_in}
 use Rattle.hp_inode.specs.Chunks.{bare, promised, slot_count}
-use Rattle.hp_inode.proofs.Chunks.{few_slots, rows_set, slot_was, slot_within}
+use Rattle.hp_inode.proofs.Chunks.{few_slots, home_of_page, rows_set, slot_was, slot_within}
+use Rattle.hp_inode.proofs.Finding.{none_of}
 use Rattle.hp_inode.proofs.chunk_list.ChunkList.replace.Goals as goal
+
+pub touch-requires-clause-own : goal.touch-requires-clause-own
+touch-requires-clause-own c off =
+    let s = c.self.inside in
+    let at = c.args.at in
+    let k = c.args.k in
+    let small : k < 64 = omega (arith, c.requires.slot, few_slots s.homes.items s.slots.items at, ap (λ rows. slot_count rows at) c.self.view_is) in
+    let page : c.args.page ≡ None = none_of c.args.page (sym c.is_some.ensures ∙ off) in
+    home_of_page s.homes.items s.slots.items c.self.invariant.given at k small (rw c.self.view_is (c.requires.some page))
 
 pub returns-clause-was : goal.returns-clause-was
 returns-clause-was c =
@@ -15,7 +25,7 @@ returns-clause-was c =
     let slots = c.touch.new.slots.items in
     let n = 64 * c.touch.result + k in
     let own : get_or homes at bare < promised = omega (arith, did.home, did.own) in
-    let small : k < 64 = omega (arith, c.requires, few_slots s.homes.items s.slots.items at, ap (λ rows. slot_count rows at) c.self.view_is) in
+    let small : k < 64 = omega (arith, c.requires.slot, few_slots s.homes.items s.slots.items at, ap (λ rows. slot_count rows at) c.self.view_is) in
     let slot : n ≡ 64 * get_or homes at bare + k = omega (arith, did.home) in
     get_or_read slots n c.index-was.result.now (slot_within homes slots did.given at k n c.args.page own small slot) c.index-was.ensures None
     ∙ slot_was homes slots did.given at k n c.args.page own small slot ∙ ap (λ rows. slot_in rows at k) (did.rows ∙ c.self.view_is)
@@ -30,6 +40,6 @@ returns-clause-set c =
     let slots = c.touch.new.slots.items in
     let n = 64 * c.touch.result + k in
     let own : get_or homes at bare < promised = omega (arith, did.home, did.own) in
-    let small : k < 64 = omega (arith, c.requires, few_slots s.homes.items s.slots.items at, ap (λ rows. slot_count rows at) c.self.view_is) in
+    let small : k < 64 = omega (arith, c.requires.slot, few_slots s.homes.items s.slots.items at, ap (λ rows. slot_count rows at) c.self.view_is) in
     let slot : n ≡ 64 * get_or homes at bare + k = omega (arith, did.home) in
     rw (← (did.rows ∙ c.self.view_is)) (rows_set homes slots did.given at k n c.args.page own small slot)

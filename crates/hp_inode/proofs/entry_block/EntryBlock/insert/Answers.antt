@@ -1,10 +1,19 @@
-use Rattle.std.proofs.Common.{rules, ap, ◌∙◌, ◌≡◌, ◌<◌, ◌*◌, ◌||◌, ◌/◌, ◌%◌, ◌+◌, min, length, arith}
+use Rattle.std.proofs.Common.{rules, ℕ, refl, sym, ap, ◌∙◌, ◌≡◌, ◌<◌, ◌*◌, ◌||◌, ◌/◌, ◌%◌, ◌+◌, ◌^◌, min, get_or, length, arith}
 use Rattle.hp_model.specs.beside.Ranges.{within}
 use Rattle.hp_marks.specs.Marks.{marked}
 use Rattle.hp_inode.proofs.Alone.{put_in}
 use Rattle.hp_inode.proofs.Spread.{spread_entries}
-use Rattle.hp_inode.proofs.Tables.{written_back}
+use Rattle.hp_inode.proofs.Tables.{bit_there, mark_there, written_back}
 use Rattle.hp_inode.proofs.entry_block.EntryBlock.insert.Goals as goal
+
+pub change_mark-requires-clause-known : goal.change_mark-requires-clause-known
+change_mark-requires-clause-known c had =
+    let words = c.self.inside.words.items in
+    let at = c.args.i / 64 in
+    let was = get_or c.as_mut_slice-words.result.now at 0 in
+    let fits : was < 2 ^ 64 = search rules in
+    mark_there words c.self.inside.marks.items c.self.invariant.none at
+    (bit_there words at was (ap (λ ws. get_or ws at 0) (sym c.as_mut_slice-words.ensures.value)) _ refl fits had)
 
 pub invariant_of-self : goal.invariant_of-self
 invariant_of-self c =
@@ -13,13 +22,13 @@ invariant_of-self c =
     let i = c.args.i in
     let enough : i < 64 * length words = rw c.self.view_is c.requires in
     let long : length c.set_mark.new.words ≡ length words = search rules in
-    let longs : length c.set_mark-2.new.words ≡ length marks = search rules in
-    let here = put_in (marked words) (marked c.set_mark.new.words) i (λ k other. c.set_mark.ensures.others k other ∙ ap (λ ws. marked ws k) c.as_mut_slice.ensures.value) c.set_mark.ensures.here in
-    let above = put_in (marked marks) (marked c.set_mark-2.new.words) (i / 64) (λ k other. c.set_mark-2.ensures.others k other
-    ∙ ap (λ ws. marked ws k) c.as_mut_slice-2.ensures.value) c.set_mark-2.ensures.here in
+    let did = c.change_mark.ensures in
+    let others : (k : ℕ) → (k ≡ i → ⊥) → marked c.set_mark.new.words k ≡ marked words k = λ k other. c.set_mark.ensures.others k other ∙ ap (λ ws. marked ws k) c.as_mut_slice-words.ensures.value in
+    let here = put_in (marked words) (marked c.set_mark.new.words) i others c.set_mark.ensures.here in
+    let above = put_in (marked marks) (marked c.change_mark.new.words.items) (i / 64) did.others did.here in
     let end : i / 64 + 1 ≡ (i + 1) / 64 + min 1 ((i + 1) % 64) = omega arith in
-    rw (written_back words c.set_mark.new.words long, written_back marks c.set_mark-2.new.words longs)
-    (spread_entries words marks c.set_mark.new.words c.set_mark-2.new.words i (i + 1) c.self.invariant (omega (arith, enough)) long longs here
+    rw (written_back words c.set_mark.new.words long)
+    (spread_entries words marks c.set_mark.new.words c.change_mark.new.words.items i (i + 1) c.self.invariant (omega (arith, enough)) long did.len here
     (λ k. above k ∙ ap (λ n. marked marks k || within (i / 64) n k) end))
 
 pub returns-clause-here : goal.returns-clause-here
@@ -27,4 +36,5 @@ returns-clause-here c =
     let words = c.self.inside.words.items in
     let long : length c.set_mark.new.words ≡ length words = search rules in
     rw (written_back words c.set_mark.new.words long, ← c.self.view_is)
-    (put_in (marked words) (marked c.set_mark.new.words) c.args.i (λ k other. c.set_mark.ensures.others k other ∙ ap (λ ws. marked ws k) c.as_mut_slice.ensures.value) c.set_mark.ensures.here)
+    (put_in (marked words) (marked c.set_mark.new.words) c.args.i
+    (λ k other. c.set_mark.ensures.others k other ∙ ap (λ ws. marked ws k) c.as_mut_slice-words.ensures.value) c.set_mark.ensures.here)

@@ -1,41 +1,16 @@
-use Rattle.std.proofs.Common.{◌≡◌, ◌-◌, ◌*◌, ◌/◌, ◌<◌, ◌≤◌, ◌^◌, ◌%◌, eqb, get_or, length, sym, ap, ◌∙◌, arith}
+use Rattle.std.proofs.Common.{◌-◌, ◌∙◌}
 use Rattle.std.specs.List.{range_with_len}
 use Rattle.std.specs.Option.{is_some}
-use Rattle.std.specs.Int.{bit_at}
-use Rattle.std.proofs.lemmas.Nat.Bits.{bit_at_ones}
-use Rattle.hp_model.proofs.Counting.{count_alike, count_outside}
+use Rattle.hp_model.proofs.Counting.{count_alike}
 use Rattle.hp_marks.specs.Marks.{marked}
-use Rattle.hp_marks.proofs.Words.{unmarked_past}
 use Rattle.hp_inode.specs.Rows.{page_in}
-use Rattle.hp_inode.proofs.Counted.{counted_whole}
-use Rattle.hp_inode.proofs.Removed.{counted_in_word}
+use Rattle.hp_inode.proofs.Finding.{table_entries}
 use Rattle.hp_inode.proofs.page_block.PageBlock.count.Goals as goal
 
-pub returns-then-at-words : goal.returns-then-at-words
-returns-then-at-words c =
-    let table = rw c.self.view_is at c.self.invariant in
-    let words = c.self.inside.words.items in
-    let past : 64 * length words ≤ c.args.a = omega (arith, c.if-at-words.true, ap length c.as_slice-words.ensures) in
-    sym (count_outside (λ k. is_some (page_in c.args.self.now k)) c.args.a (c.args.b - c.args.a) (λ k low high. sym (table.pages k) ∙ unmarked_past words k (omega (arith, past, low))))
-
-pub returns-then-words-at : goal.returns-then-words-at
-returns-then-words-at c =
-    let table = rw c.self.view_is at c.self.invariant in
-    let words = c.self.inside.words.items in
-    let a = c.args.a in
-    let word : get_or words (a / 64) 0 ≡ 2 ^ 64 - 1 = rw (← c.as_slice-words.ensures) c.if-words-at.true in
-    counted_whole (λ k. is_some (page_in c.args.self.now k)) a (c.args.b - a) (λ k low high.
-    let here : k / 64 ≡ a / 64 = omega (arith, low, high, c.requires.some, c.requires.one) in
-    sym (table.pages k) ∙ ap (λ j. eqb (bit_at (get_or words j 0) (k % 64)) 1) here ∙ ap (λ n. eqb (bit_at n (k % 64)) 1) word ∙ ap (λ x. eqb x 1) (bit_at_ones 64 (k % 64) (omega arith)))
+pub count_bits-requires : goal.count_bits-requires
+count_bits-requires c = rw (c.as_slice.ensures, c.as_slice-2.ensures) (table_entries c.self.inside.chunks c.self.inside.words.items c.self.inside.marks.items c.self.invariant)
 
 pub returns : goal.returns
-returns c =
-    let table = rw c.self.view_is at c.self.invariant in
-    let words = c.as_slice-words.result.now in
-    let a = c.args.a in
-    let b = c.args.b in
-    let bits = c.bits_within.result in
-    let small : bits < 2 ^ 64 = omega arith in
-    let ones = counted_in_word words (a / 64) a b bits (omega arith) c.requires.some c.requires.one small c.bits_within.ensures in
-    c.from.ensures ∙ ones
-    ∙ count_alike (marked words) (λ k. is_some (page_in c.args.self.now k)) (λ k. ap (λ ws. marked ws k) c.as_slice-words.ensures ∙ table.pages k) (range_with_len a (b - a))
+returns c = rw (← c.self.view_is)
+    (c.count_bits.ensures ∙ count_alike (marked c.as_slice.result.now) (λ k. is_some (page_in c.self.inside.chunks k))
+    (λ k. rw c.as_slice.ensures (c.self.invariant.pages k)) (range_with_len c.args.a (c.args.b - c.args.a)))

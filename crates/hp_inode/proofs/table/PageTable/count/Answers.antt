@@ -1,17 +1,34 @@
-use Rattle.std.proofs.Common.{◌≡◌, ◌+◌, ◌-◌, ◌%◌, ap, ◌∙◌, arith}
-use Rattle.std.specs.List.{count_by, range_with_len}
+use Rattle.std.proofs.Common.{ℕ, Bool, ◌+◌, ◌-◌, ◌%◌, ◌≤◌, arith}
 use Rattle.std.specs.Option.{is_some}
-use Rattle.hp_inode.specs.Rows.{page_in}
-use Rattle.hp_inode.proofs.Counted.{counted_in_block, none_in_block, word_fits}
+use Rattle.hp_inode.specs.Blocks.{page_at}
+use Rattle.hp_inode.proofs.Blocks.{counted_on, few_in}
 use Rattle.hp_inode.proofs.table.PageTable.count.Goals as goal
 
-pub returns-in-Some : goal.returns-in-Some
-returns-in-Some c =
-    let a = c.args.a in
-    let n = c.args.b - a in
-    let wide : a % 65536 + n - a % 65536 ≡ n = omega arith in
-    c.count.ensures ∙ ap (λ m. count_by (λ k. is_some (page_in c.in-Some.block.now k)) (range_with_len (a % 65536) m)) wide
-    ∙ counted_in_block c.args.self.now a n (word_fits a c.args.b c.requires.some c.requires.one) c.in-Some.block.now c.in-Some.ensures
+pub overflow_add-count : goal.overflow_add-count
+overflow_add-count c =
+    let at = c.loop-at.at in
+    let part = c.within_block-part.result in
+    let paged : ℕ → Bool = λ k. is_some (page_at c.args.self.now k) in
+    omega (
+      arith,
+      c.count_in-count.ensures,
+      few_in paged at part,
+      few_in paged c.args.a (at - c.args.a),
+      c.loop-at.invariant.counted,
+      c.loop-at.invariant.from,
+      c.within_block-part.ensures,
+      c.loop-at-test.true,
+      c.ranges.b.fits,
+    )
 
-pub returns-in-None : goal.returns-in-None
-returns-in-None c = none_in_block c.args.self.now c.args.a (c.args.b - c.args.a) (word_fits c.args.a c.args.b c.requires.some c.requires.one) c.in-None.ensures
+pub loop-at-preserved : goal.loop-at-preserved
+loop-at-preserved c =
+    let at = c.loop-at.at in
+    let part = c.within_block-part.result in
+    let held = c.loop-at.invariant in
+    let paged : ℕ → Bool = λ k. is_some (page_at c.args.self.now k) in
+    record {
+      from = omega (arith, held.from);
+      to = omega (arith, c.within_block-part.ensures, c.loop-at-test.true, held.from);
+      counted = omega (arith, c.count_in-count.ensures, held.counted, counted_on paged c.args.a at part held.from);
+    }

@@ -4,7 +4,7 @@ use Rattle.hp_wire.proofs.replies.Replies.add_store.Goals as goal
 
 pub returns-in-Ok-clause-answered : goal.returns-in-Ok-clause-answered
 returns-in-Ok-clause-answered g c =
-    done (store_step c.in-Ok.access c.in-Ok.bytes.now) (done_reply c.store-stored.result) c.in-Ok.ensures c.store-stored.ensures.answered c.add_stored.ensures.text c.add_stored.ensures.page
+    done (store_step c.in-Ok.access c.in-Ok.bytes.now) (done_reply c.store-stored.result) c.in-Ok.ensures c.store-stored.ensures.answered c.add_ended.ensures.text c.add_ended.ensures.page
 
 pub returns-in-Err-clause-answered : goal.returns-in-Err-clause-answered
 returns-in-Err-clause-answered g c = not_read c.in-Err.refusal c.in-Err.ensures c.add_refusal.ensures.text c.add_refusal.ensures.page

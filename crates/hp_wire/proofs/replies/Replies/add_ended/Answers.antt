@@ -1,5 +1,5 @@
 use Rattle.std.proofs.Common.{arith}
-use Rattle.hp_wire.proofs.replies.Replies.add_stored.Goals as goal
+use Rattle.hp_wire.proofs.replies.Replies.add_ended.Goals as goal
 
 pub invariant_of-self : goal.invariant_of-self
 invariant_of-self c =

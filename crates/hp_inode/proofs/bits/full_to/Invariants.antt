@@ -1,6 +1,6 @@
 use Rattle.std.proofs.Common.{ℕ, ◌≡◌, ◌*◌, ◌-◌, ◌<◌, ◌≤◌, true}
 use Rattle.hp_marks.specs.Marks.{marked}
-use Rattle.hp_inode.proofs.entry_block.full_to.Given as goal
+use Rattle.hp_inode.proofs.bits.full_to.Given as goal
 
 abbrev pub invariant-loop-at : goal.invariant-loop-at
 invariant-loop-at l = record {
