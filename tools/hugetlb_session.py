@@ -10,6 +10,7 @@
 A method for each command gives its reply as a value, and raises Refused where it is refused. `many` sends any number of lines at once.
 Python's standard library alone.
 """
+import errno
 import os
 import selectors
 import socket
@@ -270,9 +271,15 @@ class Session:
     # ---- the end
 
     def end_input(self):
-        """Says that no more lines come; to read replies after it, `replies` has `are_last`."""
+        """Says that no more lines come; to read replies after it, `replies` has `are_last`. A session that was reset before is a ConnectionError."""
         if self._link:
-            self._link.shutdown(socket.SHUT_WR)
+            try:
+                self._link.shutdown(socket.SHUT_WR)
+            except OSError as error:
+                # (Python has no ConnectionError for this number)
+                if error.errno == errno.ENOTCONN:
+                    raise ConnectionResetError(*error.args) from None
+                raise
         else:
             self._program.stdin.close()
             self._program.stdin = None

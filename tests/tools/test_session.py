@@ -60,6 +60,16 @@ def test_end_goes_on_after_a_reset():
         assert not thread.is_alive()
 
 
+def test_end_of_input_after_a_reset():
+    """The input of a session that the server has reset already is ended by no call of its own: it is a ConnectionError as each other reset."""
+    with socket.create_server(("127.0.0.1", 0)) as listens, Session.over_socket(listens.getsockname()[1]) as session:
+        link, _ = listens.accept()
+        link.setsockopt(socket.SOL_SOCKET, socket.SO_LINGER, struct.pack("ii", 1, 0))
+        link.close()
+        with pytest.raises(ConnectionError):
+            session.end_input()
+
+
 def test_watch_writes_each_line_at_once():
     """Each line comes when it is asked for, also into a pipe."""
     words = ["serve", "--port", "0", "--sessions", "1", "--workers", "1", "--trace", "0"]
