@@ -2,10 +2,12 @@
 use Rattle.std.proofs.Common.{◌≡◌, ℕ, List, [], ◌∷◌, ◌++◌, ◌+◌, ◌-◌, ◌<◌, ◌≤◌, length, refl, sym, ◌∙◌, ap, arith}
 use Rattle.std.proofs.Common.{Bool, true, false, ◌&&◌, ◌==◌, nat_lt, if◌then◌else◌, Ok, Err, take, drop, get_or, append-nil, append_assoc, length-drop, drop_of_length-le}
 use Rattle.std.proofs.lemmas.Bool.Decides.{nat_tests}
-use Rattle.std.proofs.lemmas.List.{drop_more, get_or-drop, take_more}
+use Rattle.std.proofs.lemmas.List.{drop_more, get_or-drop, take-append-drop, take_more}
 use Rattle.std.proofs.lemmas.List.Folds.{list_all-append}
+use Rattle.std.proofs.lemmas.Slice.Eq.{bytes_eq-Decides}
 use Rattle.std.proofs.lemmas.List.Splits.{slice_split-cons_no, slice_split-cons_yes}
 use Rattle.std.specs.List.{list_all, onto_first}
+use Rattle.std.specs.Str.{bytes_eq}
 use Rattle.hp_model.specs.text.Words.{is_word, is_word_byte, piece_at, pieces_of_line, word_at, word_of, ◌>>=◌}
 use Rattle.hp_model.specs.declared.refusal.Refusal.TheVariants.{BadLine}
 use Rattle.hp_wire_lines.proofs.Fronts.{past, within}
@@ -93,6 +95,28 @@ word_ends front pieces left more so end some printed =
     ap (λ x. x >>= (λ piece. word_of piece.0 >>= (λ word. Ok (word, piece.1)))) (ended_piece front pieces left more so end)
     ∙ ap (λ t. (if t && list_all is_word_byte front then Ok front else Err BadLine) >>= (λ word. Ok (word, more))) long
     ∙ ap (λ t. (if t then Ok front else Err BadLine) >>= (λ word. Ok (word, more))) printed
+
+and_both : (a b : Bool) → (a && b) ≡ true → (a ≡ true) × (b ≡ true)
+and_both true b h = (refl, h)
+and_both false b h = cc
+
+before_space : (word rest : List ℕ) → list_all is_word_byte word ≡ true → pieces_of_line (word ++ 32 ∷ rest) ≡ word ∷ pieces_of_line rest
+before_space [] rest h = slice_split-cons_yes (λ b. b == 32) 32 rest refl
+before_space (b ∷ word) rest h =
+    let printed = and_both (is_word_byte b) (list_all is_word_byte word) h in
+    slice_split-cons_no (λ b. b == 32) b (word ++ 32 ∷ rest) (not_space b printed.0) ∙ ap (onto_first b) (before_space word rest printed.1)
+
+-- a line that begins with this word and a space
+pub known_word : (line word : List ℕ) → length word < length line → get_or line (length word) 0 ≡ 32 → list_all is_word_byte word ≡ true → bytes_eq (take (length word) line) word ≡ true
+    → piece_at (pieces_of_line line) ≡ Ok (word, pieces_from (length word + 1) line)
+unfolding piece_at
+known_word line word short space printed same =
+    let n : ℕ = length word in
+    let front : take n line ≡ word = (bytes_eq-Decides (take n line) word).0 same in
+    let cut : line ≡ word ++ 32 ∷ drop (n + 1) line =
+    sym (take-append-drop n line) ∙ ap (λ f. f ++ drop n line) front ∙ ap (λ r. word ++ r) (drop_more line n 0 short ∙ ap (λ b. b ∷ drop (n + 1) line) space) in
+    ap (λ xs. piece_at (pieces_of_line xs)) cut ∙ ap piece_at (before_space word (drop (n + 1) line) printed)
+    ∙ ap (λ more. Ok (word, more)) (sym (within (n + 1) line (omega arith)))
 
 no_word : (piece : List ℕ) (pieces more : List (List ℕ)) → pieces ≡ piece ∷ more → is_word piece ≡ false → word_at pieces ≡ Err BadLine
 unfolding word_at piece_at

@@ -31,6 +31,16 @@ pub fn kind_of_line<'a>(line: &'a [u8]) -> Result<LineKind<'a>, Refusal>
     requires { length line.now ≤ most_line_bytes }
     ensures { IsKind result line.now }
 {
+    // Most lines are these, and are known by their first bytes.
+    if let Some(words) = Words::behind(line, b"load") {
+        return Ok(LineKind::Load(words));
+    }
+    if let Some(words) = Words::behind(line, b"store") {
+        return Ok(LineKind::Store(words));
+    }
+    if let Some(words) = Words::behind(line, b"fault") {
+        return Ok(LineKind::Fault(words));
+    }
     let mut words = Words::new(line);
     let word = words.short_piece()?;
     if is_known(word, b"load") {

@@ -6,6 +6,7 @@ ghost use Rattle.hp_model.specs.text.Words.{is_word_byte, number_at, number_read
 ghost use Rattle.hp_model.specs.Profile.{most_line_bytes};
 ghost use Rattle.hp_wire_lines.specs.Words.{between, number_after, piece_with, pieces_from};
 
+use crate::known::is_known;
 use hp_model::refusal::Refusal;
 use hp_text::numbers;
 use hp_text::pieces::first_piece;
@@ -44,6 +45,21 @@ impl<'a> Words<'a> {
         ensures { result ≡ pieces_of_line line.entry.now }
     {
         Words { line, at: 0 }
+    }
+
+    /// The pieces behind a line's first, where that is this word and a space ends it.
+    #[inline(always)]
+    pub fn behind(line: &'a [u8], word: &[u8]) -> Option<Words<'a>>
+        requires line { length line.now ≤ most_line_bytes }
+        requires printed { list_all is_word_byte word.now ≡ true }
+        ensures { IfSome result (λ words.
+            piece_at (pieces_of_line line.entry.now) ≡ Ok (word.entry.now, words)) }
+    {
+        let end = word.len();
+        if line.len() <= end || line[end] != b' ' || !is_known(&line[..end], word) {
+            return None;
+        }
+        Some(Words { line, at: end + 1 })
     }
 
     /// Takes the next piece.
