@@ -52,13 +52,13 @@ IsAccess t other = ⊥
 
 -- it makes a map
 abbrev pub makes_map : MountEvent → Bool
-makes_map (Map task name start pages sharing reserving) = true
+makes_map (Map task name from pages sharing reserving) = true
 makes_map (Anon task pages sharing reserving) = true
 makes_map other = false
 
 -- it takes indices from a map, or asks for a page at one
 abbrev pub is_of_indices : MountEvent → Bool
-is_of_indices (Unmap task map start end) = true
+is_of_indices (Unmap task map from to) = true
 is_of_indices (Fault task map index intent) = true
 is_of_indices other = false
 
@@ -67,8 +67,8 @@ abbrev pub is_of_file : MountEvent → Bool
 is_of_file (Create name) = true
 is_of_file (Unlink name) = true
 is_of_file (Truncate name pages) = true
-is_of_file (Punch name start end) = true
-is_of_file (Preallocate name start end) = true
+is_of_file (Punch name from to) = true
+is_of_file (Preallocate name from to) = true
 is_of_file (Stat name) = true
 is_of_file (Read name index offset count) = true
 is_of_file other = false

@@ -13,7 +13,7 @@ use Rattle.hp_laws.specs.Answers.{lists_names}
 use Rattle.hp_events.specs.Event.{as_event, is_usage}
 use Rattle.hp_events.specs.Memory.{asks_memory}
 use Rattle.hp_events.specs.declared.work.Work.{Work}
-use Rattle.hp_events.specs.declared.work.Work.TheVariants.{Connect, Attach, Pool, Fork, Exit, Mount, Remount, Umount, Names, OnSlot, OfTask}
+use Rattle.hp_events.specs.declared.work.Work.TheVariants.{Connect, Attach, Pool, Fork, Exit, Mount, Remount, Umount, Ls, OnSlot, OfTask}
 
 -- the step that it stands for
 abbrev pub work_script : (slots : ℕ) → Work → Script
@@ -25,7 +25,7 @@ work_script n (Exit task) = script n (step.Exit task)
 work_script n (Mount k options) = on_slot n k (slot.Mount options.now)
 work_script n (Remount k options) = on_slot n k (slot.Remount options.now)
 work_script n (Umount k) = on_slot n k slot.Umount
-work_script n (Names k) = on_slot n k slot.Ls
+work_script n (Ls k) = on_slot n k slot.Ls
 work_script n (OnSlot k e) = on_slot n k (as_event 0 e)
 work_script n (OfTask task k e) = finding task (λ home. on_slot n k (as_event home e))
 
@@ -44,23 +44,23 @@ work_carries (OnSlot k e) = has_bytes (as_event 0 e)
 work_carries (OfTask task k e) = has_bytes (as_event 0 e)
 work_carries other = false
 
--- lists are asked for by `Names` alone
-abbrev pub ListsByNamesAlone : Work → Type 0
-ListsByNamesAlone (OnSlot k e) = lists_names (as_event 0 e) ≡ false
-ListsByNamesAlone (OfTask task k e) = lists_names (as_event 0 e) ≡ false
-ListsByNamesAlone other = Unit {0}
+-- lists are asked for by `Ls` alone
+abbrev pub ListsByLsAlone : Work → Type 0
+ListsByLsAlone (OnSlot k e) = lists_names (as_event 0 e) ≡ false
+ListsByLsAlone (OfTask task k e) = lists_names (as_event 0 e) ≡ false
+ListsByLsAlone other = Unit {0}
 
 -- it answers numbers or names as they stand
 abbrev pub is_usage_work : Work → Bool
 is_usage_work (Attach task) = true
-is_usage_work (Names k) = true
+is_usage_work (Ls k) = true
 is_usage_work (OnSlot k e) = is_usage (as_event 0 e)
 is_usage_work other = false
 
 -- it may be refused memory
 abbrev pub takes_memory_for : State → Work → Bool
 takes_memory_for m (Fork parent child) = true
-takes_memory_for m (Names k) = true
+takes_memory_for m (Ls k) = true
 takes_memory_for m (OnSlot k e) = asks_memory (slot_at m k) (as_event 0 e)
 takes_memory_for m (OfTask task k e) = asks_memory (slot_at m k) (as_event 0 e)
 takes_memory_for m other = false
@@ -70,6 +70,6 @@ pub record IsWork (s : Step) (w : Work) : Type 0 where
   pub script : (n : ℕ) → script n s ≡ work_script n w
   pub receipts : (n : ℕ) → most_receipts n s ≡ work_receipts n w
   pub carries : carries_bytes s ≡ work_carries w
-  pub apart : ListsByNamesAlone w
+  pub apart : ListsByLsAlone w
   pub usage : is_usage_step s ≡ is_usage_work w
   pub memory : (m : State) → takes_memory m s ≡ takes_memory_for m w

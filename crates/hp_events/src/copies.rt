@@ -33,7 +33,7 @@ fn carried<'x>(event: &MountEvent<'x>) -> &'x [u8]
         | MountEvent::Fault { .. }
         | MountEvent::Load { .. }
         | MountEvent::Ls
-        | MountEvent::Usage => &[],
+        | MountEvent::Df => &[],
     }
 }
 
@@ -129,7 +129,7 @@ fn owned(event: &MountEvent<'_>, home: u64, bytes: Bytes) -> SlotEvent
         MountEvent::Unmap { .. } | MountEvent::Fault { .. } => owned_indices(event, home),
         MountEvent::Map { .. } | MountEvent::Anon { .. } => owned_map(event, home, bytes),
         MountEvent::Ls => SlotEvent::Ls,
-        MountEvent::Usage => SlotEvent::Df,
+        MountEvent::Df => SlotEvent::Df,
         _ => owned_of_file(event, bytes),
     }
 }
@@ -145,15 +145,15 @@ fn owned_of_file(event: &MountEvent<'_>, bytes: Bytes) -> SlotEvent
         MountEvent::Create { .. } => SlotEvent::Create { name: bytes },
         MountEvent::Unlink { .. } => SlotEvent::Unlink { name: bytes },
         MountEvent::Truncate { pages, .. } => SlotEvent::Truncate { name: bytes, pages },
-        MountEvent::Punch { start, end, .. } => SlotEvent::Punch {
+        MountEvent::Punch { from, to, .. } => SlotEvent::Punch {
             name: bytes,
-            from: start,
-            to: end,
+            from,
+            to,
         },
-        MountEvent::Preallocate { start, end, .. } => SlotEvent::Preallocate {
+        MountEvent::Preallocate { from, to, .. } => SlotEvent::Preallocate {
             name: bytes,
-            from: start,
-            to: end,
+            from,
+            to,
         },
         MountEvent::Stat { .. } => SlotEvent::Stat { name: bytes },
         MountEvent::Read {
@@ -181,7 +181,7 @@ fn owned_map(event: &MountEvent<'_>, home: u64, bytes: Bytes) -> SlotEvent
     match *event {
         MountEvent::Map {
             task,
-            start,
+            from,
             pages,
             sharing,
             reserving,
@@ -190,7 +190,7 @@ fn owned_map(event: &MountEvent<'_>, home: u64, bytes: Bytes) -> SlotEvent
             task,
             home,
             name: bytes,
-            from: start,
+            from,
             pages,
             sharing,
             reserving,
@@ -221,13 +221,13 @@ fn owned_indices(event: &MountEvent<'_>, home: u64) -> SlotEvent
         MountEvent::Unmap {
             task,
             map,
-            start,
-            end,
+            from,
+            to,
         } => SlotEvent::Unmap {
             task,
             map,
-            from: start,
-            to: end,
+            from,
+            to,
         },
         MountEvent::Fault {
             task,

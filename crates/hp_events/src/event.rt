@@ -19,18 +19,18 @@ pub enum MountEvent<'a> {
         name: &'a [u8],
         pages: u64,
     },
-    /// The pages of a file's indices from `start` up to `end` go with their entries, and so do private copies of them.
+    /// The pages of a file's indices from `from` up to `to` go with their entries, and so do private copies of them.
     Punch {
         name: &'a [u8],
-        start: u64,
-        end: u64,
+        from: u64,
+        to: u64,
     },
-    /// Gives each index of a file from `start` up to `end` that has no page a page of zeros; the file gets longer where the
+    /// Gives each index of a file from `from` up to `to` that has no page a page of zeros; the file gets longer where the
     /// range ends past its end.
     Preallocate {
         name: &'a [u8],
-        start: u64,
-        end: u64,
+        from: u64,
+        to: u64,
     },
     /// Answers a file's length, its pages, its entered indices and its maps.
     Stat {
@@ -43,14 +43,14 @@ pub enum MountEvent<'a> {
         offset: u64,
         count: u64,
     },
-    /// Maps `pages` indices of a file, from `start` on; the file gets longer where the map ends past its end. With
+    /// Maps `pages` indices of a file, from `from` on; the file gets longer where the map ends past its end. With
     /// reservations a page is reserved for each index of a private map, and for each of a shared one that was not
     /// entered, and those of the shared one are entered (`mm/hugetlbfs_reserv.rst`); without, each page is asked for
     /// when it is first touched.
     Map {
         task: u64,
         name: &'a [u8],
-        start: u64,
+        from: u64,
         pages: u64,
         sharing: Sharing,
         reserving: Reserving,
@@ -62,13 +62,13 @@ pub enum MountEvent<'a> {
         sharing: Sharing,
         reserving: Reserving,
     },
-    /// The file's indices from `start` up to `end` leave a map, with its private copies and an owner's unused reservations
+    /// The file's indices from `from` up to `to` leave a map, with its private copies and an owner's unused reservations
     /// there. A map without indices goes, and a file without name and maps.
     Unmap {
         task: u64,
         map: u64,
-        start: u64,
-        end: u64,
+        from: u64,
+        to: u64,
     },
     /// Sees to it that a map shows a page at an index, or for a write that it has one to write into.
     Fault {
@@ -96,5 +96,5 @@ pub enum MountEvent<'a> {
     /// Answers the names of the files that have one, in order of creation.
     Ls,
     /// Answers the mount's limits, its pages in use and reservations, and how many files it has.
-    Usage,
+    Df,
 }

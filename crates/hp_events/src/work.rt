@@ -47,7 +47,7 @@ pub enum Work<'x> {
         slot: u64,
     },
     /// The names of a slot's files.
-    Names {
+    Ls {
         slot: u64,
     },
     /// An event of a mount.
@@ -82,8 +82,8 @@ pub fn work_of<'x>(step: &Step<'x>) -> Work<'x>
             options: options.as_slice(),
         },
         Step::Umount { slot } => Work::Umount { slot },
-        Step::Ls { slot } => Work::Names { slot },
-        Step::Df { slot } => on_slot(slot, MountEvent::Usage),
+        Step::Ls { slot } => Work::Ls { slot },
+        Step::Df { slot } => on_slot(slot, MountEvent::Df),
         Step::Create { slot, .. }
         | Step::Unlink { slot, .. }
         | Step::Truncate { slot, .. }
@@ -138,13 +138,13 @@ fn file_event<'x>(step: &Step<'x>) -> MountEvent<'x>
         },
         Step::Punch { name, from, to, .. } => MountEvent::Punch {
             name: name.as_slice(),
-            start: *from,
-            end: *to,
+            from: *from,
+            to: *to,
         },
         Step::Preallocate { name, from, to, .. } => MountEvent::Preallocate {
             name: name.as_slice(),
-            start: *from,
-            end: *to,
+            from: *from,
+            to: *to,
         },
         Step::Read {
             name,
@@ -182,7 +182,7 @@ fn mapping_event<'x>(task: u64, step: &Step<'x>) -> MountEvent<'x>
         } => MountEvent::Map {
             task,
             name: name.as_slice(),
-            start: from,
+            from,
             pages,
             sharing,
             reserving,
@@ -201,8 +201,8 @@ fn mapping_event<'x>(task: u64, step: &Step<'x>) -> MountEvent<'x>
         Step::Unmap { map, from, to, .. } => MountEvent::Unmap {
             task,
             map,
-            start: from,
-            end: to,
+            from,
+            to,
         },
         _ => unreachable!(),
     }
@@ -271,7 +271,7 @@ pub fn most_receipts(slots: usize, work: &Work<'_>) -> usize
         | Work::Mount { .. }
         | Work::Remount { .. }
         | Work::Umount { .. }
-        | Work::Names { .. }
+        | Work::Ls { .. }
         | Work::OnSlot { .. } => 1,
     }
 }

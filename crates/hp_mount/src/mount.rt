@@ -130,14 +130,12 @@ impl<N: Naming> Mount<N> {
         match event {
             MountEvent::Create { name } => Told::done(self.create(name)),
             MountEvent::Ls => self.ls(),
-            MountEvent::Usage => Ok(self.usage()),
+            MountEvent::Df => Ok(self.usage()),
             MountEvent::Unlink { name } => Told::done(self.unlink(door, name)),
             MountEvent::Truncate { name, pages } => Told::done(self.truncate(door, name, pages)),
-            MountEvent::Punch { name, start, end } => {
-                Told::done(self.punch(door, name, start, end))
-            }
-            MountEvent::Preallocate { name, start, end } => {
-                Told::done(self.preallocate(door, name, start, end))
+            MountEvent::Punch { name, from, to } => { Told::done(self.punch(door, name, from, to)) }
+            MountEvent::Preallocate { name, from, to } => {
+                Told::done(self.preallocate(door, name, from, to))
             }
             MountEvent::Stat { name } => self.stat(name),
             MountEvent::Read {
@@ -149,12 +147,12 @@ impl<N: Naming> Mount<N> {
             MountEvent::Map {
                 task,
                 name,
-                start,
+                from,
                 pages,
                 sharing,
                 reserving,
             } => Told::map_no(self.new_map(
-                door, home, task, name, start, pages, sharing, reserving,
+                door, home, task, name, from, pages, sharing, reserving,
             )),
             MountEvent::Anon {
                 task,

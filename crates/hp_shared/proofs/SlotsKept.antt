@@ -140,7 +140,7 @@ mount_has_place k home (m.Fault task map index intent) = refl
 mount_has_place k home (m.Load task map index offset count) = refl
 mount_has_place k home (m.Store task map index offset bytes) = refl
 mount_has_place k home m.Ls = refl
-mount_has_place k home m.Usage = refl
+mount_has_place k home m.Df = refl
 
 may_happen : (s : Slot) (e : SlotEvent) → has_place (OnSlot 0 e) ≡ false → IsTrue (is_slot_event s e)
 may_happen s (ExitMaps task) other = cc

@@ -31,7 +31,7 @@ none_event size k c home (m.Fault task map index intent) = refl
 none_event size k c home (m.Load task map index offset count) = refl
 none_event size k c home (m.Store task map index offset bytes) = refl
 none_event size k c home m.Ls = refl
-none_event size k c home m.Usage = refl
+none_event size k c home m.Df = refl
 
 module _ {X : Type 0} (took : X → Section → PoolAnswer → X → Type 0) (full : X → Type 0) where
   pub none_done : (size k home : ℕ) (e : MountEvent) (d : X) → IsDone took full size k None d (as_event home e) (Err r.NoSuchSlot) None d

@@ -3,7 +3,7 @@ use Rattle.std.proofs.Common.{◌≡◌, ℕ, refl}
 use Rattle.hp_events.specs.Event.{as_event}
 use Rattle.hp_events.specs.Memory.{asks_memory}
 use Rattle.hp_events.specs.declared.event.MountEvent.{MountEvent}
-use Rattle.hp_events.specs.declared.event.MountEvent.TheVariants.{Create, Unlink, Truncate, Punch, Preallocate, Stat, Read, Map, Anon, Unmap, Fault, Load, Store, Ls, Usage}
+use Rattle.hp_events.specs.declared.event.MountEvent.TheVariants.{Create, Unlink, Truncate, Punch, Preallocate, Stat, Read, Map, Anon, Unmap, Fault, Load, Store, Ls, Df}
 use Rattle.hp_model.specs.machine.Plan.{Slot}
 
 pub of_any_home : (slot : Slot) (one other : ℕ) (e : MountEvent) → asks_memory slot (as_event one e) ≡ asks_memory slot (as_event other e)
@@ -21,4 +21,4 @@ of_any_home slot one other (Fault task map index intent) = refl
 of_any_home slot one other (Load task map index offset count) = refl
 of_any_home slot one other (Store task map index offset bytes) = refl
 of_any_home slot one other Ls = refl
-of_any_home slot one other Usage = refl
+of_any_home slot one other Df = refl

@@ -178,7 +178,7 @@ happens home (event.Fault task map index intent) slot = refl
 happens home (event.Load task map index offset count) slot = refl
 happens home (event.Store task map index offset bytes) slot = refl
 happens home event.Ls slot = refl
-happens home event.Usage slot = refl
+happens home event.Df slot = refl
 
 -- so is a mount, a remount and an umount
 pub work_happens : (w : SlotWork) (slot : Slot) → is_of_maps w ≡ false → IsTrue (is_slot_event slot (asked_event w))

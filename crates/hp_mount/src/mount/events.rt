@@ -41,9 +41,9 @@ impl<N: Naming> Mount<N> {
             MountEvent::Unmap {
                 task,
                 map,
-                start,
-                end,
-            } => Told::done(self.unmap(door, task, map, start, end)),
+                from,
+                to,
+            } => Told::done(self.unmap(door, task, map, from, to)),
             MountEvent::Fault {
                 task,
                 map,

@@ -12,7 +12,7 @@ ghost use Rattle.hp_events.specs.SlotWork.{AreCopiesFor, asked_event, carries, i
 ghost use Rattle.hp_events.specs.Replies.{table_reply};
 ghost use Rattle.hp_events.specs.declared.work.Work.TheVariants.{Attach as AttachATask, OfTask as OfATask, OnSlot as OnASlot, Pool as ThePool};
 ghost use Rattle.hp_sessions.specs.Calls.{HasReceiptRoom, IsCallAnswered};
-ghost use Rattle.hp_events.specs.Works.{ListsByNamesAlone};
+ghost use Rattle.hp_events.specs.Works.{ListsByLsAlone};
 ghost use Rattle.hp_events.specs.Fitting.{HasAnswerOf};
 ghost use Rattle.hp_sessions.specs.Works.{IsAsked, IsWorked};
 
@@ -167,7 +167,7 @@ impl<P: Parts> Session<P> {
     #[inline(never)]
     fn do_work<'b>(&mut self, work: &Work<'_>, room: &'b mut [u8]) -> Result<Told<'b>, Refusal>
         requires room { most_bytes ≤ length room.old }
-        requires apart { ListsByNamesAlone work.now }
+        requires apart { ListsByLsAlone work.now }
         ensures worked { IsWorked P.keeps P.page self.old work.now (told_reply result)
             self.new }
         ensures limits { IsWithinLimits (told_reply result) }
@@ -188,7 +188,7 @@ impl<P: Parts> Session<P> {
                 self.on_slot(slot, SlotWork::Remount { options }, room)
             }
             Work::Umount { slot } => self.on_slot(slot, SlotWork::Umount, room),
-            Work::Names { slot } => self.make_names(slot),
+            Work::Ls { slot } => self.make_names(slot),
             Work::OnSlot { slot, event } => self.of_mount(slot, event, room),
             Work::OfTask { task, slot, event } => self.of_task(task, slot, event, room),
         }

@@ -296,7 +296,7 @@ impl<N: Naming> System<N> {
                 self.ask_slot(slot, SlotWork::Remount { options }, room, reply)
             }
             Work::Umount { slot } => self.ask_slot(slot, SlotWork::Umount, room, reply),
-            Work::Names { slot } => self.on_slot(slot, 0, &MountEvent::Ls, room, reply),
+            Work::Ls { slot } => self.on_slot(slot, 0, &MountEvent::Ls, room, reply),
             Work::OnSlot { slot, event } => self.on_slot(slot, 0, &event, room, reply),
             Work::OfTask { task, slot, event } => self.of_task(task, slot, &event, room, reply),
         }

@@ -26,10 +26,10 @@ returns-in-Create-clause-done g c k =
     alone g.D.PoolDoor.took g.D.PoolDoor.is_full g.N.Naming.page_bytes k c.args.home (Some c.args.self.now) (Some c.create.new.self) c.args.door.now
     c.in-Create.is c.done.ensures c.create.ensures.noted (c.create.ensures.done g.N.Naming.page_bytes k)
 
-pub returns-in-Usage-clause-done : goal.returns-in-Usage-clause-done
-returns-in-Usage-clause-done g c k =
+pub returns-in-Df-clause-done : goal.returns-in-Df-clause-done
+returns-in-Df-clause-done g c k =
     alone g.D.PoolDoor.took g.D.PoolDoor.is_full g.N.Naming.page_bytes k c.args.home (Some c.args.self.now) (Some c.args.self.now) c.args.door.now
-    {a = told_reply (Ok c.usage.result)} c.in-Usage.is refl (λ e. cc) (c.usage.ensures.done g.N.Naming.page_bytes k)
+    {a = told_reply (Ok c.usage.result)} c.in-Df.is refl (λ e. cc) (c.usage.ensures.done g.N.Naming.page_bytes k)
 
 pub returns-in-Ls-clause-done : goal.returns-in-Ls-clause-done
 returns-in-Ls-clause-done g c k =
