@@ -152,47 +152,6 @@ impl<N: Naming> Files<N> {
         }
     }
 
-    // As `preallocate`, with the room that was made left after a refusal.
-    fn fill_range<D: PoolDoor<N>>(
-        &mut self,
-        door: &mut D,
-        share: &mut Subpool<N>,
-        file: usize,
-        from: u64,
-        to: u64,
-        k: u64,
-        count: u64,
-    ) -> Result<(), Refusal>
-        requires ready { D.is_ready door.old }
-        requires file { file < length self.old.files }
-        requires order { from ≤ to }
-        requires reach { to ≤ most_file_pages }
-        requires k { k ≡ unentered from to (file_at self.old.files file) }
-        requires count { count ≡ lacking from to (file_at self.old.files file) }
-        requires within { is_full share.old k ≡ false }
-        requires held { count ≤ share.old.held + k }
-        requires pages { share.old.pages ≡ sum_by file_pages self.old.files }
-        ensures filled { OnOk result ((takes : List ℕ)
-            × IsTaking D.took D.is_full k count share.old door.old result takes share.new door.new
-            × (self.new ≡ pages_put N.page_bytes file from to (rising_nodes count takes)
-            (max self.old.room (share.old.held + k) - count) self.old)) }
-        ensures err { OnErr result (self.new ≡ record self.old { room = self.new.room }) }
-        ensures more { OnErr result (self.old.room ≤ self.new.room) }
-        ensures refused { OnErr result (IsTaking D.took D.is_full k count share.old door.old
-            result [] share.new door.new) }
-        ensures left { D.is_left door.new }
-    {
-        match self.take_pages(door, share, file, from, to, k, count) {
-            Ok(got) => {
-                let mut batch = got;
-                self.put_pages(file, from, to, &mut batch);
-                batch.close();
-                Ok(())
-            }
-            Err(refusal) => Err(refusal),
-        }
-    }
-
     /// Gives each index of a file from `from` up to `to` that has none a page of zeros; the file gets longer where `to` is
     /// past its end. `k` of the indices have no entry, and `count` no page: so many are reserved and taken through the door, in
     /// one section.
@@ -228,10 +187,17 @@ impl<N: Naming> Files<N> {
         ensures left { D.is_left door.new }
     {
         let room = self.spare_room();
-        let done = self.fill_range(door, share, file, from, to, k, count);
-        if done.is_err() {
-            self.lower_room(room);
+        match self.take_pages(door, share, file, from, to, k, count) {
+            Ok(got) => {
+                let mut batch = got;
+                self.put_pages(file, from, to, &mut batch);
+                batch.close();
+                Ok(())
+            }
+            Err(refusal) => {
+                self.lower_room(room);
+                Err(refusal)
+            }
         }
-        done
     }
 }

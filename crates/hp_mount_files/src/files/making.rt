@@ -125,45 +125,6 @@ impl<N: Naming> Files<N> {
         Ok(())
     }
 
-    // As `add_map`, with the room that was made left after a refusal.
-    fn map_range<D: PoolDoor<N>>(
-        &mut self,
-        door: &mut D,
-        share: &mut Subpool<N>,
-        home: usize,
-        file: usize,
-        range: &MapRange,
-        next: NextMap,
-    ) -> Result<(), Refusal>
-        requires ready { D.is_ready door.old }
-        requires file { file < length self.old.files }
-        requires reach { range.now.start + range.now.pages ≤ most_file_pages }
-        requires maps { length (all_maps self.old.files) < most_maps }
-        requires number { next.number ≡ next_of range.now.task self.old.files }
-        requires first { next.is_first ≡ is_first_of range.now.task self.old.files }
-        requires within { is_full share.old (wants range.now (file_at self.old.files file))
-            ≡ false }
-        requires pages { share.old.pages ≡ sum_by file_pages self.old.files }
-        ensures ok { OnOk result (self.new
-            ≡ mapped_at file range.now.task next.number range.now.start range.now.pages
-            (max self.old.room (share.old.held + wants range.now (file_at self.old.files file)))
-            range.now.sharing range.now.reserving self.old) }
-        ensures err { OnErr result (self.new ≡ record self.old { room = self.new.room }) }
-        ensures more { OnErr result (self.old.room ≤ self.new.room) }
-        ensures asked { IsAsked D.took D.is_full home
-            (wants range.now (file_at self.old.files file))
-            share.old door.old result share.new door.new }
-        ensures left { D.is_left door.new }
-    {
-        let wanted = self.wanted(file, range);
-        let reserves = share.held().saturating_add(wanted);
-        if self.make_room(reserves as usize).is_err() {
-            return Err(Refusal::OutOfMemory);
-        }
-        self.put_map(door, share, home, file, range, next)?;
-        Ok(())
-    }
-
     /// Adds a map of a file, which makes the file longer where it reaches past its end. The indices of a shared map that
     /// reserves are entered. What it asks for (`wanted`) is reserved through the door, and there is room for each
     /// reservation.
@@ -199,7 +160,11 @@ impl<N: Naming> Files<N> {
         ensures left { D.is_left door.new }
     {
         let room = self.spare_room();
-        let done = self.map_range(door, share, home, file, range, next);
+        let reserves = share.held().saturating_add(self.wanted(file, range));
+        let done = match self.make_room(reserves as usize) {
+            Ok(()) => self.put_map(door, share, home, file, range, next),
+            Err(_) => Err(Refusal::OutOfMemory),
+        };
         if done.is_err() {
             self.lower_room(room);
         }
@@ -249,40 +214,6 @@ impl<N: Naming> Files<N> {
         Ok(())
     }
 
-    // As `add_anon`, with the room that was made left after a refusal.
-    fn map_anon<D: PoolDoor<N>>(
-        &mut self,
-        door: &mut D,
-        share: &mut Subpool<N>,
-        home: usize,
-        range: &MapRange,
-        next: NextMap,
-    ) -> Result<(), Refusal>
-        requires ready { D.is_ready door.old }
-        requires reach { range.now.start + range.now.pages ≤ most_file_pages }
-        requires maps { length (all_maps self.old.files) < most_maps }
-        requires number { next.number ≡ next_of range.now.task self.old.files }
-        requires first { next.is_first ≡ is_first_of range.now.task self.old.files }
-        requires within { is_full share.old (wants range.now (new_file None)) ≡ false }
-        requires pages { share.old.pages ≡ sum_by file_pages self.old.files }
-        ensures ok { OnOk result (self.new
-            ≡ with_anon range.now.task next.number range.now.start range.now.pages
-            (max self.old.room (share.old.held + wants range.now (new_file None)))
-            range.now.sharing range.now.reserving self.old) }
-        ensures err { OnErr result (self.new ≡ record self.old { room = self.new.room }) }
-        ensures more { OnErr result (self.old.room ≤ self.new.room) }
-        ensures asked { IsAsked D.took D.is_full home (wants range.now (new_file None))
-            share.old door.old result share.new door.new }
-        ensures left { D.is_left door.new }
-    {
-        let reserves = share.held().saturating_add(range.wanted_alone());
-        if self.make_room(reserves as usize).is_err() {
-            return Err(Refusal::OutOfMemory);
-        }
-        self.put_anon(door, share, home, range, next)?;
-        Ok(())
-    }
-
     /// Adds a file without name, which has one map. The indices of a shared map that reserves are entered. With
     /// reservations a page for each index is reserved through the door, and there is room for each reservation.
     ///
@@ -313,7 +244,11 @@ impl<N: Naming> Files<N> {
         ensures left { D.is_left door.new }
     {
         let room = self.spare_room();
-        let done = self.map_anon(door, share, home, range, next);
+        let reserves = share.held().saturating_add(range.wanted_alone());
+        let done = match self.make_room(reserves as usize) {
+            Ok(()) => self.put_anon(door, share, home, range, next),
+            Err(_) => Err(Refusal::OutOfMemory),
+        };
         if done.is_err() {
             self.lower_room(room);
         }

@@ -7,7 +7,7 @@ use Rattle.hp_mount_door.specs.Door.{by_node}
 use Rattle.hp_lookup.specs.Files.{Files, file_at}
 use Rattle.hp_file.specs.Filling.{zeros_at}
 use Rattle.hp_file.proofs.Filling.{all_filled, entries_there, lacking_there, rising_length}
-use Rattle.hp_mount_files.proofs.files.Files.fill_range.Goals as goal
+use Rattle.hp_mount_files.proofs.files.Files.preallocate.Goals as goal
 
 pub put_pages-requires-clause-entered : goal.put_pages-requires-clause-entered
 put_pages-requires-clause-entered g c i low high =
