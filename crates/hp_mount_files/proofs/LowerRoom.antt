@@ -1,8 +1,8 @@
 -- Room is given back.
-use Rattle.std.proofs.Common.{◌≡◌, ℕ, zero, suc, ◌+◌, ◌-◌, ◌≤◌, min, Option, None, List, [], ◌∷◌, ◌++◌, length, replicate, refl, sym, ap, ◌∙◌, arith}
+use Rattle.std.proofs.Common.{◌≡◌, ℕ, zero, suc, ◌+◌, ◌-◌, min, Option, None, List, [], ◌∷◌, ◌++◌, length, replicate, refl, sym, ap, ◌∙◌, arith}
 use Rattle.std.specs.Prelude.{slice_index_or}
 use Rattle.std.proofs.lemmas.List.Sums.{sum_by-append, sum_by-cons}
-use Rattle.hp_store.specs.Store.{Store, Holding, page_at, holders_of}
+use Rattle.hp_store.specs.Store.{Store, Holding, page_at}
 use Rattle.hp_lookup.specs.Numbered.{NumberedFile, files_shown}
 use Rattle.hp_lookup.specs.Held.{IsHeld, more_in, more_of}
 use Rattle.hp_lookup.proofs.Lifting.{files_same}

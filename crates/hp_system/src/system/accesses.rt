@@ -41,10 +41,26 @@ impl<N: Naming> System<N> {
         ensures few { IfOk result (λ bytes. length bytes.now ≤ most_bytes) }
         ensures ready { IsReadyMachine self.new }
     {
-        match self.table.home(access.task) {
-            Some(home) => self.load_on_slot(home, access, count, room),
-            None => Err(Refusal::NoSuchTask),
+        let Some(home) = self.table.home(access.task) else {
+            return Err(Refusal::NoSuchTask);
+        };
+        let page_bytes = self.page_bytes();
+        let at = access.slot as usize;
+        if at >= self.slots.len() {
+            return Err(Refusal::NoSuchSlot);
         }
+        let Some(mount) = &mut self.slots[at] else {
+            return Err(Refusal::NoSuchSlot);
+        };
+        mount.load(
+            &mut self.pool,
+            page_bytes,
+            home,
+            &place_of(access),
+            access.offset,
+            count,
+            room,
+        )
     }
 
     /// Does the step of a store of these bytes, as `apply` does. Refused as a load of as many bytes.
@@ -59,10 +75,26 @@ impl<N: Naming> System<N> {
         ensures size { self.new.state.page_size ≡ self.old.state.page_size }
         ensures ready { IsReadyMachine self.new }
     {
-        match self.table.home(access.task) {
-            Some(home) => self.store_on_slot(home, access, bytes),
-            None => Err(Refusal::NoSuchTask),
+        let Some(home) = self.table.home(access.task) else {
+            return Err(Refusal::NoSuchTask);
+        };
+        let page_bytes = self.page_bytes();
+        let at = access.slot as usize;
+        if at >= self.slots.len() {
+            return Err(Refusal::NoSuchSlot);
         }
+        let Some(mount) = &mut self.slots[at] else {
+            return Err(Refusal::NoSuchSlot);
+        };
+        let place = place_of(access);
+        mount.store(
+            &mut self.pool,
+            page_bytes,
+            home,
+            &place,
+            access.offset,
+            bytes,
+        )
     }
 
     /// Does the step of a fault, as `apply` does: where no page is there, one comes.
@@ -81,111 +113,32 @@ impl<N: Naming> System<N> {
         ensures size { self.new.state.page_size ≡ self.old.state.page_size }
         ensures ready { IsReadyMachine self.new }
     {
-        match self.table.home(access.task) {
-            Some(home) => self.fault_on_slot(home, access, intent),
-            None => Err(Refusal::NoSuchTask),
+        let Some(home) = self.table.home(access.task) else {
+            return Err(Refusal::NoSuchTask);
+        };
+        let at = access.slot as usize;
+        if at >= self.slots.len() {
+            return Err(Refusal::NoSuchSlot);
         }
+        let Some(mount) = &mut self.slots[at] else {
+            return Err(Refusal::NoSuchSlot);
+        };
+        mount.fault(&mut self.pool, home, &place_of(access), intent)
     }
+}
 
-    // A load for a task with that home node, whose slot is there or not.
-    #[inline(always)]
-    fn load_on_slot<'a>(
-        &mut self,
-        home: u64,
-        access: &Access,
-        count: u64,
-        room: &'a mut [u8],
-    ) -> Result<&'a [u8], Refusal>
-        requires ready { IsReadyMachine self.old }
-        requires room { most_bytes ≤ length room.old }
-        ensures done { DoesOnSlot self.old.state access.now.slot (load_event access.now count home)
-            (bytes_reply result) self.new.state }
-        ensures memory { asks_memory (slot_at self.old.state access.now.slot)
-            (load_event access.now count home) ≡ false → result ≢ Err Refusal.OutOfMemory }
-        ensures size { self.new.state.page_size ≡ self.old.state.page_size }
-        ensures few { IfOk result (λ bytes. length bytes.now ≤ most_bytes) }
-        ensures ready { IsReadyMachine self.new }
-    {
-        let page_bytes = self.page_bytes();
-        let at = access.slot as usize;
-        if at >= self.slots.len() {
-            return Err(Refusal::NoSuchSlot);
-        }
-        let Some(mount) = &mut self.slots[at] else {
-            return Err(Refusal::NoSuchSlot);
-        };
-        let place = MapAccess {
-            task: access.task,
-            map: access.map,
-            index: access.index,
-        };
-        mount.load(
-            &mut self.pool,
-            page_bytes,
-            home,
-            &place,
-            access.offset,
-            count,
-            room,
-        )
-    }
-
-    // A store for a task with that home node, whose slot is there or not.
-    #[inline(always)]
-    fn store_on_slot(&mut self, home: u64, access: &Access, bytes: &[u8]) -> Result<(), Refusal>
-        requires ready { IsReadyMachine self.old }
-        ensures done { DoesOnSlot self.old.state access.now.slot
-            (store_event access.now bytes.now home) (done_reply result) self.new.state }
-        ensures memory { asks_memory (slot_at self.old.state access.now.slot)
-            (store_event access.now bytes.now home) ≡ false → result ≢ Err Refusal.OutOfMemory }
-        ensures size { self.new.state.page_size ≡ self.old.state.page_size }
-        ensures ready { IsReadyMachine self.new }
-    {
-        let page_bytes = self.page_bytes();
-        let at = access.slot as usize;
-        if at >= self.slots.len() {
-            return Err(Refusal::NoSuchSlot);
-        }
-        let Some(mount) = &mut self.slots[at] else {
-            return Err(Refusal::NoSuchSlot);
-        };
-        let place = MapAccess {
-            task: access.task,
-            map: access.map,
-            index: access.index,
-        };
-        mount.store(
-            &mut self.pool,
-            page_bytes,
-            home,
-            &place,
-            access.offset,
-            bytes,
-        )
-    }
-    // A fault for a task with that home node, whose slot is there or not.
-    #[inline(always)]
-    fn fault_on_slot(&mut self, home: u64, access: &Access, intent: Intent) -> Result<(), Refusal>
-        requires ready { IsReadyMachine self.old }
-        ensures done { DoesOnSlot self.old.state access.now.slot
-            (fault_event access.now intent home) (done_reply result) self.new.state }
-        ensures memory { asks_memory (slot_at self.old.state access.now.slot)
-            (fault_event access.now intent home) ≡ false → result ≢ Err Refusal.OutOfMemory }
-        ensures size { self.new.state.page_size ≡ self.old.state.page_size }
-        ensures ready { IsReadyMachine self.new }
-    {
-        let at = access.slot as usize;
-        if at >= self.slots.len() {
-            return Err(Refusal::NoSuchSlot);
-        }
-        let Some(mount) = &mut self.slots[at] else {
-            return Err(Refusal::NoSuchSlot);
-        };
-        let place = MapAccess {
-            task: access.task,
-            map: access.map,
-            index: access.index,
-        };
-        mount.fault(&mut self.pool, home, &place, intent)
+// The index of a map that an access asks for.
+#[inline(always)]
+fn place_of(access: &Access) -> MapAccess
+    ensures { result ≡ record {
+      task = access.now.task;
+      map = access.now.map;
+      index = access.now.index;
+    } }
+{
+    MapAccess {
+        task: access.task,
+        map: access.map,
+        index: access.index,
     }
 }
