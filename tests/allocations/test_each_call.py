@@ -24,7 +24,7 @@ OUT_OF_MEMORY = b"error 1 OutOfMemory\n"
 NAMES_IT = re.compile(r"AllocError|AllocFailed|OutOfMemory|\bMemory\b|out of memory")
 # Where memory is refused to a run's own buffers nothing is read, and these want replies: so they are run with no call refused, and the
 # program tries the others.
-OUTER = ("hp_wire_tests", "hp_serving_tests", "hp_server_tests")
+OUTER = ("hp_serving_tests", "hp_server_tests")
 # In these several threads meet: where one is refused memory the others have other replies. They are run once, too.
 TOGETHER = ("rows::", "stress::", "many::", "filling::", "making::")
 WORDS = [["--help"], ["--version"], ["script", "--help"], ["--page", "3"], ["--frames", "4,4,4,4,4"], ["--slots", "4", "script"], ["serve"], ["serve", "--help"],

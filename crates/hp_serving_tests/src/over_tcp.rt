@@ -1,6 +1,7 @@
 //! Sessions over TCP.
 
-use crate::ends::{Onto, Writer};
+use crate::ends::Writer;
+use crate::in_memory::Onto;
 use crate::machine::Small;
 use crate::same::same;
 use hp_serving::{Listening, serve_sessions};

@@ -1,6 +1,7 @@
 //! Sessions in memory, on several workers.
 
-use crate::ends::{InMemory, Writer};
+use crate::ends::Writer;
+use crate::in_memory::InMemory;
 use crate::machine::Small;
 use crate::same::same;
 use hp_serving::serve_sessions;

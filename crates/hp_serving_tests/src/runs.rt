@@ -2,7 +2,8 @@
 ghost use Rattle.std.specs.Prelude.{◌≡◌, ◌≢◌, ℕ, List, length, min, IfErr, IfOk};
 ghost use Rattle.hp_wire.specs.Filled.{buffer_filled};
 
-use crate::ends::{Client, Counter, Nowhere, Reader, Writer};
+use crate::clients::{Client, Counter, Nowhere};
+use crate::ends::{Reader, Writer};
 use crate::same::same;
 use crate::sample::Sample;
 use hp_wire::fault::RunFault;
