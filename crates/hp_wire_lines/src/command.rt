@@ -61,6 +61,7 @@ pub fn command_of(word: &[u8]) -> Option<Command>
 
 // A command of a slot, without a task, or another.
 #[tactic(auto, unfolding(hp_model::specs::text::Reading::slot_command))]
+#[inline(always)]
 fn slot_command(word: &[u8]) -> Option<Command>
     ensures { (words : List (List ℕ)) → slot_command word.now words ≡ step_as result words }
 {
@@ -95,6 +96,7 @@ fn slot_command(word: &[u8]) -> Option<Command>
 
 // A command of the pool.
 #[tactic(auto, unfolding(hp_model::specs::text::Reading::pool_command))]
+#[inline(always)]
 fn pool_command(word: &[u8]) -> Option<Command>
     ensures { (words : List (List ℕ)) → pool_command word.now words ≡ step_as result words }
 {
