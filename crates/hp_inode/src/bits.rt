@@ -1,5 +1,5 @@
 //! How many bits a range of words has: words with none are passed 64 at a step, and full ones in a run.
-ghost use Rattle.std.specs.Prelude.{ℕ, ◌≡◌, ◌+◌, ◌*◌, ◌/◌, ◌<◌, ◌≤◌, true};
+ghost use Rattle.std.specs.Prelude.{ℕ, ◌≡◌, ◌≢◌, ◌+◌, ◌-◌, ◌*◌, ◌/◌, ◌^◌, ◌<◌, ◌≤◌, length, slice_index, true};
 ghost use Rattle.hp_inode.specs.EntryBlock.{count_in, IsEntries};
 ghost use Rattle.hp_marks.specs.Marks.{marked};
 
@@ -52,11 +52,13 @@ fn count_in_words(words: &[u64], marks: &[u64], a: usize, b: usize) -> u64
     count
 }
 
-// Passes the full words from `from` on, up to `end` at most, and answers where they end.
+// Passes all full words from `from` on, up to `end` at most, and answers where they end.
 fn full_to(words: &[u64], from: usize, end: usize) -> usize
     ensures from { from ≤ result }
     ensures to { from < result → result ≤ end }
     ensures full { (k : ℕ) → 64 * from ≤ k → k < 64 * result → marked words.now k ≡ true }
+    ensures stops { result < end → result < length words.now
+        → slice_index words.now result ≢ 2 ^ 64 - 1 }
 {
     let last = end.min(words.len());
     let mut at = from;

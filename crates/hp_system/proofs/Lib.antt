@@ -1,3 +1,4 @@
+mod Accesses
 mod Asking
 mod Carries
 mod Ending

@@ -21,10 +21,7 @@ use Rattle.hp_model.specs.declared.event.TableEvent.{TableEvent}
 use Rattle.hp_model.specs.declared.event.TableEvent.TheVariants as table
 use Rattle.hp_model.specs.declared.refusal.Refusal.{Refusal}
 use Rattle.hp_model.specs.declared.refusal.Refusal.TheVariants.{NoSuchTask, NoSuchSlot, OutOfRange}
-use Rattle.hp_model.specs.declared.step.Intent.{Intent}
 use Rattle.hp_model.specs.declared.step.Step.TheVariants.{Attach, Connect, Exit, Overcommit}
-use Rattle.hp_model.specs.declared.service.Access.{Access}
-use Rattle.hp_model.specs.beside.Accesses.{fault_step, load_step, store_step}
 use Rattle.hp_model.specs.machine.Event.{IsEvent, has_maps_of, with_table, with_pool_reply, is_slot_event}
 use Rattle.hp_model.specs.machine.Machine.{pool_of, node_of}
 use Rattle.hp_model.specs.machine.Plan.{Reply, Slot}
@@ -38,7 +35,7 @@ use Rattle.hp_model.specs.machine.Step.{Script, Answer_with, Do, exit_slot, exit
 use Rattle.hp_model.specs.machine.Table.{Table, table_event, home_of, removed, when_known}
 use Rattle.hp_model.specs.machine.SlotEvent.{slot_event}
 use Rattle.hp_mount_laws.specs.Done.{IsDone}
-use Rattle.hp_system.specs.Event.{AreExited, IsCarried, DoesOnSlot, fault_event, load_event, store_event, took}
+use Rattle.hp_system.specs.Event.{AreExited, IsCarried, took}
 use Rattle.hp_model.specs.machine.Ready.{IsReadyMachine, machine_of, state_of, Machine}
 use Rattle.hp_system.proofs.Carries.{calm, event_done, kept_after, never_full, ready_by, slot_in, IsKept}
 
@@ -191,35 +188,6 @@ module _ (s : State) (task : ℕ) where
 
   pub task_not_found : (next : ℕ → Script) → home_of s.table task ≡ None → IsScript s (finding task next) (Err NoSuchTask) s
   task_not_found next unknown = (Err NoSuchTask, s, find_is None unknown, (refl, refl))
-
--- ---- loads, stores and faults
-
-pub load_found : (s t : State) (a : Access) (count home : ℕ) (reply : Reply) → home_of s.table a.task ≡ Some home →
-    DoesOnSlot s a.slot (load_event a count home) reply t → IsStep s (load_step a count) reply t
-unfolding IsStep
-load_found s t a count home reply known h = task_found s a.task t home (λ x. on_slot (length s.slots) a.slot (load_event a count x)) reply known h
-
-pub load_not_found : (s : State) (a : Access) (count : ℕ) → home_of s.table a.task ≡ None → IsStep s (load_step a count) (Err NoSuchTask) s
-unfolding IsStep
-load_not_found s a count unknown = task_not_found s a.task (λ x. on_slot (length s.slots) a.slot (load_event a count x)) unknown
-
-pub store_found : (s t : State) (a : Access) (bytes : List ℕ) (home : ℕ) (reply : Reply) → home_of s.table a.task ≡ Some home → DoesOnSlot s a.slot (store_event a bytes home) reply t
-    → IsStep s (store_step a bytes) reply t
-unfolding IsStep
-store_found s t a bytes home reply known h = task_found s a.task t home (λ x. on_slot (length s.slots) a.slot (store_event a bytes x)) reply known h
-
-pub store_not_found : (s : State) (a : Access) (bytes : List ℕ) → home_of s.table a.task ≡ None → IsStep s (store_step a bytes) (Err NoSuchTask) s
-unfolding IsStep
-store_not_found s a bytes unknown = task_not_found s a.task (λ x. on_slot (length s.slots) a.slot (store_event a bytes x)) unknown
-
-pub fault_found : (s t : State) (a : Access) (intent : Intent) (home : ℕ) (reply : Reply) → home_of s.table a.task ≡ Some home →
-    DoesOnSlot s a.slot (fault_event a intent home) reply t → IsStep s (fault_step a intent) reply t
-unfolding IsStep
-fault_found s t a intent home reply known h = task_found s a.task t home (λ x. on_slot (length s.slots) a.slot (fault_event a intent x)) reply known h
-
-pub fault_not_found : (s : State) (a : Access) (intent : Intent) → home_of s.table a.task ≡ None → IsStep s (fault_step a intent) (Err NoSuchTask) s
-unfolding IsStep
-fault_not_found s a intent unknown = task_not_found s a.task (λ x. on_slot (length s.slots) a.slot (fault_event a intent x)) unknown
 
 -- ---- slots
 
