@@ -75,7 +75,8 @@ impl ChunkList {
 
     #[inline(always)]
     pub fn has_slots(&self, at: usize) -> bool
-        ensures { result ≡ true → slot_count self.now at ≡ 64 }
+        ensures all { result ≡ true → slot_count self.now at ≡ 64 }
+        ensures none { result ≡ false → slot_count self.now at ≡ 0 }
     {
         at < self.homes.len() && self.homes[at] != BARE
     }
@@ -116,12 +117,13 @@ impl ChunkList {
         Ok(())
     }
 
-    // Passes the chunks from `from` up to `end` that have their slots, and answers where they end.
+    // Passes all chunks from `from` up to `end` that have their slots, and answers where they end.
     fn made_to(&self, from: usize, end: usize) -> usize
         requires { from ≤ end }
         ensures from { from ≤ result }
         ensures to { result ≤ end }
         ensures made { (j : ℕ) → from ≤ j → j < result → slot_count self.now j ≡ 64 }
+        ensures stops { result < end → slot_count self.now result ≡ 0 }
     {
         let mut at = from;
         while at < end && self.has_slots(at) {
