@@ -1,5 +1,5 @@
 -- Pieces whose first bytes were looked at.
-use Rattle.std.proofs.Common.{◌≡◌, ℕ, List, [], ◌∷◌, ◌++◌, ◌+◌, ◌-◌, ◌<◌, ◌≤◌, length, refl, sym, ◌∙◌, ap, arith}
+use Rattle.std.proofs.Common.{◌≡◌, ℕ, List, [], ◌∷◌, ◌++◌, ◌+◌, ◌-◌, ◌<◌, ◌≤◌, length, refl, sym, ◌∙◌, ap, arith, ◌⊎◌, inl, inr}
 use Rattle.std.proofs.Common.{Bool, true, false, ◌&&◌, ◌==◌, nat_lt, if◌then◌else◌, Ok, Err, take, drop, get_or, append-nil, append_assoc, length-drop, drop_of_length-le}
 use Rattle.std.proofs.lemmas.Bool.Decides.{nat_tests}
 use Rattle.std.proofs.lemmas.List.{drop_more, get_or-drop, take-append-drop, take_more}
@@ -8,7 +8,7 @@ use Rattle.std.proofs.lemmas.Slice.Eq.{bytes_eq-Decides}
 use Rattle.std.proofs.lemmas.List.Splits.{slice_split-cons_no, slice_split-cons_yes}
 use Rattle.std.specs.List.{list_all, onto_first}
 use Rattle.std.specs.Str.{bytes_eq}
-use Rattle.hp_model.specs.text.Words.{is_word, is_word_byte, piece_at, pieces_of_line, word_at, word_of, ◌>>=◌}
+use Rattle.hp_model.specs.text.Words.{Read, is_word, is_word_byte, piece_at, pieces_of_line, word_at, word_of, ◌>>=◌}
 use Rattle.hp_model.specs.declared.refusal.Refusal.TheVariants.{BadLine}
 use Rattle.hp_wire_lines.proofs.Fronts.{past, within}
 use Rattle.hp_wire_lines.proofs.Pieces.{first_piece}
@@ -117,6 +117,48 @@ known_word line word short space printed same =
     sym (take-append-drop n line) ∙ ap (λ f. f ++ drop n line) front ∙ ap (λ r. word ++ r) (drop_more line n 0 short ∙ ap (λ b. b ∷ drop (n + 1) line) space) in
     ap (λ xs. piece_at (pieces_of_line xs)) cut ∙ ap piece_at (before_space word (drop (n + 1) line) printed)
     ∙ ap (λ more. Ok (word, more)) (sym (within (n + 1) line (omega arith)))
+
+-- the first piece ends at a space, or is the whole line
+abbrev HasFirst : List ℕ → Type 0
+HasFirst line = (front : List ℕ) × (back : List ℕ) × (line ≡ front ++ 32 ∷ back) × (pieces_of_line line ≡ front ∷ pieces_of_line back)
+
+first_cons : (c : ℕ) (line : List ℕ) → (c == 32) ≡ false → (pieces_of_line line ≡ line ∷ []) ⊎ HasFirst line → (pieces_of_line (c ∷ line) ≡ (c ∷ line) ∷ []) ⊎ HasFirst (c ∷ line)
+first_cons c line other (inl whole) = inl (slice_split-cons_no (λ b. b == 32) c line other ∙ ap (onto_first c) whole)
+first_cons c line other (inr (front, back, is, cut)) = inr (c ∷ front, back, ap (λ xs. c ∷ xs) is, slice_split-cons_no (λ b. b == 32) c line other ∙ ap (onto_first c) cut)
+
+first_by : (c : ℕ) (line : List ℕ) (space : Bool) → (c == 32) ≡ space → (pieces_of_line line ≡ line ∷ []) ⊎ HasFirst line → (pieces_of_line (c ∷ line) ≡ (c ∷ line) ∷ []) ⊎ HasFirst (c ∷ line)
+first_by c line true space h =
+    let is : c ≡ 32 = grind (arith, nat_tests) in
+    inr ([], line, ap (λ b. b ∷ line) is, slice_split-cons_yes (λ b. b == 32) c line space)
+first_by c line false other h = first_cons c line other h
+
+first_or_whole : (line : List ℕ) → (pieces_of_line line ≡ line ∷ []) ⊎ HasFirst line
+first_or_whole [] = inl refl
+first_or_whole (c ∷ line) = first_by c line (c == 32) refl (first_or_whole line)
+
+abbrev taken : Read (List ℕ) → List ℕ
+taken (Ok x) = x.0
+taken (Err e) = []
+
+abbrev left_by : Read (List ℕ) → List (List ℕ)
+left_by (Ok x) = x.1
+left_by (Err e) = []
+
+-- a line that begins so, with more behind it
+begins_so : (line word : List ℕ) (words : List (List ℕ)) → piece_at (pieces_of_line line) ≡ Ok (word, words) → (words ≡ []) ⊎ ((back : List ℕ) × (line ≡ word ++ 32 ∷ back))
+unfolding piece_at
+begins_so line word words h = by_first (first_or_whole line)
+  where
+    by_first : (pieces_of_line line ≡ line ∷ []) ⊎ HasFirst line → (words ≡ []) ⊎ ((back : List ℕ) × (line ≡ word ++ 32 ∷ back))
+    by_first (inl whole) = inl (sym (ap left_by (ap piece_at (sym whole) ∙ h)))
+    by_first (inr (front, back, is, cut)) = inr (back, is ∙ ap (λ f. f ++ 32 ∷ back) (ap taken (ap piece_at (sym cut) ∙ h)))
+
+pub not_so : (line word : List ℕ) (words : List (List ℕ)) → ((back : List ℕ) → line ≡ word ++ 32 ∷ back → ⊥) → piece_at (pieces_of_line line) ≡ Ok (word, words) → words ≡ []
+not_so line word words bad h = by_back (begins_so line word words h)
+  where
+    by_back : (words ≡ []) ⊎ ((back : List ℕ) × (line ≡ word ++ 32 ∷ back)) → words ≡ []
+    by_back (inl none) = none
+    by_back (inr (back, is)) = absurd (bad back is)
 
 no_word : (piece : List ℕ) (pieces more : List (List ℕ)) → pieces ≡ piece ∷ more → is_word piece ≡ false → word_at pieces ≡ Err BadLine
 unfolding word_at piece_at

@@ -1,5 +1,5 @@
 //! The pieces of a line.
-ghost use Rattle.std.specs.Prelude.{◌≡◌, ◌+◌, ◌-◌, ◌<◌, ◌≤◌, length, slice_index, true, false, IfSome, Ok};
+ghost use Rattle.std.specs.Prelude.{◌≡◌, ◌+◌, ◌-◌, ◌<◌, ◌≤◌, ℕ, List, [], length, slice_index, true, false, IfNone, IfSome, Ok};
 ghost use Rattle.std.specs.Int.{IsInRange};
 ghost use Rattle.std.specs.List.{list_all};
 ghost use Rattle.hp_model.specs.text.Words.{is_word_byte, number_at, number_read, piece_at, pieces_of_line};
@@ -47,13 +47,15 @@ impl<'a> Words<'a> {
         Words { line, at: 0 }
     }
 
-    /// The pieces behind a line's first, where that is this word and a space ends it.
+    /// The pieces behind a line's first, where that is this word and a space ends it. A line that is this word alone has none.
     #[inline(always)]
     pub fn behind(line: &'a [u8], word: &[u8]) -> Option<Words<'a>>
         requires line { length line.now ≤ most_line_bytes }
         requires printed { list_all is_word_byte word.now ≡ true }
-        ensures { IfSome result (λ words.
-            piece_at (pieces_of_line line.entry.now) ≡ Ok (word.entry.now, words)) }
+        ensures some { IfSome result (λ words.
+            piece_at (pieces_of_line line.entry.now) ≡ Ok (word.now, words)) }
+        ensures none { IfNone result ((words : List (List ℕ))
+            → piece_at (pieces_of_line line.entry.now) ≡ Ok (word.now, words) → words ≡ []) }
     {
         let end = word.len();
         if line.len() <= end || line[end] != b' ' || !is_known(&line[..end], word) {
