@@ -3,3 +3,4 @@ pub mod Giving
 pub mod Rows
 pub mod Small
 pub mod Doors
+pub mod Crossing

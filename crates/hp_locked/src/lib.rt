@@ -3,6 +3,7 @@
 
 mod door;
 mod gate;
+mod line_lock;
 mod nodes;
 mod noted;
 mod noting;
@@ -12,6 +13,7 @@ mod waiting;
 
 pub use door::{Door, SessionDoor};
 pub use gate::Gate;
+pub use line_lock::LineLock;
 pub use nodes::NodeLocks;
 pub use noted::{Entered, Noted, Notes};
 pub use pool_core::{Core, Full};

@@ -6,8 +6,8 @@ ghost use Rattle.hp_mount_door.specs.Filling.{AreRising, nodes_in};
 ghost use Rattle.hp_own_pool.specs.Parcel.{IsPart, claimed};
 
 use crate::gate::Gate;
+use crate::line_lock::LineLock;
 use crate::waiting::hold;
-use crossbeam_utils::CachePadded;
 use hp_model::naming::Naming;
 use hp_nodes::{Frames, NodeFrames, Page, PageDraft};
 use hp_own_pool::Parcel;
@@ -19,10 +19,10 @@ use std::sync::{Mutex, Wait};
 /// The frames of each node that nobody holds, under a lock of its own, on cache lines of its own. No page is filled, read or
 /// written under one.
 pub struct NodeLocks<N: Naming> {
-    zero: CachePadded<Mutex<NodeFrames<N, 0>>>,
-    one: CachePadded<Mutex<NodeFrames<N, 1>>>,
-    two: CachePadded<Mutex<NodeFrames<N, 2>>>,
-    three: CachePadded<Mutex<NodeFrames<N, 3>>>,
+    zero: LineLock<NodeFrames<N, 0>>,
+    one: LineLock<NodeFrames<N, 1>>,
+    two: LineLock<NodeFrames<N, 2>>,
+    three: LineLock<NodeFrames<N, 3>>,
 }
 
 fn draw_at<N: Naming, R: Wait, G: Gate, const K: usize>(
@@ -82,10 +82,10 @@ impl<N: Naming> NodeLocks<N> {
     pub fn new(frames: Frames<N>) -> Self {
         let (zero, one, two, three) = frames.into_nodes();
         NodeLocks {
-            zero: CachePadded::new(Mutex::new(zero)),
-            one: CachePadded::new(Mutex::new(one)),
-            two: CachePadded::new(Mutex::new(two)),
-            three: CachePadded::new(Mutex::new(three)),
+            zero: LineLock::new(zero),
+            one: LineLock::new(one),
+            two: LineLock::new(two),
+            three: LineLock::new(three),
         }
     }
 
@@ -98,10 +98,10 @@ impl<N: Naming> NodeLocks<N> {
             three,
         } = self;
         Frames::from_nodes(
-            zero.into_inner().into_inner(),
-            one.into_inner().into_inner(),
-            two.into_inner().into_inner(),
-            three.into_inner().into_inner(),
+            zero.into_inner(),
+            one.into_inner(),
+            two.into_inner(),
+            three.into_inner(),
         )
     }
 
@@ -111,10 +111,10 @@ impl<N: Naming> NodeLocks<N> {
         ensures { result.node ≡ claim.node }
     {
         let draft = match claim.node() {
-            0 => draw_at(rt, gate, &self.zero, claim),
-            1 => draw_at(rt, gate, &self.one, claim),
-            2 => draw_at(rt, gate, &self.two, claim),
-            _ => draw_at(rt, gate, &self.three, claim),
+            0 => draw_at(rt, gate, self.zero.mutex(), claim),
+            1 => draw_at(rt, gate, self.one.mutex(), claim),
+            2 => draw_at(rt, gate, self.two.mutex(), claim),
+            _ => draw_at(rt, gate, self.three.mutex(), claim),
         };
         draft.into_page()
     }
@@ -133,10 +133,10 @@ impl<N: Naming> NodeLocks<N> {
         ensures rising { AreRising (sum parcel) batch.new.pages }
     {
         let (zero, one, two, three) = parcel.into_claims();
-        add_part_at(rt, gate, &self.three, three, batch);
-        add_part_at(rt, gate, &self.two, two, batch);
-        add_part_at(rt, gate, &self.one, one, batch);
-        add_part_at(rt, gate, &self.zero, zero, batch);
+        add_part_at(rt, gate, self.three.mutex(), three, batch);
+        add_part_at(rt, gate, self.two.mutex(), two, batch);
+        add_part_at(rt, gate, self.one.mutex(), one, batch);
+        add_part_at(rt, gate, self.zero.mutex(), zero, batch);
     }
 
     /// The claim of a page that comes back. Never refused.
@@ -145,10 +145,10 @@ impl<N: Naming> NodeLocks<N> {
         ensures few { N.frames page.node < 2 ^ 64 }
     {
         match page.node() {
-            0 => give_at(rt, gate, &self.zero, page),
-            1 => give_at(rt, gate, &self.one, page),
-            2 => give_at(rt, gate, &self.two, page),
-            _ => give_at(rt, gate, &self.three, page),
+            0 => give_at(rt, gate, self.zero.mutex(), page),
+            1 => give_at(rt, gate, self.one.mutex(), page),
+            2 => give_at(rt, gate, self.two.mutex(), page),
+            _ => give_at(rt, gate, self.three.mutex(), page),
         }
     }
 

@@ -6,9 +6,9 @@ use Rattle.atomic_table.proofs.badge.Badge.TheSendSync as badge
 use Rattle.atomic_table.proofs.send_lease.SendLease.TheSendSync as lease
 use Rattle.atomic_table.proofs.shared.Seat.TheSendSync as seat
 use Rattle.atomic_table.proofs.shared.Shared.TheSendSync as whole
-use Rattle.crossbeam_utils.specs.contracts.cache_padded.CachePadded as CachePadded
 use Rattle.hp_history.specs.contracts.history.History as History
 use Rattle.hp_history.specs.declared.law.Places as law
+use Rattle.hp_locked.proofs.Crossing.{line_lock_send, line_lock_sync}
 use Rattle.hp_locked.specs.contracts.nodes.NodeLocks as NodeLocks
 use Rattle.hp_locked.specs.contracts.pool_core.Core as Core
 use Rattle.hp_model.specs.declared.entry.PoolEntry.{PoolEntry}
@@ -31,12 +31,6 @@ use Rattle.hp_tasks.specs.contracts.table.TaskTable as TaskTable
 use Rattle.hp_trail.specs.declared.trail.Trail as trail
 use Rattle.std.proofs.Crossing as global
 use Rattle.std.proofs.Crossing.{crosses}
-
-padded_send : (T : RattleType) → IsSend T → IsSend (CachePadded.the_row T)
-padded_send T t = search (sendable, crosses) depth 30
-
-padded_sync : (T : RattleType) → IsSync T → IsSync (CachePadded.the_row T)
-padded_sync T t = search (sendable, crosses) depth 30
 
 task_table_send : IsSend TaskTable.the_row
 task_table_send = search (sendable, crosses) depth 30
@@ -68,10 +62,10 @@ module _ (N : RattleType) (names : Ghosts N.Denot) (places : law.Ghosts N.Denot)
   spare_send = search (sendable, crosses, mount_send, slot_entry_send) depth 40
 
   nodes_send : IsSend (NodeLocks.the_row N names)
-  nodes_send = search (sendable, crosses, node_frames_send) depth 30
+  nodes_send = search (sendable, crosses, line_lock_send, node_frames_send) depth 30
 
   nodes_sync : IsSync (NodeLocks.the_row N names)
-  nodes_sync = search (sendable, crosses, node_frames_send) depth 30
+  nodes_sync = search (sendable, crosses, line_lock_sync, node_frames_send) depth 30
 
   pub shared_send : (k : RattleType) → IsSend (Shared.the_row N k places names)
   shared_send k = view_send (Inside.the_row N k places names) _ _ _ _ (declared_send (Inside.the_type N k places names) (
@@ -81,11 +75,11 @@ module _ (N : RattleType) (names : Ghosts N.Denot) (places : law.Ghosts N.Denot)
       (
         history_send,
         (
-          search (sendable, crosses, padded_send, seated_send, trace_send, slot_entry_send) depth 30,
+          search (sendable, crosses, line_lock_send, seated_send, trace_send, slot_entry_send) depth 30,
           (
-            search (sendable, crosses, padded_send, table_send, trace_send, table_entry_send) depth 30,
+            search (sendable, crosses, line_lock_send, table_send, trace_send, table_entry_send) depth 30,
             (
-              search (sendable, crosses, padded_send, core_send, trace_send, pool_entry_send) depth 30,
+              search (sendable, crosses, line_lock_send, core_send, trace_send, pool_entry_send) depth 30,
               (
                 nodes_send,
                 (
@@ -111,11 +105,11 @@ module _ (N : RattleType) (names : Ghosts N.Denot) (places : law.Ghosts N.Denot)
       (
         history_sync,
         (
-          search (sendable, crosses, padded_sync, seated_send, trace_send, slot_entry_send) depth 30,
+          search (sendable, crosses, line_lock_sync, seated_send, trace_send, slot_entry_send) depth 30,
           (
-            search (sendable, crosses, padded_sync, table_send, trace_send, table_entry_send) depth 30,
+            search (sendable, crosses, line_lock_sync, table_send, trace_send, table_entry_send) depth 30,
             (
-              search (sendable, crosses, padded_sync, core_send, trace_send, pool_entry_send) depth 30,
+              search (sendable, crosses, line_lock_sync, core_send, trace_send, pool_entry_send) depth 30,
               (
                 nodes_sync,
                 (

@@ -11,8 +11,8 @@ ghost use Rattle.hp_trail.specs.Keeping.{extra_if, kept_if, left_if, most_extra}
 
 use crate::opener::Opener;
 use crate::seated_slot::SeatedSlot;
-use crossbeam_utils::CachePadded;
 use hp_history::{History, Opened, Places, Token};
+use hp_locked::LineLock;
 use hp_model::entry::SlotEntry;
 use hp_model::naming::Naming;
 use hp_model::profile::MOST_TASKS;
@@ -20,7 +20,6 @@ use hp_mount::Mount;
 use hp_own_pool::OwnPool;
 use hp_trail::trace::Trace;
 use std::alloc::{AllocError, Global};
-use std::sync::Mutex;
 
 // The frames of all nodes.
 pub(crate) fn all_frames(frames: &[u64]) -> usize
@@ -128,7 +127,7 @@ pub(crate) fn lock_slots<N: Naming + Places, const K: usize>(
     slots: Token,
     first: Mount<N>,
     trails: Vec<FreshTrail<K>>,
-    locks: &mut Vec<CachePadded<Mutex<SeatedSlot<N, Trace<SlotEntry, K>>>>>,
+    locks: &mut Vec<LineLock<SeatedSlot<N, Trace<SlotEntry, K>>>>,
 )
     requires named { slots.table_id ≡ N.history }
     requires slots { slots.me ≡ (held_from 0 (replicate (vec_len trails) []), []) }
@@ -143,19 +142,19 @@ pub(crate) fn lock_slots<N: Naming + Places, const K: usize>(
     let Some(trail) = rest.pop() else {
         unreachable!()
     };
-    locks.push_reserved(CachePadded::new(Mutex::new(SeatedSlot::new(
+    locks.push_reserved(LineLock::new(SeatedSlot::new(
         0,
         Some(first),
         trail.into_trail(),
         history.give_away(&mut seat),
-    ))));
+    )));
     while let Some(trail) = rest.pop() {
         let number = locks.len() as u64;
-        locks.push_reserved(CachePadded::new(Mutex::new(SeatedSlot::new(
+        locks.push_reserved(LineLock::new(SeatedSlot::new(
             number,
             None,
             trail.into_trail(),
             history.give_away(&mut seat),
-        ))));
+        )));
     }
 }

@@ -5,20 +5,19 @@ ghost use Rattle.hp_shared.specs.Ended.{AreSlotsJoined};
 ghost use Rattle.hp_trail.specs.Walk.{lists};
 
 use crate::seated_slot::SeatedSlot;
-use crossbeam_utils::CachePadded;
 use hp_history::{History, Places, Token};
+use hp_locked::LineLock;
 use hp_model::entry::SlotEntry;
 use hp_model::naming::Naming;
 use hp_mount::Mount;
 use hp_trail::trace::Trace;
-use std::sync::Mutex;
 
 // Takes the slots from under their locks: their mounts and their trails, for which there is room, and their seats behind this
 // one. Whether each has its place as its number, and the seat that has all.
 pub(crate) fn take_slots<N: Naming + Places, const K: usize>(
     history: &History<N>,
     seat: Token,
-    slots: Vec<CachePadded<Mutex<SeatedSlot<N, Trace<SlotEntry, K>>>>>,
+    slots: Vec<LineLock<SeatedSlot<N, Trace<SlotEntry, K>>>>,
     mounts: &mut Vec<Option<Mount<N>>>,
     trails: &mut Vec<Vec<SlotEntry>>,
 ) -> (bool, Token)
@@ -39,7 +38,7 @@ pub(crate) fn take_slots<N: Naming + Places, const K: usize>(
     let mut seat = seat;
     let mut rest = slots.into_iter();
     while let Some(slot) = rest.next() {
-        let (number, mount, trail, mut all) = slot.into_inner().into_inner().into_parts();
+        let (number, mount, trail, mut all) = slot.into_inner().into_parts();
         in_order = in_order && number == mounts.len() as u64;
         mounts.push_reserved(mount);
         trails.push_reserved(trail.into_entries());

@@ -21,9 +21,8 @@ use crate::seated_slot::SeatedSlot;
 use crate::spare::Spare;
 use crate::table::Table;
 use crate::ways::Ways;
-use crossbeam_utils::CachePadded;
 use hp_history::{History, Opened, Places, Token};
-use hp_locked::{Core, Gate, NodeLocks};
+use hp_locked::{Core, Gate, LineLock, NodeLocks};
 use hp_model::entry::{PoolEntry, SlotEntry, TableEntry};
 use hp_model::naming::Naming;
 use hp_model::profile::MOST_TASKS;
@@ -47,9 +46,9 @@ pub struct Shared<N: Naming + Places, const K: usize> {
     pub(crate) page_bytes: usize,
     alloc: Global,
     history: History<N>,
-    slots: Vec<CachePadded<Mutex<SeatedSlot<N, Trace<SlotEntry, K>>>>>,
-    table: CachePadded<Mutex<Table<N, Trace<TableEntry, K>>>>,
-    core: CachePadded<Mutex<Core<N, Trace<PoolEntry, K>>>>,
+    slots: Vec<LineLock<SeatedSlot<N, Trace<SlotEntry, K>>>>,
+    table: LineLock<Table<N, Trace<TableEntry, K>>>,
+    core: LineLock<Core<N, Trace<PoolEntry, K>>>,
     nodes: NodeLocks<N>,
     opener: Mutex<Opener<N>>,
     spare: Mutex<Spare<N>>,
@@ -151,13 +150,8 @@ impl<N: Naming + Places, const K: usize> Shared<N, K> {
                     page_bytes,
                     alloc,
                     history,
-                    table: CachePadded::new(Mutex::new(Table::new(
-                        frames.len() as u64,
-                        tasks,
-                        task_trail,
-                        table,
-                    ))),
-                    core: CachePadded::new(Mutex::new(Core::new(pool, pool_trail, core))),
+                    table: LineLock::new(Table::new(frames.len() as u64, tasks, task_trail, table)),
+                    core: LineLock::new(Core::new(pool, pool_trail, core)),
                     nodes: NodeLocks::new(stocks),
                     slots: locks,
                     opener: Mutex::new(opener),
@@ -195,7 +189,7 @@ impl<N: Naming + Places, const K: usize> Shared<N, K> {
     /// The task table under its lock.
     #[inline(always)]
     pub fn table(&self) -> &Mutex<Table<N, Trace<TableEntry, K>>> {
-        &self.table
+        self.table.mutex()
     }
 
     /// The history of the machine. Where K is not 1 homes of tasks are looked up in its words, without a lock.
@@ -223,7 +217,7 @@ impl<N: Naming + Places, const K: usize> Shared<N, K> {
         Ways {
             rt,
             gate,
-            core: &self.core,
+            core: self.core.mutex(),
             nodes: &self.nodes,
             history: &self.history,
         }
@@ -232,7 +226,7 @@ impl<N: Naming + Places, const K: usize> Shared<N, K> {
     /// The pool under its lock.
     #[inline(always)]
     pub fn core(&self) -> &Mutex<Core<N, Trace<PoolEntry, K>>> {
-        &self.core
+        self.core.mutex()
     }
 
     /// The frames of each node under a lock.
@@ -247,7 +241,7 @@ impl<N: Naming + Places, const K: usize> Shared<N, K> {
     pub fn slot(&self, at: usize) -> &Mutex<SeatedSlot<N, Trace<SlotEntry, K>>>
         requires { at < self.now.slots }
     {
-        &self.slots[at]
+        self.slots[at].mutex()
     }
 
     /// What the machine is made of, with all that is on it, the trails where K is 1, and its history. These are runs of its parts,
@@ -284,8 +278,8 @@ impl<N: Naming + Places, const K: usize> Shared<N, K> {
             opener,
             spare,
         } = self;
-        let (table, task_trail, tasks_seat) = table.into_inner().into_inner().into_parts();
-        let (pool, pool_trail, mut pool_seat) = core.into_inner().into_inner().into_parts();
+        let (table, task_trail, tasks_seat) = table.into_inner().into_parts();
+        let (pool, pool_trail, mut pool_seat) = core.into_inner().into_parts();
         let (sessions, mut seat) = opener.into_inner().into_parts();
         history.take_in(&mut pool_seat, tasks_seat);
         history.take_in(&mut seat, pool_seat);

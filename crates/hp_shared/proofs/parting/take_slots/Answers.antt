@@ -26,7 +26,7 @@ loop-slot-preserved g c =
             | then-in_order w ↦
                 let here : slot.0 ≡ length c.loop-slot.mounts.items =
                 (let same = eqb-true slot.0 w.len.result (sym w.in_order-is ∙ order) in omega (arith, same, w.len.ensures, c.loop-slot.mounts.ok.0)) in
-                let seated = c.into_inner-in-Some.result in
+                let seated = c.into_inner.result in
                 slot_joined (g.row.K == 1) g.N.Naming.page_bytes seated.slot.number seated.run seated.slot.entries seated.slot.mount slot.1 slot.2 c.into_entries.result
                 c.loop-slot.trails.items c.push_reserved-in-Some.new.self.items c.loop-slot.mounts.items c.push_reserved.new.self.items c.args.seat.me.0
                 c.loop-slot.seat.me.0 c.take_in.new.seat.me.0 (was.joined w.if-in_order.true) (sym parts.number ∙ here) parts.run parts.kept parts.entries parts.mount

@@ -26,12 +26,12 @@ returns-clause-runs g c =
     let keeps = g.row.K == 1 in
     let tasks = c.into_parts-table in
     let pool = c.into_parts-pool in
-    let run : List TableEntry = c.into_inner-2.result.run in
+    let run : List TableEntry = c.into_inner.result.run in
     let kept : IsTrailOf run (kept_if keeps tasks.result.1) = subst (IsTrailOf run) (sym tasks.ensures.entries) tasks.ensures.kept in
     let tabled : IsTableRun (length fs) [] run tasks.result.0 = subst (λ t. IsTableRun (length fs) [] run t) (sym tasks.ensures.tasks) tasks.ensures.run in
     let pooled : IsPoolTrail (idle_pool fs) (kept_if keeps pool.result.1) pool.result.0 =
     subst (λ (p : Pool). IsPoolTrail (idle_pool fs) (kept_if keeps pool.result.1) p) (sym pool.ensures.pool)
-    (subst (λ o. IsPoolTrail (idle_pool fs) o c.into_inner-4.result.pool) (sym pool.ensures.entries) pool.ensures.run) in
+    (subst (λ o. IsPoolTrail (idle_pool fs) o c.into_inner-2.result.pool) (sym pool.ensures.entries) pool.ensures.run) in
     let gathered : keeps ≡ true → c.take_slots-in_order.result.0 ≡ true → AreGathered g.N.Naming.page_bytes (lists c.take_slots-in_order.new.trails.items) c.take_slots-in_order.new.mounts.items =
     (λ is order. let joined = c.take_slots-in_order.ensures.joined order in
     subst (λ ts. AreGathered g.N.Naming.page_bytes ts c.take_slots-in_order.new.mounts.items) (sym (joined.same is)) joined.runs) in
@@ -56,8 +56,8 @@ returns-clause-ends g c = λ ordered.
     let pool = c.into_parts-pool in
     let opener = c.into_parts-sessions in
     let slots = c.take_slots-in_order in
-    let es = c.into_inner-2.result.run in
-    let ps = c.into_inner-4.result.run in
+    let es = c.into_inner.result.run in
+    let ps = c.into_inner-2.result.run in
     let tabled : IsTableRun (length fs) [] es tasks.result.0 = subst (λ t. IsTableRun (length fs) [] es t) (sym tasks.ensures.tasks) tasks.ensures.run in
     let pooled : IsPoolRun (idle_pool fs) ps pool.result.0 = subst (λ (p : Pool). IsPoolRun (idle_pool fs) ps p) (sym pool.ensures.pool) pool.ensures.history in
     let kt : IsTrailOf es (kept_if keeps tasks.result.1) = subst (IsTrailOf es) (sym tasks.ensures.entries) tasks.ensures.kept in

@@ -16,17 +16,17 @@ pub new-requires-in-Ok-new-clause-nodes : goal.new-requires-in-Ok-new-clause-nod
 new-requires-in-Ok-new-clause-nodes g c =
     sym (ap length (frames_named g.N.Naming.frames c.args.frames.now c.requires.some c.requires.few c.requires.each c.requires.frames))
 
-pub new-requires-in-Ok-new-4-clause-start : goal.new-requires-in-Ok-new-4-clause-start
-new-requires-in-Ok-new-4-clause-start g c =
+pub new-requires-in-Ok-new-3-clause-start : goal.new-requires-in-Ok-new-3-clause-start
+new-requires-in-Ok-new-3-clause-start g c =
     let named = frames_named g.N.Naming.frames c.args.frames.now c.requires.some c.requires.few c.requires.each c.requires.frames in
     c.into_parts-pool.ensures ∙ (c.first_mount-first.ensures.pool ∙ (c.in-Ok-new.ensures ∙ ap idle_pool (sym named)))
 
-pub new-requires-in-Ok-new-4-clause-ready : goal.new-requires-in-Ok-new-4-clause-ready
-new-requires-in-Ok-new-4-clause-ready g c =
+pub new-requires-in-Ok-new-3-clause-ready : goal.new-requires-in-Ok-new-3-clause-ready
+new-requires-in-Ok-new-3-clause-ready g c =
     subst (λ (p : Pool). IsReady p) (sym (c.into_parts-pool.ensures ∙ (c.first_mount-first.ensures.pool ∙ c.in-Ok-new.ensures))) (idle_ready c.args.frames.now c.requires.few)
 
-pub new-requires-in-Ok-new-4-clause-enough : goal.new-requires-in-Ok-new-4-clause-enough
-new-requires-in-Ok-new-4-clause-enough g c =
+pub new-requires-in-Ok-new-3-clause-enough : goal.new-requires-in-Ok-new-3-clause-enough
+new-requires-in-Ok-new-3-clause-enough g c =
     let named = frames_named g.N.Naming.frames c.args.frames.now c.requires.some c.requires.few c.requires.each c.requires.frames in
     let rows : frames_of (map idle_row (frames_list g.N.Naming.frames)) ≡ sum c.args.frames.now = ap (λ fs. frames_of (map idle_row fs)) named ∙ rows_have c.args.frames.now in
     omega (arith, rows, c.all_frames.ensures.all, c.in_ok-pool_trail.ensures.enough)
