@@ -13,7 +13,7 @@
 #include <time.h>
 #include <unistd.h>
 
-enum { PROCESSORS = 4, TRIES = 9, ROUNDS = 5, BOUNCES = 100000, SECTIONS = 700000 };
+enum { PROCESSORS = 4, TRIES = 11, ROUNDS = 5, BOUNCES = 100000, SECTIONS = 700000 };
 
 static _Alignas(128) char room[256];
 static atomic_int *word;
@@ -67,7 +67,7 @@ static int is_taken(void) {
 static void take(void) {
     if (is_taken()) return;
     for (int tried = 0; tried < TRIES; tried++) {
-        for (int turn = 0; turn < 1 << tried; turn++) sched_yield();
+        for (int turn = 0; turn < 1 << (tried > 2 ? tried - 2 : 0); turn++) sched_yield();
         if (is_taken()) return;
     }
     while (atomic_exchange(word, 2) != 0) syscall(SYS_futex, word, FUTEX_WAIT_PRIVATE, 2, NULL);

@@ -20,6 +20,7 @@ impl<T> LineLock<T> {
         }
     }
 
+    /// The lock itself.
     #[inline(always)]
     pub fn mutex(&self) -> &Mutex<T> {
         &self.lock

@@ -8,7 +8,7 @@ const TRIES: u32 = 11;
 
 /// Takes a lock. Where it is free no call is made. What is done under one takes less than to sleep and to be woken: so where it is
 /// held others run before it is tried again, and only after some tries does the thread sleep. A try takes the lock's cache line away
-/// from the thread that holds it, so where many wait few tries serve all best: from the third on others run twice as often as before.
+/// from the thread that holds it, so where many wait few tries serve all best: after the third others run twice as often as before.
 #[inline(always)]
 pub fn hold<'b, T, R: Wait>(lock: &'b Mutex<T>, rt: &R) -> MutexGuard<'b, T> {
     match lock.try_lock() {

@@ -14,6 +14,8 @@ mod full;
 #[cfg(test)]
 mod gates;
 #[cfg(test)]
+mod lines;
+#[cfg(test)]
 mod making;
 #[cfg(test)]
 mod many;
