@@ -6,7 +6,7 @@ use Rattle.std.specs.List.{range_with_len, count_by}
 use Rattle.std.proofs.Math.Bool.{or-false, and-true}
 use Rattle.std.proofs.lemmas.Bool.{cases_lt, cases_eq, ltb-true, false≢true}
 use Rattle.std.proofs.lemmas.Bool.Decides.{nat_tests}
-use Rattle.std.proofs.lemmas.List.{get_or_past, length-map, length-set}
+use Rattle.std.proofs.lemmas.List.{length-map, length-set}
 use Rattle.hp_inode.proofs.Later.{block_there, here_now, others_now}
 use Rattle.std.proofs.lemmas.List.FromFn.{length-range_with_len}
 use Rattle.std.proofs.lemmas.List.Sums.{count_by-le-length}
@@ -371,19 +371,6 @@ pub table_after : (old new : RowBlocks) (low high at from to : ℕ) (taken : Opt
     (taken ≡ None → new ≡ old) → length new ≤ 65536 → KeepsOthers old new at → IsRowTable old low high → IsRowTable new low high
 table_after old new low high at from to None none same few others was = subst (λ (rows : RowBlocks). IsRowTable rows low high) (sym (same refl)) was
 table_after old new low high at from to (Some p) taken same few others was = table_taken old new at from to p.0 p.1 taken was.blocks others low high few was
-
--- in a file of one block
-module _ (old new : RowBlocks) (only : length old ≡ 1) (are : AreBlocks old) (others : KeepsOthers old new 0) (a b : ℕ) where
-  pub taken_only : (taken : Option (ℕ × ℕ)) → TakesFirst (page_in (get_or old 0 [])) (page_in (get_or new 0 [])) a b taken → TakesFirst (page_at old) (page_at new) a b taken
-  taken_only None none = λ k above below. ⊎_elim
-      (λ (lt : k < 65536).
-      ap (λ q. page_in (get_or old q []) (k % 65536)) {x = k / 65536} {y = 0} (omega (arith, lt)) ∙ ap (page_in (get_or old 0 [])) {x = k % 65536} {y = k} (omega (arith, lt)) ∙ none k above below)
-      (λ (le : 65536 ≤ k). ap (λ block. page_in block (k % 65536)) (get_or_past old (k / 65536) [] (omega (arith, le, only))))
-      (cases_lt k 65536)
-  taken_only (Some p) taken =
-      let same : 0 * 65536 + p.0 ≡ p.0 = omega arith in
-      subst (λ i. IsPageTaken (page_at old) (page_at new) a b i p.1) same
-      (taken_at old new 0 a b p.0 p.1 taken are others a b (omega arith) (omega arith) (λ k above early. absurd (omega (arith, above, early))))
 
 -- a block changes, with the pages that it had
 module _ (blocks kept : List (Option Rows)) (alike : (j : ℕ) → get_or (contents [] kept) j [] ≡ get_or (contents [] blocks) j []) (at : ℕ) (old now : Rows) (is : get_or kept at None ≡ Some old)

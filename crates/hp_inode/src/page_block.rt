@@ -99,8 +99,10 @@ impl PageBlock {
         if i as u64 >= b {
             return None;
         }
-        let page = self.replace(i, None)?;
-        Some((i as u64, page))
+        match self.replace(i, None) {
+            Some(page) => Some((i as u64, page)),
+            None => unreachable!(),
+        }
     }
 
     // The first index with a page, of those from `a` on.

@@ -134,9 +134,6 @@ impl PageTable {
         ensures none { result ≡ None → self.new ≡ self.old }
         ensures slots { (k : ℕ) → has_slot_at self.new k ≡ has_slot_at self.old k }
     {
-        if self.blocks.last() == 0 {
-            return self.take_in(0, a, b);
-        }
         let (mut at, mut from) = (a / BLOCK, a % BLOCK);
         while at <= self.blocks.last() as u64 && at * BLOCK < b {
             if let Some((k, page)) = self.take_in(at, from, b - at * BLOCK) {

@@ -1,4 +1,4 @@
-use Rattle.std.proofs.Common.{ℕ, Bool, ◌+◌, ◌-◌, ◌%◌, ◌≤◌, arith}
+use Rattle.std.proofs.Common.{ℕ, Bool, ◌-◌, arith}
 use Rattle.std.specs.Option.{is_some}
 use Rattle.hp_inode.specs.Blocks.{page_at}
 use Rattle.hp_inode.proofs.Blocks.{counted_on, few_in}
