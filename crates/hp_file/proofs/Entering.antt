@@ -113,17 +113,17 @@ module _ (s : Store) (more : ℕ) (fs : List NumberedFile) (h : IsHeld s more fs
 
 -- ---- room is made
 
+pub none_more : (n : ℕ) → more_in (replicate n None) ≡ 0
+none_more zero = refl
+none_more (suc n) = (let step = sum_by-cons more_of None (replicate n None) in let rest = none_more n in omega (arith, step, rest))
+
+pub past_is_none : (ps : List (Option Holding)) → slice_index_or ps (length ps) None ≡ None
+past_is_none [] = refl
+past_is_none (p ∷ ps) = past_is_none ps
+
 module _ (s t : Store) (more count all : ℕ) (fs : List NumberedFile) (h : IsHeld s more fs) (all_is : all ≡ more + count)
     (t_is : t ≡ record s { pages = t.pages; room = max s.room all }) (pages : t.pages ≡ s.pages ++ replicate (length t.pages - length s.pages) None)
     (same : (n : ℕ) → page_at t n ≡ page_at s n) where
-  none_more : (n : ℕ) → more_in (replicate n None) ≡ 0
-  none_more zero = refl
-  none_more (suc n) = (let step = sum_by-cons more_of None (replicate n None) in let rest = none_more n in omega (arith, step, rest))
-
-  past_is_none : (ps : List (Option Holding)) → slice_index_or ps (length ps) None ≡ None
-  past_is_none [] = refl
-  past_is_none (p ∷ ps) = past_is_none ps
-
   shown_same : files_shown t fs ≡ files_shown s fs
   shown_same = files_same (length s.pages) s t (λ k other. same k) fs (free_is_fresh s more fs (length s.pages) h (past_is_none s.pages))
 

@@ -28,6 +28,7 @@ use Rattle.hp_lookup.proofs.Cells.{file_is}
 use Rattle.hp_lookup.proofs.Mapped.{map_drop, map_edited, map_replicate, map_take, sum_edited}
 use Rattle.hp_lookup.proofs.Views.{read_is, view}
 use Rattle.hp_file.proofs.Zeros.{filled_entered, lacks_entered, zeros_of}
+use Rattle.hp_lookup.proofs.Mapped.{entered_counts, entered_shown}
 
 -- ---- how many indices of a range have no page
 
@@ -95,16 +96,6 @@ lacks_shown : (s : Store) (c : Cell ℕ) → lacks_page (cell_shown s c) ≡ lac
 lacks_shown s Hole = refl
 lacks_shown s Entered = refl
 lacks_shown s (Present n) = refl
-
-entered_shown : (s : Store) (c : Cell ℕ) → cell_shown s (entered c) ≡ entered (cell_shown s c)
-entered_shown s Hole = refl
-entered_shown s Entered = refl
-entered_shown s (Present n) = refl
-
-entered_counts : (n : ℕ) (c : Cell ℕ) → in_cell n (entered c) ≡ in_cell n c
-entered_counts n Hole = refl
-entered_counts n Entered = refl
-entered_counts n (Present k) = refl
 
 longer_shown : (s : Store) (b : ℕ) (cells : List (Cell ℕ)) → map (cell_shown s) (at_least b cells) ≡ at_least b (map (cell_shown s) cells)
 longer_shown s b cells =

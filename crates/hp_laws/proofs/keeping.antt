@@ -1,4 +1,5 @@
 -- What steps leave as it was.
+pub mod Homes
 pub mod SettingsKept
 pub mod OtherSlots
 pub mod KeptSlot

@@ -4,3 +4,4 @@ pub mod Fills
 pub mod Places
 pub mod Looks
 pub mod AtMostOne
+pub mod NodeRows

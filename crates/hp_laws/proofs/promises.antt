@@ -3,6 +3,7 @@ pub mod TestsDecide
 pub mod Shortage
 pub mod ChildsMaps
 pub mod Promised
+pub mod SmallPool
 pub mod SmallReplies
 pub mod Answered
 pub mod Parents

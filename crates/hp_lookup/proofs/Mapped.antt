@@ -94,12 +94,12 @@ module _ {X : Type 0} (c : X → ℕ) where
 
 -- ---- what is shown
 
-entered_shown : (s : Store) (c : Cell ℕ) → cell_shown s (entered c) ≡ entered (cell_shown s c)
+pub entered_shown : (s : Store) (c : Cell ℕ) → cell_shown s (entered c) ≡ entered (cell_shown s c)
 entered_shown s Hole = refl
 entered_shown s Entered = refl
 entered_shown s (Present n) = refl
 
-entered_counts : (n : ℕ) (c : Cell ℕ) → in_cell n (entered c) ≡ in_cell n c
+pub entered_counts : (n : ℕ) (c : Cell ℕ) → in_cell n (entered c) ≡ in_cell n c
 entered_counts n Hole = refl
 entered_counts n Entered = refl
 entered_counts n (Present k) = refl

@@ -8,18 +8,11 @@ use Rattle.hp_lookup.specs.Held.{IsHeld, more_in, more_of}
 use Rattle.hp_lookup.proofs.Lifting.{files_same}
 use Rattle.hp_lookup.proofs.Cells.{free_is_fresh}
 use Rattle.hp_lookup.proofs.Views.{view}
+use Rattle.hp_file.proofs.Entering.{none_more, past_is_none}
 
 module _ (s t : Store) (more count all : ℕ) (fs : List NumberedFile) (h : IsHeld s more fs) (least : min s.room (more + count) ≡ min s.room all)
     (t_is : t ≡ record s { pages = t.pages; room = min s.room all }) (pages : s.pages ≡ t.pages ++ replicate (length s.pages - length t.pages) None)
     (same : (n : ℕ) → page_at t n ≡ page_at s n) where
-  none_more : (n : ℕ) → more_in (replicate n None) ≡ 0
-  none_more zero = refl
-  none_more (suc n) = (let step = sum_by-cons more_of None (replicate n None) in let rest = none_more n in omega (arith, step, rest))
-
-  past_is_none : (ps : List (Option Holding)) → slice_index_or ps (length ps) None ≡ None
-  past_is_none [] = refl
-  past_is_none (p ∷ ps) = past_is_none ps
-
   shown_same : files_shown t fs ≡ files_shown s fs
   shown_same = files_same (length s.pages) s t (λ k other. same k) fs (free_is_fresh s more fs (length s.pages) h (past_is_none s.pages))
 

@@ -23,6 +23,7 @@ use Rattle.hp_lookup.specs.Files.{Files, file_at, filled_at, mapped_at, with_ano
 use Rattle.hp_mount_laws.specs.Kept.{IsKept, mount_from}
 use Rattle.hp_subpool.specs.Subpool as share
 use Rattle.hp_subpool.specs.Subpool.{Subpool, used}
+use Rattle.hp_lookup.proofs.Keys.{set_read}
 
 -- ---- what is asked of the share is what is asked of the mount
 
@@ -170,11 +171,6 @@ module _ (s : Subpool) (v : Files) (inodes : Option ℕ) (c : IsKept s v (mount_
   hole_again i spare hole =
       again_files i spare Hole ∙ ap (λ c. slice_set v.files k (record (file_at v.files k) { cells = slice_set (file_at v.files k).cells i c })) (sym hole)
       ∙ ap (λ cs. slice_set v.files k (record (file_at v.files k) { cells = cs })) (set_read (file_at v.files k).cells i Hole) ∙ set_read v.files k (new_file None)
-    where
-      set_read : {Y : Type 0} (xs : List Y) (j : ℕ) (d : Y) → slice_set xs j (slice_index_or xs j d) ≡ xs
-      set_read [] j d = refl
-      set_read (z ∷ xs) zero d = refl
-      set_read (z ∷ xs) (suc j) d = ap (λ ys. z ∷ ys) (set_read xs j d)
 
   pub hole_stays : (i spare : ℕ) (new : Subpool) (w : Files) → cell_at (file_at v.files k) i ≡ Hole → new ≡ s →
       w ≡ with_cell_at k i Hole (with_cell_at k i Entered (roomier spare)) → mount_from new inodes w.files ≡ m

@@ -41,12 +41,6 @@ sent_fourth a b c d e what of (Ok x) h k m n =
     appends_then a d e (codes "hugetlbd: " ++ what ++ of) (codes "\n") (appends_then a c d (codes "hugetlbd: " ++ what) of (appends_then a b c (codes "hugetlbd: ") what h k) m) n
 sent_fourth a b c d e what of (Err f) h k m n = n
 
--- and it is whole where no write fails
-pub says_of : {X : Type 0} (sure : Type 0) (a b : Option (List ℕ)) (text : List ℕ) (result : Result X RunFault) → OnOk result (Appends a b text) → IfErr result (IsWriteCut a b text)
-    → (sure → IsOk result) → Says sure a b text
-says_of sure a b text (Ok x) h k s = (front_whole a b text h, λ i. h)
-says_of sure a b text (Err e) h k s = (k.1, λ i. (let never : false ≡ true = s i in cc))
-
 -- the text that the words ask for was written
 pub shown : {W : Type 0} (contents : W → Option (List ℕ)) (is_sure : W → Type 0) (old new : W) (said : Type 0) (before : Option (List ℕ)) (error : Error) (text : List ℕ)
     → text_for (kind_of error) ≡ Some text → Appends (contents old) (contents new) text → Refuses contents is_sure old new said before before (Parse error) 0

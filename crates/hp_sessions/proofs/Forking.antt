@@ -22,6 +22,7 @@ use Rattle.hp_events.specs.Answered.{IsHanded}
 use Rattle.hp_sessions.specs.Calls.{Carries, IsMade, Leads, SessionView}
 use Rattle.hp_sessions.specs.Forks.{IsForked, marked_below}
 use Rattle.hp_sessions.proofs.Carrying.{ends, goes_on, is_full, made_by, refused_made, same_as, stops, where_mapped, where_other}
+use Rattle.hp_laws.proofs.keeping.Homes.{child_is_another}
 
 range_more : (a n : ℕ) → range_with_len a (suc n) ≡ range_with_len a n ++ (a + n) ∷ []
 range_more a zero = ap (λ k. k ∷ []) {x = a} {y = a + 0} (omega arith)
@@ -31,21 +32,6 @@ range_more a (suc n) =
 
 pub first_more : (n : ℕ) → range_with_len 0 (n + 1) ≡ range_with_len 0 n ++ n ∷ []
 first_more n = ap (range_with_len 0) {x = n + 1} {y = suc n} (omega arith) ∙ range_more 0 n ∙ ap (λ k. range_with_len 0 n ++ k ∷ []) {x = 0 + n} {y = n} (omega arith)
-
--- a child that is added is not its parent
-child_is_another : (nodes parent child : ℕ) (t u : Table) (a : Answer) → table_event nodes t (FindAndAdd parent child) ≡ (Ok a, u) → parent ≡ child → ⊥
-child_is_another nodes parent child t u a h same = by_home (home_of t parent) refl (ap (λ (q : Reply × Table). q.0) h)
-  where
-    rest : ℕ → Reply × Table
-    rest home = or_refused ((is_crowded t, TooMany) ∷ []) t (Ok Done, added t child home)
-
-    by_home : (o : Option ℕ) → home_of t parent ≡ o → (when_known t o (λ home. or_refused ((is_known t child, TaskExists) ∷ (is_crowded t, TooMany) ∷ []) t (Ok Done, added t child home))).0 ≡ Ok a → ⊥
-    by_home None none e = cc
-    by_home (Some home) some e = by_known (is_known t child) (ap (λ k. is_known t k) (sym same) ∙ ap is_some some) e
-      where
-        by_known : (b : Bool) → b ≡ true → (cond b (Err TaskExists, t) (rest home)).0 ≡ Ok a → ⊥
-        by_known true is e = cc
-        by_known false is e = cc
 
 -- ---- which slots were done
 

@@ -155,21 +155,6 @@ slot_forked s t k parent child reply some event = subst (λ b. MatchBool b (IsEv
 
 -- ---- the step
 
--- a child that is added is not its parent
-pub child_is_another : (nodes parent child : ℕ) (t u : Table) (a : Answer) → table_event nodes t (table.FindAndAdd parent child) ≡ (Ok a, u) → parent ≡ child → ⊥
-child_is_another nodes parent child t u a h same = by_home (home_of t parent) refl (ap (λ (q : Reply × Table). q.0) h)
-  where
-    rest : ℕ → Reply × Table
-    rest home = or_refused ((is_crowded t, TooMany) ∷ []) t (Ok Done, added t child home)
-
-    by_home : (o : Option ℕ) → home_of t parent ≡ o → (when_known t o (λ home. or_refused ((is_known t child, TaskExists) ∷ (is_crowded t, TooMany) ∷ []) t (Ok Done, added t child home))).0 ≡ Ok a → ⊥
-    by_home None none e = cc
-    by_home (Some home) some e = by_known (is_known t child) (ap (λ k. is_known t k) (sym same) ∙ ap is_some some) e
-      where
-        by_known : (b : Bool) → b ≡ true → (cond b (Err TaskExists, t) (rest home)).0 ≡ Ok a → ⊥
-        by_known true is e = cc
-        by_known false is e = cc
-
 pub fork_refused : (s t : State) (parent child : ℕ) (r : Refusal) → IsEvent s (Tasks (table.FindAndAdd parent child)) (Err r) t → IsStep s (Fork parent child) (Err r) t
 unfolding IsStep
 fork_refused s t parent child r h = (Err r, t, h, (refl, refl))

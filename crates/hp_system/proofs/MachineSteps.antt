@@ -95,19 +95,6 @@ overcommit_refused s n past =
     let refuses : pool_event p (pool.Overcommit n) ≡ (Err OutOfRange, p) = ap (λ b. cond b (Ok Done, record p { overcommit = n }) (Err OutOfRange, p)) outside in
     only_is s s (OnPool (pool.Overcommit n)) (Err OutOfRange) (calm, tt, ap (with_pool_reply s) refuses ∙ ap (λ x. (Err OutOfRange, x)) (pool_back s))
 
--- rows with those of zeros past them
-pub padded : (p : Pool) (rows : List NodeCount) (n : ℕ) → length p.nodes.rows ≤ 4 → n ≡ length p.nodes.rows
-    → rows ≡ map node_count (take n p.nodes.rows) ++ replicate (4 - n) no_count → rows ≡ node_counts p
-padded p rows n few whole is =
-    let xs = map node_count p.nodes.rows in
-    let k = length p.nodes.rows in
-    let long : length xs ≡ k = length-map p.nodes.rows node_count in
-    let parts : length xs + (4 - k) ≡ 4 = omega (arith, few, long) in
-    is ∙ ap (λ m. map node_count (take m p.nodes.rows) ++ replicate (4 - m) no_count) whole
-    ∙ ap (λ ys. map node_count ys ++ replicate (4 - k) no_count) (take_all k p.nodes.rows (omega arith))
-    ∙ ap (λ ys. xs ++ ys) (sym (take-replicate (4 - k) 4 no_count (omega arith)))
-    ∙ sym (take-append-add xs (replicate 4 no_count) (4 - k)) ∙ ap (λ m. take m (xs ++ replicate 4 no_count)) parts
-
 -- ---- the task table
 
 pub connect_step : (s t : State) (task home : ℕ) (reply : Reply) → IsEvent s (Tasks (table.Add task home)) reply t → IsStep s (Connect task home) reply t

@@ -57,7 +57,7 @@ slot_keeps size k c (Some m) e =
     ends_unless SameLimits (Some m) (relimits e) (on_mount size k c m e)
     (λ is. always_weaker (On (λ n. n.limits ≡ m.limits)) (EndsBy SameLimits false (Some m))
     (ends_on SameLimits m (λ n. n.limits ≡ m.limits) (λ n h. h)) (on_mount size k c m e)
-    (walk size k c m (Always (On (λ n. n.limits ≡ m.limits))) (leaves_walk size k c m (λ n. n.limits ≡ m.limits) (limits_stay size k c m)) e is))
+    (walk size k c m (λ e. Always (On (λ n. n.limits ≡ m.limits))) (leaves_walk size k c m (λ n. n.limits ≡ m.limits) (limits_stay size k c m)) e is))
 
 same_limits : (old : Slot) → SameLimits old old
 same_limits None = tt

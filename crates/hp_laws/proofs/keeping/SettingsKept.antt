@@ -1,7 +1,7 @@
 -- What steps make of the tasks, of nr and of overcommit; and steps that only read leave all slots.
-use Rattle.std.proofs.Common.{◌≡◌, subst, ℕ, ◌==◌, Bool, true, false, None, Option, Some, Ok, Err, List, [], ◌∷◌, ◌++◌, length, is_some, nat_le, option_map, refl, sym, ap, ◌∙◌, if◌then◌else◌}
-use Rattle.std.specs.List.{filter_map, find, range_with_len, slice_set}
-use Rattle.std.proofs.lemmas.Bool.{cond_both, eq-eqb, eqb-true, false_from_ne_true}
+use Rattle.std.proofs.Common.{◌≡◌, subst, ℕ, ◌==◌, Bool, true, false, None, Option, Some, Ok, Err, List, [], ◌∷◌, ◌++◌, length, nat_le, refl, sym, ap, ◌∙◌, if◌then◌else◌}
+use Rattle.std.specs.List.{filter_map, range_with_len, slice_set}
+use Rattle.std.proofs.lemmas.Bool.{cond_both}
 use Rattle.hp_model.specs.declared.answer.Answer.{Answer}
 use Rattle.hp_model.specs.declared.answer.Answer.TheVariants.{Done, Home, Names}
 use Rattle.hp_model.specs.declared.event.Event.{Event}
@@ -32,7 +32,7 @@ use Rattle.hp_laws.proofs.accesses.SlotShows.{always_unless, always_value}
 use Rattle.std.proofs.lemmas.List.{set-get_or}
 use Rattle.hp_model.specs.machine.State.{State, slot_at}
 use Rattle.hp_model.specs.machine.Step.{Answer_with, IsScript, IsScripted, IsStep, exit_slots, fork_slots, or_undone, undone, when_done}
-use Rattle.hp_model.specs.machine.Table.{Table, added, home_of, is_crowded, is_known, or_refused, removed, when_known}
+use Rattle.hp_model.specs.machine.Table.{added, home_of, is_crowded, is_known, or_refused, removed, when_known}
 use Rattle.hp_model.specs.pool.Grant.{can_grant}
 use Rattle.hp_model.specs.pool.Pool.{section}
 use Rattle.hp_model.specs.pool.PoolCounts.{Pool}
@@ -40,6 +40,7 @@ use Rattle.hp_laws.proofs.steps.Outcomes.{Always, either_way, event_ends}
 use Rattle.hp_model.proofs.RowMoves.{puts_are}
 use Rattle.hp_laws.proofs.ending.RefusedForks.{Gives, SameSetting, event_setting, fork_refused}
 use Rattle.hp_laws.proofs.steps.Whole.{by_event, is_whole, slot_step, step_of}
+use Rattle.hp_laws.proofs.keeping.Homes.{home_added, home_removed}
 
 -- ---- a slot's event leaves the table, nr and overcommit
 
@@ -93,48 +94,6 @@ forks_set (k ∷ ks) done parent child a u t is =
         → (IsScript v (fork_slots ks (done ++ k ∷ []) parent child) (Ok a) t → SameSetting v t) → SameSetting v t
     goes (Ok b) v go rest = rest go
     goes (Err r) v go rest = absurd (undone_refused done child r a v t go)
-
--- ---- homes
-
-home_added : (table : Table) (new home task : ℕ) → is_known table new ≡ false → home_of (added table new home) task ≡ (if new == task then Some home else home_of table task)
-home_added [] new home task e = by_test (new == task) refl
-  where
-    by_test : (b : Bool) → (new == task) ≡ b → home_of (added [] new home) task ≡ (if new == task then Some home else None)
-    by_test true is = rw is refl
-    by_test false is = rw is refl
-home_added (x ∷ xs) new home task e =
-    by_tests (x.0 == task) refl (x.0 == new) refl (λ known. home_added xs new home task known)
-  where
-    by_tests : (b : Bool) → (x.0 == task) ≡ b → (c : Bool) → (x.0 == new) ≡ c
-        → (is_known xs new ≡ false → home_of (added xs new home) task ≡ (if new == task then Some home else home_of xs task))
-        → home_of (added (x ∷ xs) new home) task ≡ (if new == task then Some home else home_of (x ∷ xs) task)
-    by_tests b is true at rest = (let known : is_known (x ∷ xs) new ≡ true = rw at refl in cc)
-    by_tests true is false at rest =
-        let apart : (new == task) ≡ false =
-        false_from_ne_true (new == task) (λ same. (let wrong : (x.0 == new) ≡ true = eq-eqb x.0 new (eqb-true x.0 task is ∙ sym (eqb-true new task same)) in cc)) in rw (is, apart) refl
-    by_tests false is false at rest =
-        rw is (rest (subst (λ b. is_some (option_map (λ (q : ℕ × ℕ). q.1) (if b then Some x else find (λ (q : ℕ × ℕ). q.0 == new) xs)) ≡ false) at e))
-
-home_removed : (table : Table) (gone task : ℕ) → home_of (removed table gone) task ≡ (if gone == task then None else home_of table task)
-home_removed [] gone task = by_test (gone == task)
-  where
-    by_test : (b : Bool) → home_of [] task ≡ (if b then None else home_of [] task)
-    by_test true = refl
-    by_test false = refl
-home_removed (x ∷ xs) gone task = by_tests (x.0 == gone) refl (gone == task) refl (x.0 == task) refl (home_removed xs gone task)
-  where
-    by_tests : (a : Bool) → (x.0 == gone) ≡ a → (b : Bool) → (gone == task) ≡ b → (c : Bool) → (x.0 == task) ≡ c
-        → home_of (removed xs gone) task ≡ (if gone == task then None else home_of xs task)
-        → home_of (removed (x ∷ xs) gone) task ≡ (if gone == task then None else home_of (x ∷ xs) task)
-    by_tests true left true same c at rest = rw (left, same) (rest ∙ rw same refl)
-    by_tests true left false apart true at rest =
-        (let wrong : (gone == task) ≡ true = eq-eqb gone task (sym (eqb-true x.0 gone left) ∙ eqb-true x.0 task at) in cc)
-    by_tests true left false apart false at rest = rw (left, apart, at) (rest ∙ rw apart refl)
-    by_tests false stays true same true at rest =
-        (let wrong : (x.0 == gone) ≡ true = eq-eqb x.0 gone (eqb-true x.0 task at ∙ sym (eqb-true gone task same)) in cc)
-    by_tests false stays true same false at rest = rw (stays, same, at) (rest ∙ rw same refl)
-    by_tests false stays false apart true at rest = rw (stays, apart, at) refl
-    by_tests false stays false apart false at rest = rw (stays, apart, at) (rest ∙ rw apart refl)
 
 -- ---- steps
 

@@ -1,48 +1,46 @@
 -- No name and no number is new on a slot but what its event makes, and no file is left that nobody has.
 use Rattle.std.proofs.Common.{◌≡◌, ⊎_elim, ℕ, zero, suc, ◌+◌, ◌&&◌, ◌||◌, ◌==◌, Bool, true, false, not, None, Option}
 use Rattle.std.proofs.Common.{Some, List, [], ◌∷◌, ◌++◌, length, map, option_map, is_some, nat_lt, refl, sym, ap, ◌∙◌, arith}
-use Rattle.std.specs.List.{count_by, filter, filter_map, list_all, list_any, slice_set}
+use Rattle.std.specs.List.{filter, list_all, list_any, slice_set}
 use Rattle.std.specs.Str.{bytes_eq}
 use Rattle.std.proofs.lemmas.Bool.{and_parts, cond_both, lt-ltb, or_cases, or_right}
 use Rattle.std.proofs.lemmas.List.{length-map}
 use Rattle.std.proofs.lemmas.List.Folds.{list_all-append, list_any_at}
 use Rattle.hp_model.specs.declared.answer.Answer.{Answer}
-use Rattle.hp_model.specs.declared.answer.Answer.TheVariants.{Done, MapNo, Names, Stat as StatAnswer, Usage}
+use Rattle.hp_model.specs.declared.answer.Answer.TheVariants.{Done, MapNo}
 use Rattle.hp_model.specs.declared.cell.Cell.{Cell}
 use Rattle.hp_model.specs.declared.event.SlotEvent.{SlotEvent}
 use Rattle.hp_model.specs.declared.event.SlotEvent.TheVariants as slot
 use Rattle.hp_model.specs.declared.limits.Limits.{Limits}
-use Rattle.hp_model.specs.declared.refusal.Refusal.TheVariants.{NoSuchFile, NoSuchMap, OutOfMemory, OutOfRange}
-use Rattle.hp_model.specs.files.File.{File, Mount, cell_at, has_page, is_entered, new_file, with_file}
+use Rattle.hp_model.specs.declared.refusal.Refusal.TheVariants.{OutOfMemory, MountFull}
+use Rattle.hp_model.specs.files.File.{File, Mount, new_file, with_file}
 use Rattle.hp_model.specs.files.Fill.{lacking, range_filled, rising_nodes}
-use Rattle.hp_model.specs.files.Fork.{file_forked, forked}
-use Rattle.hp_model.specs.files.GiveBack.{file_unmapped, file_without, is_kept, is_left, map_unmapped, punched, swept, truncated, unlinked, unmapped_from, without_task}
+use Rattle.hp_model.specs.files.Fork.{file_forked}
+use Rattle.hp_model.specs.files.GiveBack.{file_unmapped, file_without, is_kept, is_left, map_unmapped, punched, swept, truncated, unlinked, without_task}
 use Rattle.hp_model.specs.files.MakeMap.{asked, mapped, new_map, next_number, with_new}
 use Rattle.hp_model.specs.files.Mapping.{Map, is_map, is_of, map_for, map_punched, without_range}
-use Rattle.hp_model.specs.files.MountCounts.{usage_of}
 use Rattle.hp_model.specs.files.Page.{Page}
-use Rattle.hp_model.specs.files.Spot.{spot, spot_in}
-use Rattle.hp_model.specs.files.Value.{shown}
+use Rattle.hp_model.specs.files.Spot.{spot_in}
 use Rattle.hp_model.specs.Lists.{found}
 use Rattle.hp_model.specs.machine.Held.{are_held}
 use Rattle.hp_model.specs.machine.Named.{named_on, spot_on}
-use Rattle.hp_model.specs.machine.Plan.{Answered, Choice, Finish, Outcome, Refused, Slot, gives, grant}
+use Rattle.hp_model.specs.machine.Plan.{Answered, Choice, Outcome, Refused, Slot, gives}
 use Rattle.hp_model.specs.machine.Promises.{shape_of}
-use Rattle.hp_model.specs.machine.SlotEvent.{anon_tests, bytes_answer, create_tests, edited, file_named, fork_tests, has_name, is_bad_range}
-use Rattle.hp_model.specs.machine.SlotEvent.{map_file, map_tests, on_mount, preallocate, punch, read, read_tests}
-use Rattle.hp_model.specs.machine.SlotEvent.{slot_event, stat, truncate, umount_tests, unlink, unmap}
-use Rattle.hp_model.specs.Profile.{most_file_pages}
+use Rattle.hp_model.specs.machine.SlotEvent.{bytes_answer, edited, has_name, unentered, fault, load, store}
+use Rattle.hp_model.specs.machine.SlotEvent.{slot_event}
 use Rattle.hp_laws.specs.Balance.{Always}
 use Rattle.hp_laws.proofs.accesses.Shown.{On}
-use Rattle.hp_laws.proofs.accesses.SlotShows.{always_gives, always_grant, always_mount, always_preallocate, always_remount, always_unless, always_value}
+use Rattle.hp_laws.proofs.accesses.SlotShows.{always_gives, always_grant, always_mount, always_fill, always_remounting}
 use Rattle.hp_laws.proofs.counts.MountMoves.{IsFileAt, file_at}
 use Rattle.hp_laws.proofs.lists.Places.{any_filter, any_map_down, any_of_set, found_place}
 use Rattle.hp_laws.proofs.making.FilesMade.{any_append, found_none, spot_in_file, spot_none, in_file}
 use Rattle.hp_laws.proofs.making.NewNumbers.{found_not}
 use Rattle.hp_laws.proofs.names.Accessed.{file_put}
 use Rattle.hp_laws.proofs.names.Keys.{FileKey, any_mapped, file_key, has_key, is_key, is_named, keys}
-use Rattle.hp_laws.proofs.names.Meanings.{fault_on, load_on, store_on}
+use Rattle.hp_laws.proofs.names.Meanings.{fault_stays, load_stays, store_stays}
+use Rattle.hp_laws.proofs.steps.Walk.{Walks, walk_all}
 use Rattle.hp_laws.proofs.steps.Outcomes.{always_weaker}
+use Rattle.hp_model.specs.pool.Grant.{is_full, rise}
 
 -- ---- files of a slot
 
@@ -325,93 +323,61 @@ module _ (size k : ℕ) (c : Choice) (m : Mount) where
   same : (e : SlotEvent) (a : Answer) → MakesNo e (Some m) (Answered a (Some m))
   same e a = no_more (made_by e) (new_by e a) (Some m)
 
-  mount_makes : (e : SlotEvent) → Always (MakesNo e (Some m)) (on_mount size k c m e)
-  mount_makes (slot.Mount options) = tt
-  mount_makes (slot.Remount options) =
-      let e : SlotEvent = slot.Remount options in
-      always_remount (MakesNo e (Some m)) (λ r. tt) m (λ l. same_keys (made_by e) (new_by e Done) m (record m { limits = l }) refl) size k options
-  mount_makes slot.Umount =
-      always_unless (MakesNo slot.Umount (Some m)) (λ r. tt) (umount_tests k m) (gives Done (Some m) None)
-      (always_gives (MakesNo slot.Umount (Some m)) Done (Some m) None (none_more (made_by slot.Umount) (new_by slot.Umount Done)))
-  mount_makes (slot.Create name) =
-      let e : SlotEvent = slot.Create name in
-      always_unless (MakesNo e (Some m)) (λ r. tt) (create_tests c m name) (Finish (Answered Done (Some (with_new m (new_file (Some name))))))
-      (new_more (made_by e) (new_by e Done) m (new_file (Some name)) refl (λ other off. off) (λ task number off. refl))
-  mount_makes (slot.Unlink name) =
-      let e : SlotEvent = slot.Unlink name in
-      always_value (MakesNo e (Some m)) (λ r. tt) (file_named m name) NoSuchFile (unlink m)
-      (λ q named. file_given e q (unlinked q.1) (file_at m (has_name name) q named) (unlinked_fewer (new_by e Done) q.1))
-  mount_makes (slot.Truncate name n) =
-      let e : SlotEvent = slot.Truncate name n in
-      always_value (MakesNo e (Some m)) (λ r. tt) (file_named m name) NoSuchFile (truncate m n)
-      (λ q named. always_unless (MakesNo e (Some m)) (λ r. tt) ((nat_lt most_file_pages n, OutOfRange) ∷ []) (gives Done (Some m) (edited m q.0 (truncated n q.1)))
-      (file_given e q (truncated n q.1) (file_at m (has_name name) q named) (truncated_fewer (new_by e Done) n q.1)))
-  mount_makes (slot.Punch name a b) =
-      let e : SlotEvent = slot.Punch name a b in
-      always_value (MakesNo e (Some m)) (λ r. tt) (file_named m name) NoSuchFile (punch m a b)
-      (λ q named. always_unless (MakesNo e (Some m)) (λ r. tt) ((is_bad_range a b, OutOfRange) ∷ []) (gives Done (Some m) (edited m q.0 (punched a b q.1)))
-      (file_given e q (punched a b q.1) (file_at m (has_name name) q named) (punched_fewer (new_by e Done) a b q.1)))
-  mount_makes (slot.Preallocate name a b) =
-      let e : SlotEvent = slot.Preallocate name a b in
-      always_value (MakesNo e (Some m)) (λ r. tt) (file_named m name) NoSuchFile (preallocate c size m a b)
-      (λ q named. always_preallocate (MakesNo e (Some m)) (λ r. tt) c size m a b q (same e Done)
-      (λ pages. (let g = range_filled size a b (rising_nodes (lacking a b q.1) pages) q.1 in
-      same_keys (made_by e) (new_by e Done) m (with_file m q.0 g) (file_put m q.0 q.1 g (file_at m (has_name name) q named).is refl))))
-  mount_makes (slot.Read name i offset count) =
-      let e : SlotEvent = slot.Read name i offset count in
-      always_value (MakesNo e (Some m)) (λ r. tt) (file_named m name) NoSuchFile (read size m i offset count)
-      (λ q named. always_unless (MakesNo e (Some m)) (λ r. tt) (read_tests size i offset count q.1) (Finish (Answered (bytes_answer offset count (shown size (cell_at q.1 i))) (Some m)))
-      (same e (bytes_answer offset count (shown size (cell_at q.1 i)))))
-  mount_makes slot.Ls = always_unless (MakesNo slot.Ls (Some m)) (λ r. tt) ((c.refused, OutOfMemory) ∷ []) (Finish (Answered (Names (filter_map (λ f. f.name) m.files)) (Some m)))
-      (same slot.Ls (Names (filter_map (λ f. f.name) m.files)))
-  mount_makes (slot.Stat name) =
-      let e : SlotEvent = slot.Stat name in
-      always_value (MakesNo e (Some m)) (λ r. tt) (file_named m name) NoSuchFile (stat m)
-      (λ q named. same e (StatAnswer (length q.1.cells) (count_by has_page q.1.cells) (count_by is_entered q.1.cells) (length q.1.maps)))
-  mount_makes slot.Df = same slot.Df (Usage m.limits.max m.limits.min (usage_of m) m.limits.inodes (length m.files))
-  mount_makes (slot.Map task home name a n sharing reserving) =
-      let e : SlotEvent = slot.Map task home name a n sharing reserving in
-      let number = next_number task m in
-      always_value (MakesNo e (Some m)) (λ r. tt) (file_named m name) NoSuchFile (map_file c m task home a n sharing reserving)
-      (λ q named. (let done : Outcome = Answered (MapNo number) (Some (with_file m q.0 (mapped task number a n sharing reserving q.1))) in
-      always_unless (MakesNo e (Some m)) (λ r. tt) (map_tests m task a n) (grant c m home (asked sharing reserving a n q.1) done)
-      (always_grant (MakesNo e (Some m)) (λ r. tt) c m home (asked sharing reserving a n q.1) done
-      (mapped_more (made_by e) (new_by e (MapNo number)) m q.0 q.1 (mapped task number a n sharing reserving q.1).cells (new_map task number a n sharing reserving) (file_at m (has_name name) q named)
-      (λ t u off. off)))))
-  mount_makes (slot.Anon task home n sharing reserving) =
-      let e : SlotEvent = slot.Anon task home n sharing reserving in
-      let number = next_number task m in
-      let f = mapped task number 0 n sharing reserving (new_file None) in
-      let done : Outcome = Answered (MapNo number) (Some (with_new m f)) in
-      always_unless (MakesNo e (Some m)) (λ r. tt) (anon_tests m task n) (grant c m home (asked sharing reserving 0 n (new_file None)) done)
-      (always_grant (MakesNo e (Some m)) (λ r. tt) c m home (asked sharing reserving 0 n (new_file None)) done
-      (new_more (made_by e) (new_by e (MapNo number)) m f refl (λ name off. refl) (λ t u off. rw off refl)))
-  mount_makes (slot.Unmap task number a b) =
-      let e : SlotEvent = slot.Unmap task number a b in
-      always_value (MakesNo e (Some m)) (λ r. tt) (spot m (is_map task number)) NoSuchMap (unmap m task number a b)
-      (λ s found. always_unless (MakesNo e (Some m)) (λ r. tt) ((is_bad_range a b, OutOfRange) ∷ []) (gives Done (Some m) (Some (unmapped_from task number a b m)))
-      (files_given e (file_unmapped (is_map task number) a b) (unmapped_fewer (new_by e Done) (is_map task number) a b)))
-  mount_makes (slot.Fault task home number i intent) =
-      let e : SlotEvent = slot.Fault task home number i intent in
-      always_weaker (On (λ n. keys n ≡ keys m)) (MakesNo e (Some m)) (by_keys e) (on_mount size k c m e) (fault_on c m size task number home i intent)
-  mount_makes (slot.Load task home number i offset count) =
-      let e : SlotEvent = slot.Load task home number i offset count in
-      always_weaker (On (λ n. keys n ≡ keys m)) (MakesNo e (Some m)) (by_keys e) (on_mount size k c m e) (load_on c m size task number home i offset count)
-  mount_makes (slot.Store task home number i offset bytes) =
-      let e : SlotEvent = slot.Store task home number i offset bytes in
-      always_weaker (On (λ n. keys n ≡ keys m)) (MakesNo e (Some m)) (by_keys e) (on_mount size k c m e) (store_on c m size task number home i offset bytes)
-  mount_makes (slot.ForkMaps parent child) =
-      let e : SlotEvent = slot.ForkMaps parent child in
-      always_unless (MakesNo e (Some m)) (λ r. tt) (fork_tests c m parent child) (gives Done (Some m) (Some (forked parent child m)))
-      (files_given e (file_forked parent child) (forked_fewer (new_by e Done) parent child (λ t u off. off)))
-  mount_makes (slot.ExitMaps task) =
-      files_given (slot.ExitMaps task) (file_without task) (without_fewer (new_by (slot.ExitMaps task) Done) task)
+  makes_walks : Walks size k c m (λ e. Always (MakesNo e (Some m)))
+  makes_walks = record {
+    refuses = λ e r. tt;
+    same = λ e. same e Done;
+    tells = λ e a yes. same e a;
+    reads = λ name i offset count bytes few. same (slot.Read name i offset count) (bytes_answer offset count bytes);
+    creates = λ name new. new_more (made_by (slot.Create name)) (new_by (slot.Create name) Done) m (new_file (Some name)) refl (λ other off. off) (λ task number off. refl);
+    unlinks = λ name q is. file_given (slot.Unlink name) q (unlinked q.1) (file_at m (has_name name) q is) (unlinked_fewer (new_by (slot.Unlink name) Done) q.1);
+    truncates = λ name n q is.
+        (let e : SlotEvent = slot.Truncate name n in file_given e q (truncated n q.1) (file_at m (has_name name) q is) (truncated_fewer (new_by e Done) n q.1));
+    punches = λ name a b q is.
+        (let e : SlotEvent = slot.Punch name a b in file_given e q (punched a b q.1) (file_at m (has_name name) q is) (punched_fewer (new_by e Done) a b q.1));
+    fills = λ name a b q is.
+        (let e : SlotEvent = slot.Preallocate name a b in
+        let g : List ℕ → File = λ pages. range_filled size a b (rising_nodes (lacking a b q.1) pages) q.1 in
+        always_fill (MakesNo e (Some m)) (λ r. tt) ((is_full m (unentered a b q.1), MountFull) ∷ (c.refused, OutOfMemory) ∷ []) (rise m (unentered a b q.1)) (lacking a b q.1)
+        (λ pages. Answered Done (Some (with_file m q.0 (g pages))))
+        (λ pages. same_keys (made_by e) (new_by e Done) m (with_file m q.0 (g pages)) (file_put m q.0 q.1 (g pages) (file_at m (has_name name) q is).is refl)));
+    maps = λ task home name a n sharing reserving q is few.
+        (let e : SlotEvent = slot.Map task home name a n sharing reserving in
+        let number = next_number task m in
+        let f : File = mapped task number a n sharing reserving q.1 in
+        always_grant (MakesNo e (Some m)) (λ r. tt) c m home (asked sharing reserving a n q.1) (Answered (MapNo number) (Some (with_file m q.0 f)))
+        (mapped_more (made_by e) (new_by e (MapNo number)) m q.0 q.1 f.cells (new_map task number a n sharing reserving) (file_at m (has_name name) q is) (λ t u off. off)));
+    anons = λ task home n sharing reserving few.
+        (let e : SlotEvent = slot.Anon task home n sharing reserving in
+        let number = next_number task m in
+        let f : File = mapped task number 0 n sharing reserving (new_file None) in
+        always_grant (MakesNo e (Some m)) (λ r. tt) c m home (asked sharing reserving 0 n (new_file None)) (Answered (MapNo number) (Some (with_new m f)))
+        (new_more (made_by e) (new_by e (MapNo number)) m f refl (λ name off. refl) (λ t u off. rw off refl)));
+    unmaps = λ task number a b.
+        (let e : SlotEvent = slot.Unmap task number a b in files_given e (file_unmapped (is_map task number) a b) (unmapped_fewer (new_by e Done) (is_map task number) a b));
+    forks = λ parent child.
+        (let e : SlotEvent = slot.ForkMaps parent child in files_given e (file_forked parent child) (forked_fewer (new_by e Done) parent child (λ t u off. off)));
+    exits = λ task. files_given (slot.ExitMaps task) (file_without task) (without_fewer (new_by (slot.ExitMaps task) Done) task);
+    faults = λ task number s at home i intent.
+        always_weaker (On (λ n. keys n ≡ keys m)) (MakesNo (slot.Fault task home number i intent) (Some m)) (by_keys (slot.Fault task home number i intent))
+        (fault c size m home i intent s) (fault_stays c m s at size home i intent);
+    loads = λ task number s at home i offset count.
+        always_weaker (On (λ n. keys n ≡ keys m)) (MakesNo (slot.Load task home number i offset count) (Some m)) (by_keys (slot.Load task home number i offset count))
+        (load c size m home i offset count s) (load_stays c m s at size home i offset count);
+    stores = λ task number s at home i offset bytes.
+        always_weaker (On (λ n. keys n ≡ keys m)) (MakesNo (slot.Store task home number i offset bytes) (Some m)) (by_keys (slot.Store task home number i offset bytes))
+        (store c size m home i offset bytes s) (store_stays c m s at size home i offset bytes);
+  }
 
 empty_more : (made : List ℕ → Bool) (new : ℕ → ℕ → Bool) (l : Limits) → NoMore made new None (Some (record { limits = l; files = [] }))
 empty_more made new l = record { held = λ e. refl; names = λ name off is. is; numbers = λ task number off is. is }
 
 -- an event on a slot makes no name and no number but its own
 pub slot_makes : (size k : ℕ) (c : Choice) (old : Slot) (e : SlotEvent) → Always (MakesNo e old) (slot_event size k c old e)
-slot_makes size k c (Some m) e = mount_makes size k c m e
+slot_makes size k c (Some m) e =
+    walk_all size k c m (λ e. Always (MakesNo e (Some m))) (makes_walks size k c m)
+    (λ options. (let e : SlotEvent = slot.Remount options in
+    always_remounting (MakesNo e (Some m)) (λ r. tt) m (λ l. same_keys (made_by e) (new_by e Done) m (record m { limits = l }) refl) size options))
+    (always_gives (MakesNo slot.Umount (Some m)) Done (Some m) None (none_more size k c m (made_by slot.Umount) (new_by slot.Umount Done))) e
 slot_makes size k c None (slot.Mount options) = (let e : SlotEvent = slot.Mount options in always_mount (MakesNo e None) (λ r. tt) (λ l. empty_more (made_by e) (new_by e Done) l) c size options)
 slot_makes size k c None other = tt

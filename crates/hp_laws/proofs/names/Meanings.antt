@@ -104,23 +104,30 @@ module _ (c : Choice) (m : Mount) where
   in_place s at f same = file_put m s.file_no s.file f at.file.is same
 
   -- an access leaves the keys, and so do a load and a store
+  module _ (s : Spot) (at : IsSpot m s) (size home i : ℕ) where
+    pub load_stays : (offset count : ℕ) → Always (On Stays) (load c size m home i offset count s)
+    load_stays offset count =
+        then_on (λ n. Answered (bytes_answer offset count (value size (again n s).file (again n s).map i)) (Some n)) (byte_access c size m home i offset count Read s)
+        (λ n h. h) (bytes_on c m Stays refl s at (in_place s at) size home i offset count Read)
+
+    pub store_stays : (offset : ℕ) (bytes : List ℕ) → Always (On Stays) (store c size m home i offset bytes s)
+    store_stays offset bytes =
+        then_on (λ n. Answered Done (Some (written n s i offset bytes))) (byte_access c size m home i offset (length bytes) Write s)
+        (λ n h. key_edit file_key (file_written s i offset bytes) (written_key s i offset bytes) n.files s.file_no ∙ h)
+        (bytes_on c m Stays refl s at (in_place s at) size home i offset (length bytes) Write)
+
+    pub fault_stays : (intent : Intent) → Always (On Stays) (fault c size m home i intent s)
+    fault_stays intent =
+        always_unless (On Stays) (λ r. tt) (fault_tests i s) (access c size m s home i intent) (access_on c m Stays refl s at (in_place s at) size home i intent)
+
   pub load_on : (size task number home i offset count : ℕ) → Always (On Stays) (with_value (spot m (is_map task number)) NoSuchMap (load c size m home i offset count))
-  load_on size task number home i offset count =
-      found_on task number (load c size m home i offset count)
-      (λ s at. then_on (λ n. Answered (bytes_answer offset count (value size (again n s).file (again n s).map i)) (Some n)) (byte_access c size m home i offset count Read s)
-      (λ n h. h) (bytes_on c m Stays refl s at (in_place s at) size home i offset count Read))
+  load_on size task number home i offset count = found_on task number (load c size m home i offset count) (λ s at. load_stays s at size home i offset count)
 
   pub store_on : (size task number home i offset : ℕ) (bytes : List ℕ) → Always (On Stays) (with_value (spot m (is_map task number)) NoSuchMap (store c size m home i offset bytes))
-  store_on size task number home i offset bytes =
-      found_on task number (store c size m home i offset bytes)
-      (λ s at. then_on (λ n. Answered Done (Some (written n s i offset bytes))) (byte_access c size m home i offset (length bytes) Write s)
-      (λ n h. key_edit file_key (file_written s i offset bytes) (written_key s i offset bytes) n.files s.file_no ∙ h)
-      (bytes_on c m Stays refl s at (in_place s at) size home i offset (length bytes) Write))
+  store_on size task number home i offset bytes = found_on task number (store c size m home i offset bytes) (λ s at. store_stays s at size home i offset bytes)
 
   pub fault_on : (size task number home i : ℕ) (intent : Intent) → Always (On Stays) (with_value (spot m (is_map task number)) NoSuchMap (fault c size m home i intent))
-  fault_on size task number home i intent =
-      found_on task number (fault c size m home i intent)
-      (λ s at. always_unless (On Stays) (λ r. tt) (fault_tests i s) (access c size m s home i intent) (access_on c m Stays refl s at (in_place s at) size home i intent))
+  fault_on size task number home i intent = found_on task number (fault c size m home i intent) (λ s at. fault_stays s at size home i intent)
 
   pub placed_on : (p : Plan) → Always (On Stays) p → Always (On (Placed m)) p
   placed_on p all = always_weaker (On Stays) (On (Placed m)) (on_weaker Stays (Placed m) (λ n h. placed_same m n h)) p all

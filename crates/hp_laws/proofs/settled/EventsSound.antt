@@ -345,4 +345,4 @@ slots_stay_sound size k c (Some m) slot.Umount new sound = always_unless (GoesOn
     (always_gives (GoesOn (Some m)) Done (Some m) None tt)
 slots_stay_sound size k c (Some m) e new sound =
     always_weaker (On IsSoundMount) (GoesOn (Some m)) (left_good m sound) (on_mount size k c m e)
-    (walk size k c m (Always (On IsSoundMount)) (leaves_walk size k c m IsSoundMount (stays_sound size k c m sound (not-true _ new))) e refl)
+    (walk size k c m (λ e. Always (On IsSoundMount)) (leaves_walk size k c m IsSoundMount (stays_sound size k c m sound (not-true _ new))) e refl)

@@ -13,11 +13,11 @@ use Rattle.hp_model.specs.files.MakeMap.{asked, mapped, next_number, with_new}
 use Rattle.hp_model.specs.declared.refusal.Refusal.TheVariants.{MountFull, OutOfMemory}
 use Rattle.hp_model.specs.pool.Grant.{is_full, rise}
 use Rattle.hp_model.specs.machine.Plan.{Answered, Choice, gives}
-use Rattle.hp_model.specs.machine.SlotEvent.{byte_access, bytes_answer, fault, file_named, store, unentered}
+use Rattle.hp_model.specs.machine.SlotEvent.{byte_access, bytes_answer, fault, file_named, has_name, store, unentered}
 use Rattle.hp_model.specs.files.Spot.{Spot, again}
 use Rattle.hp_model.specs.files.Value.{value}
 use Rattle.hp_laws.specs.Balance.{Always}
-use Rattle.hp_laws.proofs.counts.MountMoves.{IsFileAt, IsSpot}
+use Rattle.hp_laws.proofs.counts.MountMoves.{IsFileAt, IsSpot, file_at}
 use Rattle.hp_laws.proofs.steps.Outcomes.{always_then}
 use Rattle.hp_laws.proofs.accesses.Shown.{On, on_follows}
 use Rattle.hp_laws.proofs.accesses.SlotShows.{always_fill, always_gives, always_grant}
@@ -45,29 +45,34 @@ module _ (size slot : ℕ) (c : Choice) (m : Mount) (Q : Mount → Type 0) where
   gives_on : (n : Mount) → Q n → Always (On Q) (gives Done (Some m) (Some n))
   gives_on n h = always_gives (On Q) Done (Some m) (Some n) h
 
-  pub leaves_walk : Leaves → Walks size slot c m (Always (On Q))
+  named : (name : List ℕ) (q : ℕ × File) → file_named m name ≡ Some q → IsFileAt m q.0 q.1
+  named name q is = file_at m (has_name name) q is
+
+  pub leaves_walk : Leaves → Walks size slot c m (λ e. Always (On Q))
   leaves_walk leaves = record {
-    refuses = λ r. tt;
-    same = λ a. leaves.same;
+    refuses = λ e r. tt;
+    same = λ e. leaves.same;
+    tells = λ e a yes. leaves.same;
+    reads = λ name i offset count bytes few. leaves.same;
     creates = leaves.creates;
-    unlinks = λ q at. gives_on (swept (with_file m q.0 (unlinked q.1))) (leaves.unlinks q at);
-    truncates = λ n q at. gives_on (swept (with_file m q.0 (truncated n q.1))) (leaves.truncates n q at);
-    punches = λ a b q at. gives_on (swept (with_file m q.0 (punched a b q.1))) (leaves.punches a b q at);
-    fills = λ a b q at.
+    unlinks = λ name q is. gives_on (swept (with_file m q.0 (unlinked q.1))) (leaves.unlinks q (named name q is));
+    truncates = λ name n q is. gives_on (swept (with_file m q.0 (truncated n q.1))) (leaves.truncates n q (named name q is));
+    punches = λ name a b q is. gives_on (swept (with_file m q.0 (punched a b q.1))) (leaves.punches a b q (named name q is));
+    fills = λ name a b q is.
         always_fill (On Q) (λ r. tt) ((is_full m (unentered a b q.1), MountFull) ∷ (c.refused, OutOfMemory) ∷ []) (rise m (unentered a b q.1)) (lacking a b q.1)
-        (λ pages. Answered Done (Some (with_file m q.0 (range_filled size a b (rising_nodes (lacking a b q.1) pages) q.1)))) (λ pages. leaves.fills a b pages q at);
-    maps = λ task home a n sharing reserving q at.
+        (λ pages. Answered Done (Some (with_file m q.0 (range_filled size a b (rising_nodes (lacking a b q.1) pages) q.1)))) (λ pages. leaves.fills a b pages q (named name q is));
+    maps = λ task home name a n sharing reserving q is few.
         always_grant (On Q) (λ r. tt) c m home (asked sharing reserving a n q.1)
-        (Answered (MapNo (next_number task m)) (Some (with_file m q.0 (mapped task (next_number task m) a n sharing reserving q.1)))) (leaves.maps task a n sharing reserving q at);
-    anons = λ task home n sharing reserving.
+        (Answered (MapNo (next_number task m)) (Some (with_file m q.0 (mapped task (next_number task m) a n sharing reserving q.1)))) (leaves.maps task a n sharing reserving q (named name q is));
+    anons = λ task home n sharing reserving few.
         always_grant (On Q) (λ r. tt) c m home (asked sharing reserving 0 n (new_file None))
         (Answered (MapNo (next_number task m)) (Some (with_new m (mapped task (next_number task m) 0 n sharing reserving (new_file None))))) (leaves.anons task n sharing reserving);
     unmaps = λ task number a b. gives_on (unmapped_from task number a b m) (leaves.unmaps task number a b);
     forks = λ parent child. gives_on (forked parent child m) (leaves.forks parent child);
     exits = λ task. gives_on (without_task task m) (leaves.exits task);
-    faults = leaves.faults;
-    loads = λ s at home i offset count.
+    faults = λ task number. leaves.faults;
+    loads = λ task number s at home i offset count.
         (let answer = λ (n : Mount). Answered (bytes_answer offset count (value size (again n s).file (again n s).map i)) (Some n) in
         always_then (On Q) (On Q) answer (on_follows Q Q answer (λ n h. h)) (byte_access c size m home i offset count Read s) (leaves.reads s at home i offset count));
-    stores = leaves.stores;
+    stores = λ task number. leaves.stores;
   }

@@ -122,33 +122,35 @@ module _ (W : Plan → Type 0) where
 
     -- ---- events
 
-    plan_walks : (size k : ℕ) (c : Choice) (m : Mount) → Walks size k c m W
+    plan_walks : (size k : ℕ) (c : Choice) (m : Mount) → Walks size k c m (λ e. W)
     plan_walks size k c m = record {
-      refuses = λ r. rules.done (Refused r);
-      same = λ a. rules.done (Answered a (Some m));
+      refuses = λ e r. rules.done (Refused r);
+      same = λ e. rules.done (Answered Done (Some m));
+      tells = λ e a yes. rules.done (Answered a (Some m));
+      reads = λ name i offset count bytes few. rules.done (Answered (bytes_answer offset count bytes) (Some m));
       creates = λ name new. rules.done (Answered Done (Some (with_new m (new_file (Some name)))));
-      unlinks = λ q at. plan_gives Done (Some m) (edited m q.0 (unlinked q.1));
-      truncates = λ n q at. plan_gives Done (Some m) (edited m q.0 (truncated n q.1));
-      punches = λ a b q at. plan_gives Done (Some m) (edited m q.0 (punched a b q.1));
-      fills = λ a b q at.
+      unlinks = λ name q at. plan_gives Done (Some m) (edited m q.0 (unlinked q.1));
+      truncates = λ name n q at. plan_gives Done (Some m) (edited m q.0 (truncated n q.1));
+      punches = λ name a b q at. plan_gives Done (Some m) (edited m q.0 (punched a b q.1));
+      fills = λ name a b q at.
           tested ((is_full m (unentered a b q.1), MountFull) ∷ (c.refused, OutOfMemory) ∷ [])
           (Ask (λ nr. FillPages (rise m (unentered a b q.1)) (lacking a b q.1)) (preallocated size m a b q))
           (rules.fills (rise m (unentered a b q.1)) (lacking a b q.1) (λ pages. Some (with_file m q.0 (range_filled size a b (rising_nodes (lacking a b q.1) pages) q.1))));
-      maps = λ task home a n sharing reserving q at.
+      maps = λ task home name a n sharing reserving q at few.
           plan_grant c m home (asked sharing reserving a n q.1) (MapNo (next_number task m)) (Some (with_file m q.0 (mapped task (next_number task m) a n sharing reserving q.1)));
-      anons = λ task home n sharing reserving.
+      anons = λ task home n sharing reserving few.
           plan_grant c m home (asked sharing reserving 0 n (new_file None)) (MapNo (next_number task m))
           (Some (with_new m (mapped task (next_number task m) 0 n sharing reserving (new_file None))));
       unmaps = λ task number a b. plan_gives Done (Some m) (Some (unmapped_from task number a b m));
       forks = λ parent child. plan_gives Done (Some m) (Some (forked parent child m));
       exits = λ task. plan_gives Done (Some m) (Some (without_task task m));
-      faults = λ s at home i intent. tested (fault_tests i s) (access c size m s home i intent) (plan_access c size m s home i intent);
-      loads = λ s at home i offset count.
+      faults = λ task number s at home i intent. tested (fault_tests i s) (access c size m s home i intent) (plan_access c size m s home i intent);
+      loads = λ task number s at home i offset count.
           rules.follows (λ n. bytes_answer offset count (value size (again n s).file (again n s).map i)) (λ n. n) (byte_access c size m home i offset count Read s)
           (plan_bytes c size m s home i offset count Read);
-      stores = λ s at home i offset bytes.
+      stores = λ task number s at home i offset bytes.
           rules.follows (λ n. Done) (λ n. written n s i offset bytes) (byte_access c size m home i offset (length bytes) Write s) (plan_bytes c size m s home i offset (length bytes) Write);
     }
 
     pub plan_walk : (size k : ℕ) (c : Choice) (m : Mount) (e : SlotEvent) → W (on_mount size k c m e)
-    plan_walk size k c m e = walk_all size k c m W (plan_walks size k c m) (rules.remounts size m) (plan_gives Done (Some m) None) e
+    plan_walk size k c m e = walk_all size k c m (λ e. W) (plan_walks size k c m) (rules.remounts size m) (plan_gives Done (Some m) None) e

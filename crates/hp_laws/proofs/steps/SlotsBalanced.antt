@@ -29,7 +29,7 @@ use Rattle.hp_model.specs.declared.section.PoolAnswer.{PoolAnswer}
 use Rattle.hp_model.specs.declared.section.Section.TheVariants.{GrantAndReturn, ReadAndGiveBack, ReadAndGrant}
 use Rattle.hp_model.specs.pool.PoolCounts.{Pool}
 use Rattle.hp_model.specs.Profile.{most_bytes}
-use Rattle.hp_model.specs.machine.SlotEvent.{on_mount, on_none, mount_section, mount_pages, mount_outcome, fault, byte_access, load, store, is_beyond, bytes_answer, is_unmapped, unentered}
+use Rattle.hp_model.specs.machine.SlotEvent.{byte_access, bytes_answer, fault, file_named, has_name, is_beyond, is_unmapped, load, mount_outcome, mount_pages, mount_section, on_mount, on_none, store, unentered}
 use Rattle.hp_model.specs.machine.SlotEvent.{committed_with, remount_outcome, remount_section}
 use Rattle.hp_model.specs.machine.Sound.{IsSoundFile, IsSoundMount}
 use Rattle.hp_model.specs.files.Spot.{Spot, written, again}
@@ -43,7 +43,7 @@ use Rattle.hp_laws.proofs.counts.FileMoves.{FileGrows}
 use Rattle.hp_laws.proofs.counts.Filled.{filled_fills}
 use Rattle.hp_laws.proofs.lists.NodesOf.{length-nodes_of}
 use Rattle.hp_laws.proofs.counts.OneMapMore.{mapped_grows}
-use Rattle.hp_laws.proofs.counts.MountMoves.{MountFalls, MountGrows, IsSpot, IsFileAt, nothing_more, file_fills, file_grows, new_grows, file_sweeps, files_sweep}
+use Rattle.hp_laws.proofs.counts.MountMoves.{MountFalls, MountGrows, IsSpot, IsFileAt, file_at, nothing_more, file_fills, file_grows, new_grows, file_sweeps, files_sweep}
 use Rattle.hp_laws.proofs.steps.Plans.{stays, grown_same, balanced_unless, balanced_fill, balanced_grant, balanced_gives, balanced_then, mount_falls}
 use Rattle.hp_laws.proofs.steps.Walk.{Walks, walk_all}
 
@@ -174,23 +174,28 @@ module _ (size slot : ℕ) (c : Choice) (m : Mount) (sound : IsSoundMount m) (ne
   falls : (n : Mount) → MountFalls m n → IsBalanced (Some m) (gives Done (Some m) (Some n))
   falls n less = balanced_gives Done (Some m) (Some n) (mount_falls m n less)
 
-  events_balanced : Walks size slot c m (IsBalanced (Some m))
+  named : (name : List ℕ) (q : ℕ × File) → file_named m name ≡ Some q → IsFileAt m q.0 q.1
+  named name q is = file_at m (has_name name) q is
+
+  events_balanced : Walks size slot c m (λ e. IsBalanced (Some m))
   events_balanced = record {
-    refuses = λ r. stays (Some m);
-    same = λ a. stays (Some m);
+    refuses = λ e r. stays (Some m);
+    same = λ e. stays (Some m);
+    tells = λ e a yes. stays (Some m);
+    reads = λ name i offset count bytes few. stays (Some m);
     creates = λ name new. grown_same m _ (new_grows m (Some name) (new_file (Some name)) 0 (same_file (new_file (Some name))));
-    unlinks = λ q at. falls _ (file_sweeps m q.0 q.1 (unlinked q.1) at (unlinked_falls q.1));
-    truncates = λ n q at. falls _ (file_sweeps m q.0 q.1 (truncated n q.1) at (truncated_falls n q.1));
-    punches = λ a b q at. falls _ (file_sweeps m q.0 q.1 (punched a b q.1) at (punched_falls a b q.1));
-    fills = λ a b q at.
+    unlinks = λ name q is. falls _ (file_sweeps m q.0 q.1 (unlinked q.1) (named name q is) (unlinked_falls q.1));
+    truncates = λ name n q is. falls _ (file_sweeps m q.0 q.1 (truncated n q.1) (named name q is) (truncated_falls n q.1));
+    punches = λ name a b q is. falls _ (file_sweeps m q.0 q.1 (punched a b q.1) (named name q is) (punched_falls a b q.1));
+    fills = λ name a b q is.
         balanced_fill c m (λ nodes. with_file m q.0 (range_filled size a b nodes q.1)) (lacking a b q.1) (unentered a b q.1)
-        (λ pages. file_fills m q.0 q.1 _ _ _ at (filled_fills size a b (rising_nodes (lacking a b q.1) pages) q.1 (length-nodes_of (lacking a b q.1) pages)));
-    maps = λ task home a n sharing reserving q at.
+        (λ pages. file_fills m q.0 q.1 _ _ _ (named name q is) (filled_fills size a b (rising_nodes (lacking a b q.1) pages) q.1 (length-nodes_of (lacking a b q.1) pages)));
+    maps = λ task home name a n sharing reserving q is few.
         (let k = asked sharing reserving a n q.1 in
         let number = next_number task m in
         balanced_grant c m _ home k (MapNo number)
-        (file_grows m q.0 q.1 (mapped task number a n sharing reserving q.1) 0 0 k at (mapped_grows task number a n sharing reserving q.1)));
-    anons = λ task home n sharing reserving.
+        (file_grows m q.0 q.1 (mapped task number a n sharing reserving q.1) 0 0 k (named name q is) (mapped_grows task number a n sharing reserving q.1)));
+    anons = λ task home n sharing reserving few.
         (let k = asked sharing reserving 0 n (new_file None) in
         let number = next_number task m in
         balanced_grant c m _ home k (MapNo number)
@@ -198,14 +203,14 @@ module _ (size slot : ℕ) (c : Choice) (m : Mount) (sound : IsSoundMount m) (ne
     unmaps = λ task number a b. falls _ (files_sweep m (file_unmapped (is_map task number) a b) (unmapped_falls (is_map task number) a b));
     forks = λ parent child. falls _ (files_sweep m (file_forked parent child) (forked_falls parent child));
     exits = λ task. falls _ (files_sweep m (file_without task) (without_falls task));
-    faults = λ s at home i intent. fault_balanced c size m sound new home i s at intent;
-    loads = λ s at home i offset count. load_balanced c size m sound new home i s at offset count;
-    stores = λ s at home i offset bytes. store_balanced c size m sound new home i s at offset bytes;
+    faults = λ task number s at home i intent. fault_balanced c size m sound new home i s at intent;
+    loads = λ task number s at home i offset count. load_balanced c size m sound new home i s at offset count;
+    stores = λ task number s at home i offset bytes. store_balanced c size m sound new home i s at offset bytes;
   }
 
   on_mount_balanced : (e : SlotEvent) → IsBalanced (Some m) (on_mount size slot c m e)
   on_mount_balanced e =
-      walk_all size slot c m (IsBalanced (Some m)) events_balanced
+      walk_all size slot c m (λ e. IsBalanced (Some m)) events_balanced
       (λ options. (
         (λ a. remount_by m a.granted a.node a.nr a.pages (limits a.nr size (wanted_of options))),
         (λ p. ap (λ nr. remount_section m (limits nr size (wanted_of options))) (remount_tells p m (limits p.nr size (wanted_of options)))),

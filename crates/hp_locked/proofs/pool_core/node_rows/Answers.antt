@@ -1,5 +1,5 @@
 use Rattle.std.proofs.Common.{arith}
-use Rattle.hp_locked.proofs.Rows.{padded}
+use Rattle.hp_laws.proofs.lists.NodeRows.{padded}
 use Rattle.hp_locked.proofs.pool_core.node_rows.Goals as goal
 
 pub returns : goal.returns

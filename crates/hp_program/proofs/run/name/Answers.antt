@@ -1,5 +1,5 @@
 use Rattle.std.proofs.Common.{◌++◌}
-use Rattle.hp_program.proofs.Said.{says_of}
+use Rattle.hp_serving.proofs.Printed.{says_of}
 use Rattle.hp_program.specs.Program.{named}
 use Rattle.hp_program.proofs.run.name.Goals as goal
 

@@ -3,7 +3,7 @@ use Rattle.hp_pool.specs.Sums.{idle_pool}
 use Rattle.hp_locked.specs.Told.{pool_reply}
 use Rattle.hp_locked.specs.Views.{frames_list}
 use Rattle.hp_locked.proofs.Added.{entry_noted, seated_more}
-use Rattle.hp_locked.proofs.Small.{event_small}
+use Rattle.hp_laws.proofs.promises.SmallPool.{event_small}
 use Rattle.hp_locked.proofs.pool_core.Core.event.Goals as goal
 
 pub invariant_of-self-2 : goal.invariant_of-self-2

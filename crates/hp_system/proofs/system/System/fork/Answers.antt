@@ -3,7 +3,8 @@ use Rattle.hp_model.specs.declared.answer.Answer.TheVariants.{Done}
 use Rattle.hp_model.specs.declared.event.TableEvent.TheVariants.{FindAndAdd, Remove}
 use Rattle.hp_model.specs.beside.Accesses.{done_reply}
 use Rattle.hp_system.proofs.Carries.{kept_with_table, kept_by, ready_by}
-use Rattle.hp_system.proofs.Forking.{child_is_another, fork_done, fork_refused, fork_undone}
+use Rattle.hp_laws.proofs.keeping.Homes.{child_is_another}
+use Rattle.hp_system.proofs.Forking.{fork_done, fork_refused, fork_undone}
 use Rattle.hp_system.proofs.MachineSteps.{taken_out, table_goes}
 use Rattle.hp_system.specs.Event.{AreForked}
 use Rattle.hp_model.specs.machine.Ready.{Machine, state_of}

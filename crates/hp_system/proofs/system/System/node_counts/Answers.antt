@@ -1,6 +1,6 @@
 use Rattle.std.proofs.Common.{length, arith, ap}
 use Rattle.hp_system.proofs.Carries.{kept_by, ready}
-use Rattle.hp_system.proofs.MachineSteps.{padded}
+use Rattle.hp_laws.proofs.lists.NodeRows.{padded}
 use Rattle.hp_model.specs.machine.Ready.{Machine}
 use Rattle.hp_system.proofs.system.System.node_counts.Goals as goal
 

@@ -52,20 +52,20 @@ module _ (p : Pool) (st : IsSettledPool p) (nodes : length p.nodes.rows ≤ 4) w
   in_pool : Few p.nodes.rows
   in_pool = few p.nodes.rows st.rows
 
-  most_frames_in : frames_of p.nodes.rows ≤ most_frames_in_all
+  pub most_frames_in : frames_of p.nodes.rows ≤ most_frames_in_all
   most_frames_in = (let frames = in_pool.frames in omega (arith, frames, nodes))
 
   nr_small : p.nr ≤ most_frames_in_all
   nr_small = (let most = most_frames_in in let below = in_pool.total in let total = st.total in omega (arith, most, below, total))
 
-  meminfo_small : IsWithinLimits (pool_event p pool.Meminfo).0
+  pub meminfo_small : IsWithinLimits (pool_event p pool.Meminfo).0
   meminfo_small =
       let most = most_frames_in in
       let below = in_pool.total in
       let total = st.total in
       (omega (arith, most, below, total), omega arith, omega arith, omega arith)
 
-  nodes_small : IsWithinLimits (pool_event p pool.Nodes).0
+  pub nodes_small : IsWithinLimits (pool_event p pool.Nodes).0
   nodes_small = (nodes, All-take IsSmallRow 4 (map node_count p.nodes.rows ++ replicate 4 no_count) (rows_small p.nodes.rows st.rows))
 
 -- the event is told by the pool that it leaves
