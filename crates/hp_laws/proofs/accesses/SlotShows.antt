@@ -1,10 +1,10 @@
 -- What a slot's files show after a file or a map is made, a load and a store, and what a load answers.
 use Rattle.std.proofs.Common.{◌≡◌, ◌⊎◌, ℕ, zero, suc, ◌+◌, ◌<◌, Bool, true, false, ◌&&◌, ◌||◌, ◌==◌, not, Option, None, Some, ⊎_elim}
-use Rattle.std.proofs.Common.{is_some, Result as ResultOf, Ok, Err, List, [], ◌∷◌, length, replicate, refl, sym, ap, ◌∙◌, if◌then◌else◌, nat_lt, nat_le, ◌-◌}
+use Rattle.std.proofs.Common.{Result as ResultOf, Ok, Err, List, [], ◌∷◌, length, replicate, refl, sym, ap, ◌∙◌, if◌then◌else◌, nat_lt, ◌-◌}
 use Rattle.std.specs.List.{slice_index_or, sum}
 use Rattle.std.proofs.lemmas.Bool.{cond_both, leb-false}
 use Rattle.hp_model.specs.declared.answer.Answer.{Answer}
-use Rattle.hp_model.specs.declared.answer.Answer.TheVariants.{Done, MapNo}
+use Rattle.hp_model.specs.declared.answer.Answer.TheVariants.{Done}
 use Rattle.hp_model.specs.declared.cell.Cell.{Cell}
 use Rattle.hp_model.specs.declared.cell.Cell.TheVariants.{Hole, Entered, Present}
 use Rattle.hp_model.specs.declared.event.SlotEvent.TheVariants as slot
@@ -12,7 +12,7 @@ use Rattle.hp_model.specs.declared.limits.Limits.{Limits}
 use Rattle.hp_model.specs.declared.place.Place.{Place}
 use Rattle.hp_model.specs.declared.place.Place.TheVariants.{Gone, Live}
 use Rattle.hp_model.specs.declared.refusal.Refusal.{Refusal}
-use Rattle.hp_model.specs.declared.refusal.Refusal.TheVariants.{NoPages, MountFull, OutOfMemory, OutOfRange, CrossesPage, TooMany, BeyondEnd, NoSuchMap, NoSuchFile, BadName, FileExists, NoInodes}
+use Rattle.hp_model.specs.declared.refusal.Refusal.TheVariants.{NoPages, MountFull, OutOfMemory, OutOfRange, CrossesPage, TooMany, BeyondEnd, NoSuchMap}
 use Rattle.hp_model.specs.declared.step.Intent.{Intent}
 use Rattle.hp_model.specs.declared.step.Intent.TheVariants.{Read, Write}
 use Rattle.hp_model.specs.declared.step.Reserving.{Reserving}
@@ -20,23 +20,23 @@ use Rattle.hp_model.specs.declared.step.Sharing.{Sharing}
 use Rattle.hp_model.specs.files.Access.{access}
 use Rattle.hp_laws.specs.Balance.{left_by}
 use Rattle.hp_model.specs.files.File.{File, Mount, at_least, entered, new_file, with_file, cell_at, has_page}
-use Rattle.hp_model.specs.pool.Grant.{is_full, is_over, rise, granted}
-use Rattle.hp_model.specs.files.MakeMap.{asked, mapped, new_map, next_number, reserves, with_new}
+use Rattle.hp_model.specs.pool.Grant.{is_full, rise, granted}
+use Rattle.hp_model.specs.files.MakeMap.{mapped, new_map, reserves, with_new}
 use Rattle.hp_model.specs.Lists.{edit_range}
 use Rattle.hp_model.specs.files.Mapping.{Map, copy_of, is_map, is_shared, place_at}
 use Rattle.hp_model.specs.files.Options.{limits, wanted_of}
 use Rattle.hp_model.specs.files.Page.{Page, Copy, zeros}
 use Rattle.hp_model.specs.machine.Plan.{Slot, Outcome, Refused, Answered, Plan, Finish, Ask, Choice, refuse, unless, with_value, continued, grant, when_granted, gives, puts_of, fall_of}
 use Rattle.hp_model.specs.declared.section.Section.TheVariants.{FillPages, Grant, GiveBack}
-use Rattle.hp_model.specs.Profile.{most_bytes, most_file_pages, most_files, most_map_pages}
+use Rattle.hp_model.specs.Profile.{most_bytes}
 use Rattle.hp_model.specs.machine.Promises.{file_in, spot_on, IsLoaded, shown_on, seen_on, map_in, map_on, no_map, over, is_shared_of, reaches}
-use Rattle.hp_model.specs.machine.SlotEvent.{anon_tests, are_too_many_maps, byte_access, bytes_answer, file_named, has_name, is_beyond, is_name, fill, preallocate, preallocate_tests, unentered}
-use Rattle.hp_model.specs.machine.SlotEvent.{is_unmapped, load, map_file, mount_on, mount_outcome, remount, remount_outcome, remount_tests, slot_event, store}
-use Rattle.hp_model.specs.machine.Sound.{IsSound, IsSoundMount}
+use Rattle.hp_model.specs.machine.SlotEvent.{byte_access, bytes_answer, is_beyond, fill, preallocate, preallocate_tests, unentered}
+use Rattle.hp_model.specs.machine.SlotEvent.{is_unmapped, load, mount_on, mount_outcome, remount, remount_outcome, remount_tests, slot_event, store}
+use Rattle.hp_model.specs.machine.Sound.{IsSoundMount}
 use Rattle.hp_model.specs.files.Spot.{Spot, again, spot, written}
 use Rattle.hp_model.specs.files.Value.{shown, value}
 use Rattle.hp_laws.proofs.lists.Looks.{same_edit_range, same_more, same_none, same_one, same_put}
-use Rattle.hp_laws.proofs.counts.MountMoves.{IsSpot, file_at, spot_is}
+use Rattle.hp_laws.proofs.counts.MountMoves.{IsSpot, spot_is, IsFileAt}
 use Rattle.hp_laws.proofs.steps.Outcomes.{Always, always_if, always_test, always_then, outcome_if}
 use Rattle.hp_laws.proofs.accesses.StoredMaps.{IsLostAt, store_seen, store_marks}
 use Rattle.hp_laws.proofs.accesses.Shown.{marked, look, seen, by_place, On, Same, Result, read_same, write_done}
@@ -117,21 +117,23 @@ Quiet size old o =
     ((j x : ℕ) → shown_on size (left_by old o) j x ≡ shown_on size old j x) × ((j l x : ℕ) → seen_on size (left_by old o) j l x ≡ seen_on size old j l x)
     × ((j l : ℕ) → (map_on (left_by old o) j l).unmapped ≡ (map_on old j l).unmapped)
 
-refused_quiet : (size : ℕ) (old : Slot) (r : Refusal) → Quiet size old (Refused r)
-refused_quiet size old r = (λ j x. refl, λ j l x. refl, λ j l. refl)
+-- a file more, or another in a file's place, that shows the same
+module _ (size : ℕ) (m : Mount) (a : Answer) where
+  pub new_quiet : (f : File) → ((x : ℕ) → look size x f ≡ look size x (new_file None)) → ((l x : ℕ) → seen size l x f ≡ seen size l x (new_file None))
+      → ((l : ℕ) → marked l f ≡ marked l (new_file None)) → Quiet size (Some m) (Answered a (Some (with_new m f)))
+  new_quiet f looks sees marks = (
+    λ j x. same_more (look size x) (new_file None) m.files (f ∷ []) (λ i. same_one (look size x) (new_file None) f (looks x) i) j,
+    λ j l x. same_more (seen size l x) (new_file None) m.files (f ∷ []) (λ i. same_one (seen size l x) (new_file None) f (sees l x) i) j,
+    λ j l. same_more (marked l) (new_file None) m.files (f ∷ []) (λ i. same_one (marked l) (new_file None) f (marks l) i) j,
+  )
 
-pub create_quiet : (size k : ℕ) (c : Choice) (old : Slot) (name : List ℕ) → Always (Quiet size old) (slot_event size k c old (slot.Create name))
-create_quiet size k c None name = (λ j x. refl, λ j l x. refl, λ j l. refl)
-create_quiet size k c (Some m) name =
-    let f : File = new_file (Some name) in
-    always_unless (Quiet size (Some m)) (refused_quiet size (Some m))
-    ((not (is_name name), BadName) ∷ (is_some (file_named m name), FileExists) ∷ (nat_le most_files (length m.files), TooMany)
-    ∷ (is_over m.limits.inodes (length m.files + 1), NoInodes) ∷ (c.refused, OutOfMemory) ∷ [])
-    (Finish (Answered Done (Some (with_new m f)))) (
-      λ j x. same_more (look size x) (new_file None) m.files (f ∷ []) (λ i. same_one (look size x) (new_file None) f refl i) j,
-      λ j l x. same_more (seen size l x) (new_file None) m.files (f ∷ []) (λ i. same_one (seen size l x) (new_file None) f refl i) j,
-      λ j l. same_more (marked l) (new_file None) m.files (f ∷ []) (λ i. same_one (marked l) (new_file None) f refl i) j,
-    )
+  put_quiet : (q : ℕ × File) (g : File) → IsFileAt m q.0 q.1 → ((x : ℕ) → look size x g ≡ look size x q.1) → ((l x : ℕ) → seen size l x g ≡ seen size l x q.1)
+      → ((l : ℕ) → marked l g ≡ marked l q.1) → Quiet size (Some m) (Answered a (Some (with_file m q.0 g)))
+  put_quiet q g at looks sees marks = (
+    λ j x. same_put (look size x) (new_file None) m.files q.0 g at.within (looks x ∙ sym (ap (look size x) (at.is (new_file None)))) j,
+    λ j l x. same_put (seen size l x) (new_file None) m.files q.0 g at.within (sees l x ∙ sym (ap (seen size l x) (at.is (new_file None)))) j,
+    λ j l. same_put (marked l) (new_file None) m.files q.0 g at.within (marks l ∙ sym (ap (marked l) (at.is (new_file None)))) j,
+  )
 
 entered_shows : (size : ℕ) (c : Cell Page) → shown size (entered c) ≡ shown size c
 entered_shows size Hole = refl
@@ -158,21 +160,11 @@ filled_shows size a b pages f x =
     (λ new. ap (shown size) new.is ∙ new.holds ∙ sym (zero_shows size (cell_at f x) new.lacked))
     (filled_index size a b (rising_nodes (lacking a b f) pages) f (length-nodes_of (lacking a b f) pages) x)
 
-pub preallocate_quiet : (size k : ℕ) (c : Choice) (old : Slot) (name : List ℕ) (a b : ℕ) → Always (Quiet size old) (slot_event size k c old (slot.Preallocate name a b))
-preallocate_quiet size k c None name a b = (λ j x. refl, λ j l x. refl, λ j l. refl)
-preallocate_quiet size k c (Some m) name a b =
-    let P = Quiet size (Some m) in
-    let stops = refused_quiet size (Some m) in
-    always_value P stops (file_named m name) NoSuchFile (preallocate c size m a b)
-    (λ q e. (let at = file_at m (has_name name) q e in
-    always_preallocate P stops c size m a b q (λ j x. refl, λ j l x. refl, λ j l. refl)
-    (λ pages. (let g : File = range_filled size a b (rising_nodes (lacking a b q.1) pages) q.1 in
-    let shows = filled_shows size a b pages q.1 in (
-      λ j x. same_put (look size x) (new_file None) m.files q.0 g at.within (shows x ∙ sym (ap (look size x) (at.is (new_file None)))) j,
-      λ j l x. same_put (seen size l x) (new_file None) m.files q.0 g at.within
-          (ap (by_place size (place_at (map_in q.1 l) x)) (shows x) ∙ sym (ap (seen size l x) (at.is (new_file None)))) j,
-      λ j l. same_put (marked l) (new_file None) m.files q.0 g at.within (sym (ap (marked l) (at.is (new_file None)))) j,
-    )))))
+pub filled_quiet : (size : ℕ) (m : Mount) (a b : ℕ) (pages : List ℕ) (q : ℕ × File) → IsFileAt m q.0 q.1
+    → Quiet size (Some m) (Answered Done (Some (with_file m q.0 (range_filled size a b (rising_nodes (lacking a b q.1) pages) q.1))))
+filled_quiet size m a b pages q at =
+    let shows = filled_shows size a b pages q.1 in
+    put_quiet size m Done q (range_filled size a b (rising_nodes (lacking a b q.1) pages) q.1) at shows (λ l x. ap (by_place size (place_at (map_in q.1 l) x)) (shows x)) (λ l. refl)
 
 -- a new map has no copies
 none_yet : (n j : ℕ) → copy_of {C = Copy} (slice_index_or (replicate n (Live false None)) j Gone) ≡ None
@@ -199,40 +191,16 @@ mapped_marks : (task number a n : ℕ) (sharing : Sharing) (reserving : Reservin
 mapped_marks task number a n sharing reserving f l =
     let more : Map = new_map task number a n sharing reserving in same_more (λ (y : Map). y.unmapped) no_map f.maps (more ∷ []) (λ j. same_one (λ (y : Map). y.unmapped) no_map more refl j) l
 
-pub map_quiet : (size k : ℕ) (c : Choice) (old : Slot) (task home : ℕ) (name : List ℕ) (a n : ℕ) (sharing : Sharing) (reserving : Reserving)
-    → Always (Quiet size old) (slot_event size k c old (slot.Map task home name a n sharing reserving))
-map_quiet size k c None task home name a n sharing reserving = (λ j x. refl, λ j l x. refl, λ j l. refl)
-map_quiet size k c (Some m) task home name a n sharing reserving =
-    let P = Quiet size (Some m) in
-    let stops = refused_quiet size (Some m) in
-    let number = next_number task m in
-    always_value P stops (file_named m name) NoSuchFile (map_file c m task home a n sharing reserving)
-    (λ q e. (let at = file_at m (has_name name) q e in
-    let more : File = mapped task number a n sharing reserving q.1 in
-    let left : Outcome = Answered (MapNo number) (Some (with_file m q.0 more)) in
-    always_unless P stops (((n == 0) || nat_lt most_file_pages (a + n), OutOfRange) ∷ (nat_lt most_map_pages n || are_too_many_maps m task, TooMany) ∷ [])
-    (grant c m home (asked sharing reserving a n q.1) left)
-    (always_grant P stops c m home (asked sharing reserving a n q.1) left (
-      λ j x. same_put (look size x) (new_file None) m.files q.0 more at.within (mapped_shows size task number a n sharing reserving q.1 x ∙ sym (ap (look size x) (at.is (new_file None)))) j,
-      λ j l x. same_put (seen size l x) (new_file None) m.files q.0 more at.within (mapped_seen size task number a n sharing reserving q.1 l x ∙ sym (ap (seen size l x) (at.is (new_file None)))) j,
-      λ j l. same_put (marked l) (new_file None) m.files q.0 more at.within (mapped_marks task number a n sharing reserving q.1 l ∙ sym (ap (marked l) (at.is (new_file None)))) j,
-    ))))
+module _ (size : ℕ) (m : Mount) (task number a n : ℕ) (sharing : Sharing) (reserving : Reserving) (answer : Answer) where
+  pub mapped_quiet : (q : ℕ × File) → IsFileAt m q.0 q.1 → Quiet size (Some m) (Answered answer (Some (with_file m q.0 (mapped task number a n sharing reserving q.1))))
+  mapped_quiet q at =
+      put_quiet size m answer q (mapped task number a n sharing reserving q.1) at (mapped_shows size task number a n sharing reserving q.1)
+      (mapped_seen size task number a n sharing reserving q.1) (mapped_marks task number a n sharing reserving q.1)
 
-pub anon_quiet : (size k : ℕ) (c : Choice) (m : Mount) (task home n : ℕ) (sharing : Sharing) (reserving : Reserving)
-    → Always (Quiet size (Some m)) (slot_event size k c (Some m) (slot.Anon task home n sharing reserving))
-anon_quiet size k c m task home n sharing reserving =
-    let P = Quiet size (Some m) in
-    let stops = refused_quiet size (Some m) in
-    let number = next_number task m in
-    let bare : File = new_file None in
-    let f : File = mapped task number 0 n sharing reserving bare in
-    let left : Outcome = Answered (MapNo number) (Some (with_new m f)) in
-    always_unless P stops (anon_tests m task n) (grant c m home (asked sharing reserving 0 n bare) left)
-    (always_grant P stops c m home (asked sharing reserving 0 n bare) left (
-      λ j x. same_more (look size x) bare m.files (f ∷ []) (λ i. same_one (look size x) bare f (mapped_shows size task number 0 n sharing reserving bare x) i) j,
-      λ j l x. same_more (seen size l x) bare m.files (f ∷ []) (λ i. same_one (seen size l x) bare f (mapped_seen size task number 0 n sharing reserving bare l x) i) j,
-      λ j l. same_more (marked l) bare m.files (f ∷ []) (λ i. same_one (marked l) bare f (mapped_marks task number 0 n sharing reserving bare l) i) j,
-    ))
+  pub anon_quiet : Quiet size (Some m) (Answered answer (Some (with_new m (mapped task number a n sharing reserving (new_file None)))))
+  anon_quiet =
+      new_quiet size m answer (mapped task number a n sharing reserving (new_file None)) (mapped_shows size task number a n sharing reserving (new_file None))
+      (mapped_seen size task number a n sharing reserving (new_file None)) (mapped_marks task number a n sharing reserving (new_file None))
 
 -- ---- accesses
 
@@ -266,6 +234,13 @@ load_ends size m s at i offset count (Answered a (Some n)) on = record {
       sym first ∙ ap (bytes_answer offset count) (on.value ∙ sym (spot_seen size m s at i)));
 }
 
+pub load_at : (size : ℕ) (c : Choice) (m : Mount) (s : Spot) → IsSpot m s → (home i offset count : ℕ)
+    → Always (Loads size (Some m) (Some s) i offset count) (load c size m home i offset count s)
+load_at size c m s at home i offset count =
+    always_then (On (Same size m s at i)) (Loads size (Some m) (Some s) i offset count) (λ n. Answered (bytes_answer offset count (value size (again n s).file (again n s).map i)) (Some n))
+    (load_ends size m s at i offset count) (byte_access c size m home i offset count Read s)
+    (bytes_on size c m home i (Same size m s at i) offset count Read s (read_same size m s at i c home))
+
 pub load_loads : (size k : ℕ) (c : Choice) (old : Slot) (task home number i offset count : ℕ)
     → Always (Loads size old (spot_on old task number) i offset count) (slot_event size k c old (slot.Load task home number i offset count))
 load_loads size k c None task home number i offset count = load_refused size None None i offset count _
@@ -273,11 +248,7 @@ load_loads size k c (Some m) task home number i offset count = by_spot (spot m (
   where
     by_spot : (o : Option Spot) → ((s : Spot) → o ≡ Some s → IsSpot m s) → Always (Loads size (Some m) o i offset count) (with_value o NoSuchMap (load c size m home i offset count))
     by_spot None is = load_refused size (Some m) None i offset count NoSuchMap
-    by_spot (Some s) is =
-        let at = is s refl in
-        always_then (On (Same size m s at i)) (Loads size (Some m) (Some s) i offset count) (λ n. Answered (bytes_answer offset count (value size (again n s).file (again n s).map i)) (Some n))
-        (load_ends size m s at i offset count) (byte_access c size m home i offset count Read s)
-        (bytes_on size c m home i (Same size m s at i) offset count Read s (read_same size m s at i c home))
+    by_spot (Some s) is = load_at size c m s (is s refl) home i offset count
 
 -- the bytes are over what the shared map's file shows there, and nothing else
 abbrev pub Stores : (size : ℕ) → Slot → Option Spot → (i offset : ℕ) → List ℕ → Outcome → Type 0
@@ -299,15 +270,9 @@ store_ends size m sound s at i offset bytes (Answered a (Some n)) on = (
   store_marks size m sound s at i offset bytes n on,
 )
 
-pub store_stores : (size k : ℕ) (c : Choice) (old : Slot) → IsSound old → (task home number i offset : ℕ) (bytes : List ℕ)
-    → Always (Stores size old (spot_on old task number) i offset bytes) (slot_event size k c old (slot.Store task home number i offset bytes))
-store_stores size k c None sound task home number i offset bytes = tt
-store_stores size k c (Some m) sound task home number i offset bytes = by_spot (spot m (is_map task number)) (λ s e. spot_is m (is_map task number) s e)
-  where
-    by_spot : (o : Option Spot) → ((s : Spot) → o ≡ Some s → IsSpot m s) → Always (Stores size (Some m) o i offset bytes) (with_value o NoSuchMap (store c size m home i offset bytes))
-    by_spot None is = tt
-    by_spot (Some s) is =
-        let at = is s refl in
-        always_then (On (Result size m s at i)) (Stores size (Some m) (Some s) i offset bytes) (λ n. Answered Done (Some (written n s i offset bytes)))
-        (store_ends size m sound s at i offset bytes) (byte_access c size m home i offset (length bytes) Write s)
-        (bytes_on size c m home i (Result size m s at i) offset (length bytes) Write s (write_done size m s at i c home))
+pub store_at : (size : ℕ) (c : Choice) (m : Mount) → IsSoundMount m → (s : Spot) → IsSpot m s → (home i offset : ℕ) (bytes : List ℕ)
+    → Always (Stores size (Some m) (Some s) i offset bytes) (store c size m home i offset bytes s)
+store_at size c m sound s at home i offset bytes =
+    always_then (On (Result size m s at i)) (Stores size (Some m) (Some s) i offset bytes) (λ n. Answered Done (Some (written n s i offset bytes)))
+    (store_ends size m sound s at i offset bytes) (byte_access c size m home i offset (length bytes) Write s)
+    (bytes_on size c m home i (Result size m s at i) offset (length bytes) Write s (write_done size m s at i c home))

@@ -18,7 +18,7 @@ use Rattle.hp_model.specs.declared.event.SlotEvent.{SlotEvent}
 use Rattle.hp_model.specs.declared.event.SlotEvent.TheVariants as slot
 use Rattle.hp_model.specs.declared.event.TableEvent.TheVariants as table
 use Rattle.hp_model.specs.declared.refusal.Refusal.{Refusal}
-use Rattle.hp_model.specs.declared.refusal.Refusal.TheVariants.{BeyondEnd, NoSuchFile, NoSuchMap, OutOfMemory, OutOfRange}
+use Rattle.hp_model.specs.declared.refusal.Refusal.TheVariants.{BeyondEnd, OutOfMemory, OutOfRange, MountFull}
 use Rattle.hp_model.specs.declared.step.Intent.{Intent}
 use Rattle.hp_model.specs.declared.step.Intent.TheVariants.{Read, Write}
 use Rattle.hp_model.specs.declared.step.Reserving.{Reserving}
@@ -30,7 +30,7 @@ use Rattle.hp_model.specs.declared.step.Sharing.TheVariants.{Private, Shared}
 use Rattle.hp_model.specs.files.Access.{access}
 use Rattle.hp_model.specs.files.File.{File, Mount, at_least, cell_at, cell_punched, entered, has_page, new_file, with_file}
 use Rattle.hp_model.specs.Lists.{edit_range}
-use Rattle.hp_model.specs.files.GiveBack.{file_unmapped, punched, swept, truncated, unlinked, unmapped_from}
+use Rattle.hp_model.specs.files.GiveBack.{file_unmapped, punched, swept, truncated, unlinked, unmapped_from, without_task}
 use Rattle.hp_model.specs.files.MakeMap.{asked, mapped, new_map, next_number, reserves, with_new}
 use Rattle.hp_model.specs.files.Mapping.{Map, copy_of, is_map, is_shared, is_unconsumed, map_punched, place_at, without_copy}
 use Rattle.hp_model.specs.files.Page.{Copy, Page}
@@ -38,15 +38,14 @@ use Rattle.hp_model.specs.files.Spot.{Spot, again, spot, written}
 use Rattle.hp_model.specs.files.Value.{value}
 use Rattle.hp_model.specs.machine.Event.{IsEvent}
 use Rattle.hp_model.specs.machine.Kept.{ChangesCell, ChangesPlace, IsFilled, IsSpent, IsTaken, Keeps, KeepsCell, KeepsFiles, KeepsMap, KeepsOwn, Marks}
-use Rattle.hp_model.specs.machine.Plan.{Answered, Choice, Finish, Outcome, Plan, Refused, Reply, Slot, gives, grant, unless, with_value}
+use Rattle.hp_model.specs.machine.Plan.{Answered, Choice, Outcome, Refused, Reply, Slot, gives}
 use Rattle.hp_model.specs.machine.Promises.{IsLostTo, file_in, is_at, is_in, is_shared_of, map_in, map_on, means_file, no_map}
 use Rattle.hp_model.specs.machine.Settled.{IsSettledState}
-use Rattle.hp_model.specs.machine.SlotEvent.{anon_tests, byte_access, bytes_answer, create_tests, edited, fault, file_named, has_name, is_bad_range, is_beyond, preallocate}
-use Rattle.hp_model.specs.machine.SlotEvent.{is_unmapped, load, map_file, map_tests, on_mount, punch, read, read_tests, slot_event, stat, store, truncate, umount_tests, unlink, unmap}
+use Rattle.hp_model.specs.machine.SlotEvent.{byte_access, bytes_answer, fault, file_named, has_name, is_beyond, unentered}
+use Rattle.hp_model.specs.machine.SlotEvent.{is_unmapped, load, slot_event, store}
 use Rattle.hp_model.specs.machine.Sound.{IsSound, IsSoundMap, IsSoundFile, IsSoundMount}
 use Rattle.hp_model.specs.machine.State.{State, slot_at}
 use Rattle.hp_model.specs.machine.Step.{IsStep}
-use Rattle.hp_model.specs.Profile.{most_file_pages}
 use Rattle.hp_model.proofs.Editing.{get_or-edit_in}
 use Rattle.hp_laws.specs.Balance.{left_by}
 use Rattle.hp_laws.proofs.names.ByPlace.{by_owner}
@@ -59,7 +58,7 @@ use Rattle.hp_laws.proofs.accesses.KeptPlaces.{Held, access_held, store_held}
 use Rattle.hp_laws.proofs.keeping.KeptSlot.{Each, NoCell, NoPlace, alike_keeps, cut_keeps, kept_keeps, means_it, new_keeps, only_file, only_spot, put_kept, same_keeps, sweep_kept}
 use Rattle.hp_laws.proofs.lists.Looks.{same_more, same_none}
 use Rattle.hp_laws.proofs.accesses.StoredMaps.{IsLostAt}
-use Rattle.hp_laws.proofs.names.Meanings.{fault_on, load_on, placed_map, placed_new, placed_same, store_on, placed_filled}
+use Rattle.hp_laws.proofs.names.Meanings.{fault_stays, load_stays, placed_map, placed_new, placed_same, store_stays, placed_filled}
 use Rattle.hp_laws.proofs.counts.MountMoves.{IsSpot, file_at, spot_is}
 use Rattle.hp_laws.proofs.names.Named.{map_shown}
 use Rattle.hp_laws.proofs.steps.Outcomes.{Always, always_test, always_then, always_weaker, event_ends, reply_of}
@@ -67,12 +66,15 @@ use Rattle.hp_laws.proofs.names.Placed.{Placed, lead_same, placed}
 use Rattle.hp_laws.proofs.accesses.Shown.{On, Result, on_follows, on_weaker, write_done}
 use Rattle.hp_laws.proofs.keeping.SlotKept.{always_both}
 use Rattle.hp_laws.proofs.sections.PoolTied.{left_sound}
-use Rattle.hp_laws.proofs.accesses.SlotShows.{always_gives, always_grant, always_mount, always_remount, always_unless, always_value, bytes_on, always_preallocate}
+use Rattle.hp_laws.proofs.accesses.SlotShows.{always_gives, always_grant, always_mount, bytes_on, always_fill, always_remounting}
 use Rattle.hp_laws.proofs.steps.Whole.{by_event, is_whole, slot_step, step_of}
 use Rattle.hp_model.specs.files.Fill.{lacking, range_filled, rising_nodes}
 use Rattle.hp_laws.proofs.counts.Filled.{filled_index}
 use Rattle.hp_laws.proofs.lists.NodesOf.{length-nodes_of}
 use Rattle.std.proofs.lemmas.Bool.Decides.{nat_tests}
+use Rattle.hp_laws.proofs.steps.Walk.{Walks, remounting, tells_all, walk_all}
+use Rattle.hp_model.specs.pool.Grant.{is_full, rise}
+use Rattle.hp_model.specs.files.Fork.{forked}
 
 -- a slot that is sound afterwards keeps its maps and files
 abbrev KeepsTo : Slot → Step → Outcome → Type 0
@@ -323,120 +325,103 @@ module _ (size k : ℕ) (c : Choice) (m : Mount) (sound : IsSoundMount m) where
         access_kept size m sound task number i Write s found n held (placed_same m n same) whole (step.Fault task k number i Write)
         (λ p q j own. inl own) (λ p q j writes taken. inr taken) (λ file j old new to. to) (λ p q writes lost. lost)
 
-    of_fault : (intent : Intent) → Always (KeepsTo (Some m) (step.Fault task k number i intent)) (with_value (spot m (is_map task number)) NoSuchMap (fault c size m home i intent))
-    of_fault intent =
-        let x : Step = step.Fault task k number i intent in
-        let plan = with_value (spot m (is_map task number)) NoSuchMap (fault c size m home i intent) in
-        always_both (On (KeptIf x)) (On Stays) (KeepsTo (Some m) x) (joined x) plan
-        (always_value (On (KeptIf x)) (λ r. tt) (spot m (is_map task number)) NoSuchMap (fault c size m home i intent)
-        (λ s found. (let at = spot_is m (is_map task number) s found in
-        always_test (On (KeptIf x)) (is_unmapped s i) OutOfRange _ tt
-        (λ live. always_test (On (KeptIf x)) (is_beyond s i) BeyondEnd (access c size m s home i intent) tt
-        (λ below. always_weaker (On (Held size m sound s at i intent)) (On (KeptIf x)) (on_weaker (Held size m sound s at i intent) (KeptIf x) (fault_kept intent s found))
-        (access c size m s home i intent)
-        (access_held size m sound s at i intent c home (leb-false (length s.file.cells) i below)))))))
-        (fault_on c m size task number home i intent)
+    module _ (s : Spot) (found : spot m (is_map task number) ≡ Some s) where
+      abbrev there : IsSpot m s
+      there = spot_is m (is_map task number) s found
 
-    of_load : (offset count : ℕ) → Always (KeepsTo (Some m) (step.Load task k number i offset count)) (with_value (spot m (is_map task number)) NoSuchMap (load c size m home i offset count))
-    of_load offset count =
-        let x : Step = step.Load task k number i offset count in
-        let plan = with_value (spot m (is_map task number)) NoSuchMap (load c size m home i offset count) in
-        always_both (On (KeptIf x)) (On Stays) (KeepsTo (Some m) x) (joined x) plan
-        (always_value (On (KeptIf x)) (λ r. tt) (spot m (is_map task number)) NoSuchMap (load c size m home i offset count)
-        (λ s found. (let at = spot_is m (is_map task number) s found in
-        let H : Mount → Type 0 = Held size m sound s at i Read in
-        let f : Mount → Outcome = λ n. Answered (bytes_answer offset count (value size (again n s).file (again n s).map i)) (Some n) in
-        always_then (On H) (On (KeptIf x)) f (on_follows H (KeptIf x) f
-        (λ n held same whole. access_kept size m sound task number i Read s found n held (placed_same m n same) whole x
-        (λ p q j own. own) (λ p q j writes taken. (let never : Read ≡ Write = writes in cc)) (λ file j old new to. to) (λ p q writes lost. (let never : Read ≡ Write = writes in cc))))
-        (byte_access c size m home i offset count Read s) (bytes_on size c m home i H offset count Read s (λ l. access_held size m sound s at i Read c home l)))))
-        (load_on c m size task number home i offset count)
+      of_fault : (intent : Intent) → Always (KeepsTo (Some m) (step.Fault task k number i intent)) (fault c size m home i intent s)
+      of_fault intent =
+          let x : Step = step.Fault task k number i intent in
+          always_both (On (KeptIf x)) (On Stays) (KeepsTo (Some m) x) (joined x) (fault c size m home i intent s)
+          (always_test (On (KeptIf x)) (is_unmapped s i) OutOfRange _ tt
+          (λ live. always_test (On (KeptIf x)) (is_beyond s i) BeyondEnd (access c size m s home i intent) tt
+          (λ below. always_weaker (On (Held size m sound s there i intent)) (On (KeptIf x)) (on_weaker (Held size m sound s there i intent) (KeptIf x) (fault_kept intent s found))
+          (access c size m s home i intent) (access_held size m sound s there i intent c home (leb-false (length s.file.cells) i below)))))
+          (fault_stays c m s there size home i intent)
 
-    of_store : (offset : ℕ) (bytes : List ℕ)
-        → Always (KeepsTo (Some m) (step.Store task k number i offset bytes)) (with_value (spot m (is_map task number)) NoSuchMap (store c size m home i offset bytes))
-    of_store offset bytes =
-        let x : Step = step.Store task k number i offset bytes in
-        let plan = with_value (spot m (is_map task number)) NoSuchMap (store c size m home i offset bytes) in
-        always_both (On (KeptIf x)) (On Stays) (KeepsTo (Some m) x) (joined x) plan
-        (always_value (On (KeptIf x)) (λ r. tt) (spot m (is_map task number)) NoSuchMap (store c size m home i offset bytes)
-        (λ s found. (let at = spot_is m (is_map task number) s found in
-        let H : Mount → Type 0 = Held size m sound s at i Write in
-        let R : Mount → Type 0 = Result size m s at i in
-        let Q : Mount → Type 0 = λ n. Held size m sound s at i Write n × Result size m s at i n in
-        let f : Mount → Outcome = λ n. Answered Done (Some (written n s i offset bytes)) in
-        always_then (On Q) (On (KeptIf x)) f (on_follows Q (KeptIf x) f
-        (λ n held same whole. access_kept size m sound task number i Write s found (written n s i offset bytes) (store_held size m sound s at i Write offset bytes n held.0 held.1)
-        (placed_same m (written n s i offset bytes) same) whole x
-        (λ p q j own. inl own) (λ p q j writes taken. inr taken) (λ file j old new to. to) (λ p q writes lost. lost)))
-        (byte_access c size m home i offset (length bytes) Write s)
-        (bytes_on size c m home i Q offset (length bytes) Write s
-        (λ l. always_both (On H) (On R) (On Q) (both_on H R) (access c size m s home i Write) (access_held size m sound s at i Write c home l) (write_done size m s at i c home l))))))
-        (store_on c m size task number home i offset bytes)
+      of_load : (offset count : ℕ) → Always (KeepsTo (Some m) (step.Load task k number i offset count)) (load c size m home i offset count s)
+      of_load offset count =
+          let x : Step = step.Load task k number i offset count in
+          let H : Mount → Type 0 = Held size m sound s there i Read in
+          let f : Mount → Outcome = λ n. Answered (bytes_answer offset count (value size (again n s).file (again n s).map i)) (Some n) in
+          always_both (On (KeptIf x)) (On Stays) (KeepsTo (Some m) x) (joined x) (load c size m home i offset count s)
+          (always_then (On H) (On (KeptIf x)) f (on_follows H (KeptIf x) f
+          (λ n held same whole. access_kept size m sound task number i Read s found n held (placed_same m n same) whole x
+          (λ p q j own. own) (λ p q j writes taken. (let never : Read ≡ Write = writes in cc)) (λ file j old new to. to) (λ p q writes lost. (let never : Read ≡ Write = writes in cc))))
+          (byte_access c size m home i offset count Read s) (bytes_on size c m home i H offset count Read s (λ l. access_held size m sound s there i Read c home l)))
+          (load_stays c m s there size home i offset count)
+
+      of_store : (offset : ℕ) (bytes : List ℕ) → Always (KeepsTo (Some m) (step.Store task k number i offset bytes)) (store c size m home i offset bytes s)
+      of_store offset bytes =
+          let x : Step = step.Store task k number i offset bytes in
+          let H : Mount → Type 0 = Held size m sound s there i Write in
+          let R : Mount → Type 0 = Result size m s there i in
+          let Q : Mount → Type 0 = λ n. Held size m sound s there i Write n × Result size m s there i n in
+          let f : Mount → Outcome = λ n. Answered Done (Some (written n s i offset bytes)) in
+          always_both (On (KeptIf x)) (On Stays) (KeepsTo (Some m) x) (joined x) (store c size m home i offset bytes s)
+          (always_then (On Q) (On (KeptIf x)) f (on_follows Q (KeptIf x) f
+          (λ n held same whole. access_kept size m sound task number i Write s found (written n s i offset bytes) (store_held size m sound s there i Write offset bytes n held.0 held.1)
+          (placed_same m (written n s i offset bytes) same) whole x
+          (λ p q j own. inl own) (λ p q j writes taken. inr taken) (λ file j old new to. to) (λ p q writes lost. lost)))
+          (byte_access c size m home i offset (length bytes) Write s)
+          (bytes_on size c m home i Q offset (length bytes) Write s
+          (λ l. always_both (On H) (On R) (On Q) (both_on H R) (access c size m s home i Write) (access_held size m sound s there i Write c home l) (write_done size m s there i c home l))))
+          (store_stays c m s there size home i offset bytes)
 
   given : (x : Step) (n : Mount) → Keeps (Some m) x (Some n) → Always (KeepsTo (Some m) x) (gives Done (Some m) (Some n))
   given x n h = always_gives (KeepsTo (Some m) x) Done (Some m) (Some n) (λ whole. h)
 
-  of_file : (x : Step) (name : List ℕ) (f : ℕ × File → Plan) → ((q : ℕ × File) → file_named m name ≡ Some q → Always (KeepsTo (Some m) x) (f q))
-      → Always (KeepsTo (Some m) x) (with_value (file_named m name) NoSuchFile f)
-  of_file x name f h = always_value (KeepsTo (Some m) x) (λ r. tt) (file_named m name) NoSuchFile f h
+  refused_kept : (e : SlotEvent) (r : Refusal) → KeepsOn (Some m) k e (Refused r)
+  refused_kept (slot.Unmap task number a b) r = files_same (Some m)
+  refused_kept other r = tt
 
-  tested : (x : Step) (ts : List (Bool × Refusal)) (p : Plan) → Always (KeepsTo (Some m) x) p → Always (KeepsTo (Some m) x) (unless ts p)
-  tested x ts p h = always_unless (KeepsTo (Some m) x) (λ r. tt) ts p h
+  told_kept : (e : SlotEvent) (a : Answer) → tells_all e ≡ true → KeepsOn (Some m) k e (Answered a (Some m))
+  told_kept slot.Df a told = λ whole. same_keeps (Some m) (step.Df k)
+  told_kept slot.Ls a told = λ whole. same_keeps (Some m) (step.Ls k)
+  told_kept (slot.Stat name) a told = λ whole. same_keeps (Some m) (step.Stat k name)
+  told_kept other a told = cc
 
-  mount_kept : (e : SlotEvent) → Always (KeepsOn (Some m) k e) (on_mount size k c m e)
-  mount_kept (slot.Mount options) = tt
-  mount_kept (slot.Remount options) =
-      always_remount (KeepsTo (Some m) (step.Remount k options)) (λ r. tt) m
-      (λ l whole. alike_keeps (Some m) (Some (record m { limits = l })) (step.Remount k options) (λ t u. refl) (λ name. refl)) size k options
-  mount_kept slot.Umount =
-      tested (step.Umount k) (umount_tests k m) (gives Done (Some m) None)
-      (always_gives (KeepsTo (Some m) (step.Umount k)) Done (Some m) None (λ whole. record { maps = λ t u p q was is. cc; files = λ name f g goes was is. cc }))
-  mount_kept (slot.Create name) =
-      tested (step.Create k name) (create_tests c m name) (Finish (Answered Done (Some (with_new m (new_file (Some name))))))
-      (λ whole. new_keeps m (step.Create k name) (new_file (Some name)) (placed_new m (new_file (Some name))))
-  mount_kept (slot.Unlink name) =
-      of_file (step.Unlink k name) name (unlink m) (λ q named. given (step.Unlink k name) (swept (with_file m q.0 (unlinked q.1))) (unlink_kept m sound k name q named))
-  mount_kept (slot.Truncate name n) =
-      of_file (step.Truncate k name n) name (truncate m n)
-      (λ q named. tested (step.Truncate k name n) ((nat_lt most_file_pages n, OutOfRange) ∷ []) (gives Done (Some m) (edited m q.0 (truncated n q.1)))
-      (given (step.Truncate k name n) (swept (with_file m q.0 (truncated n q.1))) (truncate_kept m sound k name q named n)))
-  mount_kept (slot.Punch name a b) =
-      of_file (step.Punch k name a b) name (punch m a b)
-      (λ q named. tested (step.Punch k name a b) ((is_bad_range a b, OutOfRange) ∷ []) (gives Done (Some m) (edited m q.0 (punched a b q.1)))
-      (given (step.Punch k name a b) (swept (with_file m q.0 (punched a b q.1))) (punch_kept m sound k name q named a b)))
-  mount_kept (slot.Preallocate name a b) =
-      let x : Step = step.Preallocate k name a b in
-      of_file x name (preallocate c size m a b)
-      (λ q named. always_preallocate (KeepsTo (Some m) x) (λ r. tt) c size m a b q (λ whole. same_keeps (Some m) x) (λ pages whole. fill_kept m k size name a b pages q named))
-  mount_kept (slot.Read name i offset count) =
-      of_file (step.Read k name i offset count) name (read size m i offset count)
-      (λ q named. tested (step.Read k name i offset count) (read_tests size i offset count q.1) _ (λ whole. same_keeps (Some m) (step.Read k name i offset count)))
-  mount_kept slot.Ls = tested (step.Ls k) ((c.refused, OutOfMemory) ∷ []) _ (λ whole. same_keeps (Some m) (step.Ls k))
-  mount_kept (slot.Stat name) = of_file (step.Stat k name) name (stat m) (λ q named whole. same_keeps (Some m) (step.Stat k name))
-  mount_kept slot.Df = λ whole. same_keeps (Some m) (step.Df k)
-  mount_kept (slot.Map task home name a n sharing reserving) =
-      let x : Step = step.Map task k name a n sharing reserving in
-      let number = next_number task m in
-      of_file x name (map_file c m task home a n sharing reserving)
-      (λ q named. (let new = with_file m q.0 (mapped task number a n sharing reserving q.1) in
-      tested x (map_tests m task a n) (grant c m home (asked sharing reserving a n q.1) (Answered (MapNo number) (Some new)))
-      (always_grant (KeepsTo (Some m) x) (λ r. tt) c m home (asked sharing reserving a n q.1) (Answered (MapNo number) (Some new)) (λ whole. map_kept m task k name a n q named sharing reserving))))
-  mount_kept (slot.Anon task home n sharing reserving) =
-      let x : Step = step.Anon task n sharing reserving in
-      let f = mapped task (next_number task m) 0 n sharing reserving (new_file None) in
-      tested x (anon_tests m task n) (grant c m home (asked sharing reserving 0 n (new_file None)) (Answered (MapNo (next_number task m)) (Some (with_new m f))))
-      (always_grant (KeepsTo (Some m) x) (λ r. tt) c m home (asked sharing reserving 0 n (new_file None)) (Answered (MapNo (next_number task m)) (Some (with_new m f)))
-      (λ whole. new_keeps m x f (placed_new m f)))
-  mount_kept (slot.Unmap task number a b) =
-      let P : Outcome → Type 0 = λ o. KeepsFiles (Some m) (left_by (Some m) o) in
-      always_value P (λ r. files_same (Some m)) (spot m (is_map task number)) NoSuchMap (unmap m task number a b)
-      (λ p found. always_unless P (λ r. files_same (Some m)) ((is_bad_range a b, OutOfRange) ∷ []) (gives Done (Some m) (Some (unmapped_from task number a b m)))
-      (always_gives P Done (Some m) (Some (unmapped_from task number a b m)) (files_stay m (file_unmapped (is_map task number) a b) (λ f. refl) (λ f. refl))))
-  mount_kept (slot.Fault task home number i intent) = of_fault task home number i intent
-  mount_kept (slot.Load task home number i offset count) = of_load task home number i offset count
-  mount_kept (slot.Store task home number i offset bytes) = of_store task home number i offset bytes
-  mount_kept (slot.ForkMaps parent child) = any_outcome (on_mount size k c m (slot.ForkMaps parent child))
-  mount_kept (slot.ExitMaps task) = any_outcome (on_mount size k c m (slot.ExitMaps task))
+  kept_walks : Walks size k c m (λ e. Always (KeepsOn (Some m) k e))
+  kept_walks = record {
+    refuses = refused_kept;
+    whole = λ name a b q is fits. same_keeps (Some m) (step.Preallocate k name a b);
+    tells = told_kept;
+    reads = λ name i offset count bytes few whole. same_keeps (Some m) (step.Read k name i offset count);
+    creates = λ name new whole. new_keeps m (step.Create k name) (new_file (Some name)) (placed_new m (new_file (Some name)));
+    unlinks = λ name q named. given (step.Unlink k name) (swept (with_file m q.0 (unlinked q.1))) (unlink_kept m sound k name q named);
+    truncates = λ name n q named. given (step.Truncate k name n) (swept (with_file m q.0 (truncated n q.1))) (truncate_kept m sound k name q named n);
+    punches = λ name a b q named. given (step.Punch k name a b) (swept (with_file m q.0 (punched a b q.1))) (punch_kept m sound k name q named a b);
+    fills = λ name a b q named.
+        always_fill (KeepsTo (Some m) (step.Preallocate k name a b)) (λ r. tt) ((is_full m (unentered a b q.1), MountFull) ∷ (c.refused, OutOfMemory) ∷ [])
+        (rise m (unentered a b q.1)) (lacking a b q.1) (λ pages. Answered Done (Some (with_file m q.0 (range_filled size a b (rising_nodes (lacking a b q.1) pages) q.1))))
+        (λ pages whole. fill_kept m k size name a b pages q named);
+    maps = λ task home name a n sharing reserving q named few.
+        (let x : Step = step.Map task k name a n sharing reserving in
+        let number = next_number task m in
+        always_grant (KeepsTo (Some m) x) (λ r. tt) c m home (asked sharing reserving a n q.1)
+        (Answered (MapNo number) (Some (with_file m q.0 (mapped task number a n sharing reserving q.1)))) (λ whole. map_kept m task k name a n q named sharing reserving));
+    anons = λ task home n sharing reserving few.
+        (let x : Step = step.Anon task n sharing reserving in
+        let f : File = mapped task (next_number task m) 0 n sharing reserving (new_file None) in
+        always_grant (KeepsTo (Some m) x) (λ r. tt) c m home (asked sharing reserving 0 n (new_file None)) (Answered (MapNo (next_number task m)) (Some (with_new m f)))
+        (λ whole. new_keeps m x f (placed_new m f)));
+    unmaps = λ task number a b.
+        always_gives (λ o. KeepsFiles (Some m) (left_by (Some m) o)) Done (Some m) (Some (unmapped_from task number a b m))
+        (files_stay m (file_unmapped (is_map task number) a b) (λ f. refl) (λ f. refl));
+    forks = λ parent child few. any_outcome (gives Done (Some m) (Some (forked parent child m)));
+    exits = λ task. any_outcome (gives Done (Some m) (Some (without_task task m)));
+    faults = λ task number s found home i intent. of_fault task home number i s found intent;
+    loads = λ task number s found home i offset count. of_load task home number i s found offset count;
+    stores = λ task number s found home i offset bytes. of_store task home number i s found offset bytes;
+  }
+
+  remount_kept : (options : List ℕ) → Always (KeepsTo (Some m) (step.Remount k options)) (remounting size m options)
+  remount_kept options =
+      always_remounting (KeepsTo (Some m) (step.Remount k options)) (λ r. tt) m
+      (λ l whole. alike_keeps (Some m) (Some (record m { limits = l })) (step.Remount k options) (λ t u. refl) (λ name. refl)) size options
+
+  umount_kept : Always (KeepsTo (Some m) (step.Umount k)) (gives Done (Some m) None)
+  umount_kept = always_gives (KeepsTo (Some m) (step.Umount k)) Done (Some m) None (λ whole. record { maps = λ t u p q was is. cc; files = λ name f g goes was is. cc })
 
 none_kept : (x : Step) (y : Slot) → Keeps None x y
 none_kept x y = record { maps = λ t u p q was is. cc; files = λ name f g goes was is. cc }
@@ -446,7 +431,8 @@ slot_kept size k c None (slot.Mount options) sound =
     always_mount (KeepsTo None (step.Mount k options)) (λ r. tt) (λ l whole. none_kept (step.Mount k options) (Some (record { limits = l; files = [] }))) c size options
 slot_kept size k c None (slot.Unmap task number a b) sound = files_same None
 slot_kept size k c None other sound = tt
-slot_kept size k c (Some m) e sound = mount_kept size k c m sound e
+slot_kept size k c (Some m) e sound =
+    walk_all size k c m (λ e. Always (KeepsOn (Some m) k e)) (kept_walks size k c m sound) (remount_kept size k c m sound) (umount_kept size k c m sound) e
 
 -- ---- steps
 

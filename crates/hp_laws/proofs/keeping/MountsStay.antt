@@ -34,10 +34,10 @@ module _ (size k : ℕ) (c : Choice) (m : Mount) where
     truncates = λ n q at. refl;
     punches = λ a b q at. refl;
     fills = λ a b pages q at. refl;
-    maps = λ task a n sharing reserving q at. refl;
-    anons = λ task n sharing reserving. refl;
+    maps = λ task a n sharing reserving q at few. refl;
+    anons = λ task n sharing reserving few. refl;
     unmaps = λ task number a b. refl;
-    forks = λ parent child. refl;
+    forks = λ parent child few. refl;
     exits = λ task. refl;
     faults = λ s at home i intent.
         always_unless (On Stays) (λ r. tt) (fault_tests i s) (access c size m s home i intent) (access_on c m Stays refl s at (λ f e. refl) size home i intent);

@@ -31,7 +31,7 @@ use Rattle.hp_model.specs.machine.SlotEvent.{slot_event}
 use Rattle.hp_laws.specs.Balance.{Always}
 use Rattle.hp_laws.proofs.accesses.Shown.{On}
 use Rattle.hp_laws.proofs.accesses.SlotShows.{always_gives, always_grant, always_mount, always_fill, always_remounting}
-use Rattle.hp_laws.proofs.counts.MountMoves.{IsFileAt, file_at}
+use Rattle.hp_laws.proofs.counts.MountMoves.{IsFileAt, file_at, spot_is}
 use Rattle.hp_laws.proofs.lists.Places.{any_filter, any_map_down, any_of_set, found_place}
 use Rattle.hp_laws.proofs.making.FilesMade.{any_append, found_none, spot_in_file, spot_none, in_file}
 use Rattle.hp_laws.proofs.making.NewNumbers.{found_not}
@@ -326,7 +326,7 @@ module _ (size k : ℕ) (c : Choice) (m : Mount) where
   makes_walks : Walks size k c m (λ e. Always (MakesNo e (Some m)))
   makes_walks = record {
     refuses = λ e r. tt;
-    same = λ e. same e Done;
+    whole = λ name a b q is. same (slot.Preallocate name a b) Done;
     tells = λ e a yes. same e a;
     reads = λ name i offset count bytes few. same (slot.Read name i offset count) (bytes_answer offset count bytes);
     creates = λ name new. new_more (made_by (slot.Create name)) (new_by (slot.Create name) Done) m (new_file (Some name)) refl (λ other off. off) (λ task number off. refl);
@@ -355,18 +355,18 @@ module _ (size k : ℕ) (c : Choice) (m : Mount) where
         (new_more (made_by e) (new_by e (MapNo number)) m f refl (λ name off. refl) (λ t u off. rw off refl)));
     unmaps = λ task number a b.
         (let e : SlotEvent = slot.Unmap task number a b in files_given e (file_unmapped (is_map task number) a b) (unmapped_fewer (new_by e Done) (is_map task number) a b));
-    forks = λ parent child.
+    forks = λ parent child few.
         (let e : SlotEvent = slot.ForkMaps parent child in files_given e (file_forked parent child) (forked_fewer (new_by e Done) parent child (λ t u off. off)));
     exits = λ task. files_given (slot.ExitMaps task) (file_without task) (without_fewer (new_by (slot.ExitMaps task) Done) task);
-    faults = λ task number s at home i intent.
+    faults = λ task number s is home i intent.
         always_weaker (On (λ n. keys n ≡ keys m)) (MakesNo (slot.Fault task home number i intent) (Some m)) (by_keys (slot.Fault task home number i intent))
-        (fault c size m home i intent s) (fault_stays c m s at size home i intent);
-    loads = λ task number s at home i offset count.
+        (fault c size m home i intent s) (fault_stays c m s (spot_is m (is_map task number) s is) size home i intent);
+    loads = λ task number s is home i offset count.
         always_weaker (On (λ n. keys n ≡ keys m)) (MakesNo (slot.Load task home number i offset count) (Some m)) (by_keys (slot.Load task home number i offset count))
-        (load c size m home i offset count s) (load_stays c m s at size home i offset count);
-    stores = λ task number s at home i offset bytes.
+        (load c size m home i offset count s) (load_stays c m s (spot_is m (is_map task number) s is) size home i offset count);
+    stores = λ task number s is home i offset bytes.
         always_weaker (On (λ n. keys n ≡ keys m)) (MakesNo (slot.Store task home number i offset bytes) (Some m)) (by_keys (slot.Store task home number i offset bytes))
-        (store c size m home i offset bytes s) (store_stays c m s at size home i offset bytes);
+        (store c size m home i offset bytes s) (store_stays c m s (spot_is m (is_map task number) s is) size home i offset bytes);
   }
 
 empty_more : (made : List ℕ → Bool) (new : ℕ → ℕ → Bool) (l : Limits) → NoMore made new None (Some (record { limits = l; files = [] }))

@@ -83,7 +83,7 @@ module _ (m : Mount) where
       (file_put m f.0 f.1 (range_filled size a b nodes f.1) (λ d. (found_place (has_name name) m.files f is).is d) refl)
 
 -- what a store writes leaves names and numbers
-written_key : (s : Spot) (i offset : ℕ) (bytes : List ℕ) (f : File) → file_key (file_written s i offset bytes f) ≡ file_key f
+pub written_key : (s : Spot) (i offset : ℕ) (bytes : List ℕ) (f : File) → file_key (file_written s i offset bytes f) ≡ file_key f
 written_key s i offset bytes f =
     cond_both (is_shared s.map.sharing) (record f { cells = edit_at (cell_written offset bytes) f.cells i })
     (record f { maps = edit_at (map_written i offset bytes) f.maps s.map_no }) (λ (y : File). file_key y ≡ file_key f)

@@ -31,7 +31,7 @@ use Rattle.hp_model.specs.pool.Grant.{is_full, rise}
 use Rattle.hp_model.specs.Lists.{is_among}
 use Rattle.hp_model.specs.machine.Machine.{pool_of, rows_of}
 use Rattle.hp_model.specs.files.MakeMap.{asked, mapped, next_number, numbers_of, with_new}
-use Rattle.hp_model.specs.files.Mapping.{is_of}
+use Rattle.hp_model.specs.files.Mapping.{is_of, is_map}
 use Rattle.hp_model.specs.pool.PoolCounts.{Pool}
 use Rattle.hp_model.specs.machine.Plan.{Reply, Slot, Outcome, Refused, Answered, Plan, Choice, continued, gives}
 use Rattle.hp_model.specs.Profile.{most_overcommit, most_bytes, most_map_pages, most_maps}
@@ -47,7 +47,7 @@ use Rattle.hp_model.specs.machine.Step.{Answer_with, Do, IsScript, IsStep, Scrip
 use Rattle.hp_model.specs.machine.Table.{Table, added, home_of, is_crowded, is_known, or_refused, removed, table_event, when_known}
 use Rattle.hp_model.specs.files.Value.{value}
 use Rattle.hp_model.specs.text.Writing.{IsWithinLimits}
-use Rattle.hp_laws.proofs.counts.MountMoves.{IsSpot}
+use Rattle.hp_laws.proofs.counts.MountMoves.{IsSpot, spot_is}
 use Rattle.hp_laws.proofs.steps.Outcomes.{either_way, Always, always_test, always_then, always_weaker, event_ends, reply_of}
 use Rattle.hp_laws.proofs.accesses.Shown.{On, Same, Result, on_weaker, read_same, write_done}
 use Rattle.hp_laws.proofs.steps.Whole.{by_event, is_whole, step_of}
@@ -172,7 +172,7 @@ module _ (size k : ℕ) (c : Choice) (m : Mount) where
   plain_walks : Walks size k c m PlainUnlessTold
   plain_walks = record {
     refuses = λ e r apart. tt;
-    same = λ e apart. tt;
+    whole = λ name a b q is apart. tt;
     tells = λ e a yes apart. cc;
     reads = λ name i offset count bytes few apart. ltb-false most_bytes count few;
     creates = λ name new apart. tt;
@@ -189,11 +189,11 @@ module _ (size k : ℕ) (c : Choice) (m : Mount) where
         always_grant Plain (λ r. tt) c m home (asked sharing reserving 0 n (new_file None))
         (Answered (MapNo (next_number task m)) (Some (with_new m (mapped task (next_number task m) 0 n sharing reserving (new_file None))))) (few_maps m task n few);
     unmaps = λ task number a b apart. done_plain (Some (unmapped_from task number a b m));
-    forks = λ parent child apart. done_plain (Some (forked parent child m));
+    forks = λ parent child few apart. done_plain (Some (forked parent child m));
     exits = λ task apart. done_plain (Some (without_task task m));
-    faults = λ task number s at home i intent apart. fault_done Plain (λ r. tt) (λ n. tt) c size m s home i intent;
-    loads = λ task number s at home i offset count apart. load_plain s at home i offset count;
-    stores = λ task number s at home i offset bytes apart. store_plain s at home i offset bytes;
+    faults = λ task number s is home i intent apart. fault_done Plain (λ r. tt) (λ n. tt) c size m s home i intent;
+    loads = λ task number s is home i offset count apart. load_plain s (spot_is m (is_map task number) s is) home i offset count;
+    stores = λ task number s is home i offset bytes apart. store_plain s (spot_is m (is_map task number) s is) home i offset bytes;
   }
 
 pub slot_plain : (size k : ℕ) (c : Choice) (old : Slot) (e : SlotEvent) → tells_all e ≡ false → Always Plain (slot_event size k c old e)

@@ -145,25 +145,7 @@ pub slot_places : (size k : ℕ) (c : Choice) (old : Slot) (e : SlotEvent) → t
     → Always (λ o. KeepsPlaces most_tasks (to_exit old) (to_exit (left_by old o)) (removes_maps old e)) (slot_event size k c old e)
 slot_places size k c (Some m) (slot.ExitMaps task) few = exit_places size k c m task few (has_maps_of task (Some m)) refl
 slot_places size k c None (slot.ExitMaps task) few = leaves_few size k c None (slot.ExitMaps task) few refl
-slot_places size k c old (slot.Mount options) few = leaves_few size k c old (slot.Mount options) few refl
-slot_places size k c old (slot.Remount options) few = leaves_few size k c old (slot.Remount options) few refl
-slot_places size k c old slot.Umount few = leaves_few size k c old slot.Umount few refl
-slot_places size k c old (slot.Create name) few = leaves_few size k c old (slot.Create name) few refl
-slot_places size k c old (slot.Unlink name) few = leaves_few size k c old (slot.Unlink name) few refl
-slot_places size k c old (slot.Truncate name n) few = leaves_few size k c old (slot.Truncate name n) few refl
-slot_places size k c old (slot.Punch name a b) few = leaves_few size k c old (slot.Punch name a b) few refl
-slot_places size k c old (slot.Preallocate name a b) few = leaves_few size k c old (slot.Preallocate name a b) few refl
-slot_places size k c old (slot.Read name i offset count) few = leaves_few size k c old (slot.Read name i offset count) few refl
-slot_places size k c old slot.Ls few = leaves_few size k c old slot.Ls few refl
-slot_places size k c old (slot.Stat name) few = leaves_few size k c old (slot.Stat name) few refl
-slot_places size k c old slot.Df few = leaves_few size k c old slot.Df few refl
-slot_places size k c old (slot.Map task home name a n sharing reserving) few = leaves_few size k c old (slot.Map task home name a n sharing reserving) few refl
-slot_places size k c old (slot.Anon task home n sharing reserving) few = leaves_few size k c old (slot.Anon task home n sharing reserving) few refl
-slot_places size k c old (slot.Unmap task number a b) few = leaves_few size k c old (slot.Unmap task number a b) few refl
-slot_places size k c old (slot.Fault task home number i intent) few = leaves_few size k c old (slot.Fault task home number i intent) few refl
-slot_places size k c old (slot.Load task home number i offset count) few = leaves_few size k c old (slot.Load task home number i offset count) few refl
-slot_places size k c old (slot.Store task home number i offset bytes) few = leaves_few size k c old (slot.Store task home number i offset bytes) few refl
-slot_places size k c old (slot.ForkMaps parent child) few = leaves_few size k c old (slot.ForkMaps parent child) few refl
+slot_places size k c old other few = leaves_few size k c old other few refl
 
 -- ---- the pool
 

@@ -304,16 +304,16 @@ module _ (size k : ℕ) (c : Choice) (m : Mount) (sound : IsSoundMount m) (new :
         let g : File = range_filled size a b nodes q.1 in
         let long = length-filled size a b nodes q.1 (length-nodes_of (lacking a b q.1) pages) in
         put_sound m q.0 q.1 g at (cells_keep q.1 g.cells (omega (arith, long))) (λ name. omega arith) (λ task number. omega arith) sound);
-    maps = λ task a n sharing reserving q at.
+    maps = λ task a n sharing reserving q at few.
         (let number = next_number task m in
         set_sound m q.0 q.1 (mapped task number a n sharing reserving q.1) at (mapped_keeps task number a n sharing reserving q.1) (λ name. omega arith)
         (λ t u. new_number m task a n sharing reserving q.1.maps t u (sound.numbers t u)) sound);
-    anons = λ task n sharing reserving.
+    anons = λ task n sharing reserving few.
         (let number = next_number task m in
         new_sound m (mapped task number 0 n sharing reserving (new_file None)) (mapped_keeps task number 0 n sharing reserving (new_file None))
         (λ t u. new_number m task 0 n sharing reserving [] t u (sound.numbers t u)) (λ name. (let one = sound.names name in omega (arith, one))) sound);
     unmaps = λ task number a b. unmapped_sound (is_map task number) a b;
-    forks = λ parent child. forked_sound parent child m sound;
+    forks = λ parent child few. forked_sound parent child m sound;
     exits = λ task. without_sound task;
     faults = λ s at home i intent.
         always_weaker (On (Left m sound s at intent i)) (On IsSoundMount) (on_weaker (Left m sound s at intent i) IsSoundMount (read_left m sound s at i intent)) (fault c size m home i intent s)

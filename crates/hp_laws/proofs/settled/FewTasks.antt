@@ -4,44 +4,41 @@ use Rattle.std.proofs.Common.{[], ◌∷◌, ◌++◌, length, map, cond, arith,
 use Rattle.std.specs.List.{count_by, filter, flat_map, sum_by}
 use Rattle.std.proofs.lemmas.Bool.{cond_both, eqb-true, leb-false, ltb-false}
 use Rattle.std.proofs.lemmas.List.Sums.{sum_by-append, sum_by-cons}
-use Rattle.hp_model.specs.declared.answer.Answer.TheVariants.{Done, MapNo}
+use Rattle.hp_model.specs.declared.answer.Answer.TheVariants.{Done}
 use Rattle.hp_model.specs.declared.event.SlotEvent.{SlotEvent}
 use Rattle.hp_model.specs.declared.event.SlotEvent.TheVariants as slot
-use Rattle.hp_model.specs.declared.refusal.Refusal.{Refusal}
-use Rattle.hp_model.specs.declared.refusal.Refusal.TheVariants.{NoInodes, NoSuchFile, NoSuchMap, OutOfMemory, OutOfRange, TooMany}
 use Rattle.hp_model.specs.declared.step.Intent.TheVariants.{Read, Write}
 use Rattle.hp_model.specs.declared.step.Reserving.{Reserving}
 use Rattle.hp_model.specs.declared.step.Sharing.{Sharing}
 use Rattle.hp_model.specs.files.Access.{access}
 use Rattle.hp_model.specs.files.File.{File, Mount, maps_of, new_file, with_file}
 use Rattle.hp_model.specs.files.Fork.{forked}
-use Rattle.hp_model.specs.files.GiveBack.{file_unmapped, file_without, is_kept, is_left, map_unmapped, punched, swept, truncated, unlinked, unmapped_from, without_task}
-use Rattle.hp_model.specs.pool.Grant.{is_over}
-use Rattle.hp_model.specs.Lists.{distinct, edit_at, is_among}
-use Rattle.hp_model.specs.files.MakeMap.{asked, mapped, new_map, next_number, tasks_of, with_new}
-use Rattle.hp_model.specs.files.Mapping.{Map, is_map, is_of, is_shared, map_punched, without_range}
-use Rattle.hp_model.specs.machine.Plan.{Answered, Choice, Finish, Outcome, Plan, Refused, Slot, gives, grant, unless, with_value}
+use Rattle.hp_model.specs.files.GiveBack.{file_unmapped, file_without, is_kept, is_left, map_unmapped, punched, swept, truncated, unlinked, without_task}
+use Rattle.hp_model.specs.Lists.{distinct, is_among}
+use Rattle.hp_model.specs.files.MakeMap.{mapped, new_map, next_number, tasks_of, with_new}
+use Rattle.hp_model.specs.files.Mapping.{Map, is_map, is_of, map_punched, without_range}
+use Rattle.hp_model.specs.machine.Plan.{Answered, Choice, Outcome, Refused, Slot, gives}
 use Rattle.hp_model.specs.machine.Promises.{Shape, shape_of}
-use Rattle.hp_model.specs.machine.SlotEvent.{are_too_many_maps, byte_access, bytes_answer, create_tests, edited, fault, fault_tests, file_named, preallocate}
-use Rattle.hp_model.specs.machine.SlotEvent.{has_name, is_bad_range, is_new_task_over, load, map_file, on_mount, punch, read}
-use Rattle.hp_model.specs.machine.SlotEvent.{read_tests, slot_event, stat, store, truncate, umount_tests, unlink, unmap}
-use Rattle.hp_model.specs.Profile.{most_file_pages, most_files, most_map_pages, most_maps, most_tasks}
-use Rattle.hp_model.specs.files.Spot.{Spot, again, cell_written, file_written, map_written, place_written, spot, written}
-use Rattle.hp_model.specs.files.Value.{value}
+use Rattle.hp_model.specs.machine.SlotEvent.{are_too_many_maps, byte_access, fault_tests}
+use Rattle.hp_model.specs.machine.SlotEvent.{is_new_task_over, on_mount}
+use Rattle.hp_model.specs.machine.SlotEvent.{slot_event, umount_tests}
+use Rattle.hp_model.specs.Profile.{most_map_pages, most_maps, most_tasks}
+use Rattle.hp_model.specs.files.Spot.{Spot, file_written, written}
 use Rattle.hp_model.proofs.Distinct.{is_among-append, length_if, same_members}
-use Rattle.hp_model.proofs.Editing.{length-edit_at}
 use Rattle.hp_laws.specs.Balance.{Always, left_by}
-use Rattle.hp_laws.proofs.names.Accessed.{access_on, bytes_on, key_edit, pages_same}
+use Rattle.hp_laws.proofs.names.Accessed.{access_on, bytes_on, key_edit}
 use Rattle.hp_laws.proofs.names.Keys.{FileKey, file_key, keys}
-use Rattle.hp_laws.proofs.counts.MountMoves.{IsFileAt, IsSpot, file_at, spot_is}
+use Rattle.hp_laws.proofs.counts.MountMoves.{IsFileAt, IsSpot}
 use Rattle.hp_laws.proofs.counts.MountsSound.{set_count}
-use Rattle.hp_laws.proofs.steps.Outcomes.{always_test, always_then, always_weaker}
+use Rattle.hp_laws.proofs.steps.Outcomes.{always_then, always_weaker}
 use Rattle.hp_laws.proofs.lists.Places.{sum_by-filter_le, sum_by-map_le}
 use Rattle.hp_laws.proofs.accesses.Shown.{On, on_follows}
 use Rattle.hp_laws.proofs.lists.AtMostOne.{bit}
-use Rattle.hp_laws.proofs.accesses.SlotShows.{always_gives, always_grant, always_mount, always_remount, always_unless, always_preallocate}
-use Rattle.hp_laws.proofs.steps.Walk.{plan_unless, plan_value, relimits}
+use Rattle.hp_laws.proofs.accesses.SlotShows.{always_gives, always_mount, always_remount, always_unless}
 use Rattle.hp_model.specs.files.Fill.{lacking, range_filled, rising_nodes}
+use Rattle.hp_laws.proofs.steps.Walk.{AreFewMaps, walk}
+use Rattle.hp_laws.proofs.settled.LeavesWalk.{Leaves, leaves_walk}
+use Rattle.hp_laws.proofs.names.Meanings.{written_key}
 
 -- ---- a list whose numbers are all in another has no more different ones
 
@@ -190,21 +187,6 @@ module _ (size k : ℕ) (c : Choice) (m : Mount) (few : Few m) where
       fits false true h e = few
       fits false false h e = (let l = leb-false most_tasks (length (tasks_of m)) e in omega (arith, l))
 
-  abbrev W : Plan → Type 0
-  W p = Always (On Few) p
-
-  tested : (ts : List (Bool × Refusal)) (p : Plan) → W p → W (unless ts p)
-  tested ts p h = plan_unless W (λ r. tt) ts p h
-
-  of_file : (name : List ℕ) (f : ℕ × File → Plan) → ((q : ℕ × File) → IsFileAt m q.0 q.1 → W (f q)) → W (with_value (file_named m name) NoSuchFile f)
-  of_file name f h = plan_value W (λ r. tt) (file_named m name) NoSuchFile f (λ q is. h q (file_at m (has_name name) q is))
-
-  of_map : (task number : ℕ) (f : Spot → Plan) → ((s : Spot) → IsSpot m s → W (f s)) → W (with_value (spot m (is_map task number)) NoSuchMap f)
-  of_map task number f h = plan_value W (λ r. tt) (spot m (is_map task number)) NoSuchMap f (λ s is. h s (spot_is m (is_map task number) s is))
-
-  leaves : (n : Mount) → Few n → W (gives Done (Some m) (Some n))
-  leaves n h = always_gives (On Few) Done (Some m) (Some n) h
-
   edited_few : (q : ℕ × File) (g : File) → IsFileAt m q.0 q.1 → ((t : ℕ) → count_by (is_of t) g.maps ≤ count_by (is_of t) q.1.maps) → Few (swept (with_file m q.0 g))
   edited_few q g at le = less_few (swept (with_file m q.0 g)) (λ t. (let set = set_le t m q.0 q.1 g at (le t) in omega (arith, set, swept_le t (with_file m q.0 g))))
 
@@ -232,15 +214,6 @@ module _ (size k : ℕ) (c : Choice) (m : Mount) (few : Few m) where
   put_few : (s : Spot) → IsSpot m s → (f : File) → file_key f ≡ file_key s.file → Few (with_file m s.file_no f)
   put_few s at f e = less_few (with_file m s.file_no f) (λ t. set_le t m s.file_no s.file f at.file (let same = same_file t f s.file e in omega (arith, same)))
 
-  written_key : (s : Spot) (i offset : ℕ) (bytes : List ℕ) (f : File) → file_key (file_written s i offset bytes f) ≡ file_key f
-  written_key s i offset bytes f =
-      cond_both (is_shared s.map.sharing) (record f { cells = edit_at (cell_written offset bytes) f.cells i })
-      (record f { maps = edit_at (map_written i offset bytes) f.maps s.map_no }) (λ (g : File). file_key g ≡ file_key f)
-      (λ e. refl)
-      (λ e. ap (λ ks. (f.name, ks)) (key_edit shape_of (map_written i offset bytes)
-      (λ x. pages_same x x.unmapped (map_written i offset bytes x).places (length-edit_at (place_written offset bytes) x.places _)) f.maps
-      s.map_no))
-
   written_few : (n : Mount) (s : Spot) (i offset : ℕ) (bytes : List ℕ) → Few n → Few (written n s i offset bytes)
   written_few n s i offset bytes h =
       let same = λ (q : ℕ). same_keys q n (written n s i offset bytes) (key_edit file_key (file_written s i offset bytes) (written_key s i offset bytes) n.files s.file_no) in
@@ -249,76 +222,41 @@ module _ (size k : ℕ) (c : Choice) (m : Mount) (few : Few m) where
       among_some q (maps_of n) (omega (arith, some, l)))) in
       omega (arith, less, h)
 
+  -- a map of a task more, where not too many are there
+  no_task_over : (task n : ℕ) → AreFewMaps m task n → is_new_task_over m task ≡ false
+  no_task_over task n few =
+      (neither (nat_le most_maps (length (maps_of m))) (is_new_task_over m task) (neither (nat_lt most_map_pages n) (are_too_many_maps m task) few).1).1
+
   -- ---- each event
 
-  stays_few : (e : SlotEvent) → relimits e ≡ false → W (on_mount size k c m e)
-  stays_few (slot.Mount options) stays = tt
-  stays_few (slot.Remount options) stays = cc
-  stays_few slot.Umount stays = cc
-  stays_few (slot.Create name) stays =
-      tested (create_tests c m name) (Finish (Answered Done (Some (with_new m (new_file (Some name))))))
-      (less_few (with_new m (new_file (Some name))) (λ t. (let is = new_is t m (new_file (Some name)) in omega (arith, is))))
-  stays_few (slot.Unlink name) stays = of_file name (unlink m) (λ q at. leaves (swept (with_file m q.0 (unlinked q.1))) (edited_few q (unlinked q.1) at (λ t. omega arith)))
-  stays_few (slot.Truncate name n) stays =
-      of_file name (truncate m n) (λ q at. tested ((nat_lt most_file_pages n, OutOfRange) ∷ []) (gives Done (Some m) (edited m q.0 (truncated n q.1)))
-      (leaves (swept (with_file m q.0 (truncated n q.1))) (edited_few q (truncated n q.1) at
-      (λ t. kept_tasks t (map_punched n (n + length q.1.cells)) (λ x. refl) q.1.maps))))
-  stays_few (slot.Punch name a b) stays =
-      of_file name (punch m a b) (λ q at. tested ((is_bad_range a b, OutOfRange) ∷ []) (gives Done (Some m) (edited m q.0 (punched a b q.1)))
-      (leaves (swept (with_file m q.0 (punched a b q.1))) (edited_few q (punched a b q.1) at
-      (λ t. kept_tasks t (map_punched a b) (λ x. refl) q.1.maps))))
-  stays_few (slot.Preallocate name a b) stays =
-      of_file name (preallocate c size m a b) (λ q at. always_preallocate (On Few) (λ r. tt) c size m a b q few
-      (λ pages. (let g : File = range_filled size a b (rising_nodes (lacking a b q.1) pages) q.1 in less_few (with_file m q.0 g) (λ t. set_le t m q.0 q.1 g at (omega arith)))))
-  stays_few (slot.Read name i offset count) stays = of_file name (read size m i offset count) (λ q at. tested (read_tests size i offset count q.1) (Finish (Answered _ (Some m))) few)
-  stays_few slot.Ls stays = tested ((c.refused, OutOfMemory) ∷ []) (Finish (Answered _ (Some m))) few
-  stays_few (slot.Stat name) stays = of_file name (stat m) (λ q at. few)
-  stays_few slot.Df stays = few
-  stays_few (slot.Map task home name a n sharing reserving) stays =
-      of_file name (map_file c m task home a n sharing reserving) (λ q at.
-      always_test (On Few) ((n == 0) || nat_lt most_file_pages (a + n)) OutOfRange _ tt (λ e.
-      always_test (On Few) (nat_lt most_map_pages n || are_too_many_maps m task) TooMany _ tt (λ t.
-      always_grant (On Few) (λ r. tt) c m home (asked sharing reserving a n q.1)
-      (Answered (MapNo (next_number task m)) (Some (with_file m q.0 (mapped task (next_number task m) a n sharing reserving q.1))))
-      (more_few (with_file m q.0 (mapped task (next_number task m) a n sharing reserving q.1)) task
-      (neither (nat_le most_maps (length (maps_of m))) (is_new_task_over m task)
-      (neither (nat_lt most_map_pages n) (are_too_many_maps m task) t).1).1
-      (λ x. (let set = set_count (is_of x) m q.0 q.1 (mapped task (next_number task m) a n sharing reserving q.1) at in
-      let one = mapped_le task (next_number task m) a n sharing reserving q.1.maps x in omega (arith, set, one)))))))
-  stays_few (slot.Anon task home n sharing reserving) stays =
-      let g : File = mapped task (next_number task m) 0 n sharing reserving (new_file None) in
-      always_test (On Few) ((n == 0) || nat_lt most_file_pages n) OutOfRange _ tt (λ e.
-      always_test (On Few) (nat_lt most_map_pages n || are_too_many_maps m task || nat_le most_files (length m.files)) TooMany _ tt (λ t.
-      tested ((is_over m.limits.inodes (length m.files + 1), NoInodes) ∷ []) (grant c m home (asked sharing reserving 0 n (new_file None))
-      (Answered (MapNo (next_number task m)) (Some (with_new m g))))
-      (always_grant (On Few) (λ r. tt) c m home (asked sharing reserving 0 n (new_file None)) (Answered (MapNo (next_number task m)) (Some (with_new m g)))
-      (more_few (with_new m g) task (neither (nat_le most_maps (length (maps_of m))) (is_new_task_over m task)
-      (neither (nat_lt most_map_pages n) (are_too_many_maps m task) (neither (nat_lt most_map_pages n || are_too_many_maps m task)
-      (nat_le most_files (length m.files)) t).0).1).1
-      (λ x. (let is = new_is x m g in let one = mapped_le task (next_number task m) 0 n sharing reserving [] x in omega (arith, is, one)))))))
-  stays_few (slot.Unmap task number a b) stays = of_map task number (unmap m task number a b)
-      (λ s at. tested ((is_bad_range a b, OutOfRange) ∷ []) (gives Done (Some m) (Some (unmapped_from task number a b m)))
-      (leaves (unmapped_from task number a b m) (each_few (file_unmapped (is_map task number) a b) (unmap_le (is_map task number) a b))))
-  stays_few (slot.Fault task home number i intent) stays =
-      of_map task number (fault c size m home i intent) (λ s at. tested (fault_tests i s) (access c size m s home i intent) (access_on c m Few few s at (put_few s at) size home i intent))
-  stays_few (slot.Load task home number i offset count) stays =
-      of_map task number (load c size m home i offset count)
-      (λ s at. (let answer = λ (n : Mount). Answered (bytes_answer offset count (value size (again n s).file (again n s).map i)) (Some n) in
-      always_then (On Few) (On Few) answer (on_follows Few Few answer (λ n h. h)) (byte_access c size m home i offset count Read s)
-      (bytes_on c m Few few s at (put_few s at) size home i offset count Read)))
-  stays_few (slot.Store task home number i offset bytes) stays =
-      of_map task number (store c size m home i offset bytes)
-      (λ s at. (let write = λ (n : Mount). Answered Done (Some (written n s i offset bytes)) in
-      always_then (On Few) (On Few) write (on_follows Few Few write (λ n h. written_few n s i offset bytes h))
-      (byte_access c size m home i offset (length bytes) Write s) (bytes_on c m Few few s at (put_few s at) size home i offset (length bytes)
-      Write)))
-  stays_few (slot.ForkMaps parent child) stays =
-      always_test (On Few) (nat_lt most_maps (length (maps_of (forked parent child m))) || nat_lt most_tasks (length (tasks_of (forked parent child m)))) TooMany _ tt (λ t.
-      tested ((c.refused, OutOfMemory) ∷ []) (gives Done (Some m) (Some (forked parent child m)))
-      (leaves (forked parent child m) (ltb-false most_tasks (length (tasks_of (forked parent child m)))
-      (neither (nat_lt most_maps (length (maps_of (forked parent child m)))) (nat_lt most_tasks (length (tasks_of (forked parent child m))))
-      t).1)))
-  stays_few (slot.ExitMaps task) stays = leaves (without_task task m) (each_few (file_without task) (λ t f. sum_by-filter_le (λ (x : Map). bit (is_of t x)) (λ x. not (is_of task x)) f.maps))
+  stays_few : Leaves size k c m Few
+  stays_few = record {
+    same = few;
+    creates = λ name new. less_few (with_new m (new_file (Some name))) (λ t. (let is = new_is t m (new_file (Some name)) in omega (arith, is)));
+    unlinks = λ q at. edited_few q (unlinked q.1) at (λ t. omega arith);
+    truncates = λ n q at. edited_few q (truncated n q.1) at (λ t. kept_tasks t (map_punched n (n + length q.1.cells)) (λ x. refl) q.1.maps);
+    punches = λ a b q at. edited_few q (punched a b q.1) at (λ t. kept_tasks t (map_punched a b) (λ x. refl) q.1.maps);
+    fills = λ a b pages q at. (let g : File = range_filled size a b (rising_nodes (lacking a b q.1) pages) q.1 in less_few (with_file m q.0 g) (λ t. set_le t m q.0 q.1 g at (omega arith)));
+    maps = λ task a n sharing reserving q at fits.
+        (let g : File = mapped task (next_number task m) a n sharing reserving q.1 in
+        more_few (with_file m q.0 g) task (no_task_over task n fits)
+        (λ x. (let set = set_count (is_of x) m q.0 q.1 g at in let one = mapped_le task (next_number task m) a n sharing reserving q.1.maps x in omega (arith, set, one))));
+    anons = λ task n sharing reserving fits.
+        (let g : File = mapped task (next_number task m) 0 n sharing reserving (new_file None) in
+        more_few (with_new m g) task (no_task_over task n fits)
+        (λ x. (let is = new_is x m g in let one = mapped_le task (next_number task m) 0 n sharing reserving [] x in omega (arith, is, one))));
+    unmaps = λ task number a b. each_few (file_unmapped (is_map task number) a b) (unmap_le (is_map task number) a b);
+    forks = λ parent child fits.
+        ltb-false most_tasks (length (tasks_of (forked parent child m)))
+        (neither (nat_lt most_maps (length (maps_of (forked parent child m)))) (nat_lt most_tasks (length (tasks_of (forked parent child m)))) fits).1;
+    exits = λ task. each_few (file_without task) (λ t f. sum_by-filter_le (λ (x : Map). bit (is_of t x)) (λ x. not (is_of task x)) f.maps);
+    faults = λ s at home i intent. always_unless (On Few) (λ r. tt) (fault_tests i s) (access c size m s home i intent) (access_on c m Few few s at (put_few s at) size home i intent);
+    reads = λ s at home i offset count. bytes_on c m Few few s at (put_few s at) size home i offset count Read;
+    stores = λ s at home i offset bytes.
+        (let write = λ (n : Mount). Answered Done (Some (written n s i offset bytes)) in
+        always_then (On Few) (On Few) write (on_follows Few Few write (λ n h. written_few n s i offset bytes h))
+        (byte_access c size m home i offset (length bytes) Write s) (bytes_on c m Few few s at (put_few s at) size home i offset (length bytes) Write));
+  }
 
 -- ---- a slot
 
@@ -339,7 +277,8 @@ slots_stay_few size k c None (slot.Mount options) few = always_mount (Stays None
 slots_stay_few size k c None other few = tt
 slots_stay_few size k c (Some m) (slot.Remount options) few = always_remount (Stays (Some m)) (λ r. few) m (λ l. few) size k options
 slots_stay_few size k c (Some m) slot.Umount few = always_unless (Stays (Some m)) (λ r. few) (umount_tests k m) (gives Done (Some m) None) (always_gives (Stays (Some m)) Done (Some m) None tt)
-slots_stay_few size k c (Some m) e few = always_weaker (On Few) (Stays (Some m)) (left_few m few) (on_mount size k c m e) (stays_few size k c m few e refl)
+slots_stay_few size k c (Some m) e few = always_weaker (On Few) (Stays (Some m)) (left_few m few) (on_mount size k c m e)
+    (walk size k c m (λ e. Always (On Few)) (leaves_walk size k c m Few (stays_few size k c m few)) e refl)
 
 -- ---- a task's exit
 

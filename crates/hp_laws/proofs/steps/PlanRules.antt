@@ -125,7 +125,7 @@ module _ (W : Plan → Type 0) where
     plan_walks : (size k : ℕ) (c : Choice) (m : Mount) → Walks size k c m (λ e. W)
     plan_walks size k c m = record {
       refuses = λ e r. rules.done (Refused r);
-      same = λ e. rules.done (Answered Done (Some m));
+      whole = λ name a b q is. rules.done (Answered Done (Some m));
       tells = λ e a yes. rules.done (Answered a (Some m));
       reads = λ name i offset count bytes few. rules.done (Answered (bytes_answer offset count bytes) (Some m));
       creates = λ name new. rules.done (Answered Done (Some (with_new m (new_file (Some name)))));
@@ -142,7 +142,7 @@ module _ (W : Plan → Type 0) where
           plan_grant c m home (asked sharing reserving 0 n (new_file None)) (MapNo (next_number task m))
           (Some (with_new m (mapped task (next_number task m) 0 n sharing reserving (new_file None))));
       unmaps = λ task number a b. plan_gives Done (Some m) (Some (unmapped_from task number a b m));
-      forks = λ parent child. plan_gives Done (Some m) (Some (forked parent child m));
+      forks = λ parent child few. plan_gives Done (Some m) (Some (forked parent child m));
       exits = λ task. plan_gives Done (Some m) (Some (without_task task m));
       faults = λ task number s at home i intent. tested (fault_tests i s) (access c size m s home i intent) (plan_access c size m s home i intent);
       loads = λ task number s at home i offset count.

@@ -29,10 +29,11 @@ use Rattle.hp_model.specs.declared.section.PoolAnswer.{PoolAnswer}
 use Rattle.hp_model.specs.declared.section.Section.TheVariants.{GrantAndReturn, ReadAndGiveBack, ReadAndGrant}
 use Rattle.hp_model.specs.pool.PoolCounts.{Pool}
 use Rattle.hp_model.specs.Profile.{most_bytes}
-use Rattle.hp_model.specs.machine.SlotEvent.{byte_access, bytes_answer, fault, file_named, has_name, is_beyond, is_unmapped, load, mount_outcome, mount_pages, mount_section, on_mount, on_none, store, unentered}
+use Rattle.hp_model.specs.machine.SlotEvent.{byte_access, bytes_answer, fault, file_named, has_name, is_beyond, is_unmapped, load}
+use Rattle.hp_model.specs.machine.SlotEvent.{mount_outcome, mount_pages, mount_section, on_mount, on_none, store, unentered}
 use Rattle.hp_model.specs.machine.SlotEvent.{committed_with, remount_outcome, remount_section}
 use Rattle.hp_model.specs.machine.Sound.{IsSoundFile, IsSoundMount}
-use Rattle.hp_model.specs.files.Spot.{Spot, written, again}
+use Rattle.hp_model.specs.files.Spot.{Spot, written, again, spot}
 use Rattle.hp_model.specs.files.Value.{value}
 use Rattle.hp_model.specs.declared.limits.Limits.{Limits}
 use Rattle.hp_laws.proofs.steps.Accesses.{access_balanced, written_same}
@@ -43,7 +44,7 @@ use Rattle.hp_laws.proofs.counts.FileMoves.{FileGrows}
 use Rattle.hp_laws.proofs.counts.Filled.{filled_fills}
 use Rattle.hp_laws.proofs.lists.NodesOf.{length-nodes_of}
 use Rattle.hp_laws.proofs.counts.OneMapMore.{mapped_grows}
-use Rattle.hp_laws.proofs.counts.MountMoves.{MountFalls, MountGrows, IsSpot, IsFileAt, file_at, nothing_more, file_fills, file_grows, new_grows, file_sweeps, files_sweep}
+use Rattle.hp_laws.proofs.counts.MountMoves.{MountFalls, MountGrows, IsSpot, IsFileAt, file_at, nothing_more, file_fills, file_grows, new_grows, file_sweeps, files_sweep, spot_is}
 use Rattle.hp_laws.proofs.steps.Plans.{stays, grown_same, balanced_unless, balanced_fill, balanced_grant, balanced_gives, balanced_then, mount_falls}
 use Rattle.hp_laws.proofs.steps.Walk.{Walks, walk_all}
 
@@ -177,10 +178,13 @@ module _ (size slot : ℕ) (c : Choice) (m : Mount) (sound : IsSoundMount m) (ne
   named : (name : List ℕ) (q : ℕ × File) → file_named m name ≡ Some q → IsFileAt m q.0 q.1
   named name q is = file_at m (has_name name) q is
 
+  mapped_at : (task number : ℕ) (s : Spot) → spot m (is_map task number) ≡ Some s → IsSpot m s
+  mapped_at task number s is = spot_is m (is_map task number) s is
+
   events_balanced : Walks size slot c m (λ e. IsBalanced (Some m))
   events_balanced = record {
     refuses = λ e r. stays (Some m);
-    same = λ e. stays (Some m);
+    whole = λ name a b q is. stays (Some m);
     tells = λ e a yes. stays (Some m);
     reads = λ name i offset count bytes few. stays (Some m);
     creates = λ name new. grown_same m _ (new_grows m (Some name) (new_file (Some name)) 0 (same_file (new_file (Some name))));
@@ -201,11 +205,11 @@ module _ (size slot : ℕ) (c : Choice) (m : Mount) (sound : IsSoundMount m) (ne
         balanced_grant c m _ home k (MapNo number)
         (new_grows m None (mapped task number 0 n sharing reserving (new_file None)) k (mapped_grows task number 0 n sharing reserving (new_file None))));
     unmaps = λ task number a b. falls _ (files_sweep m (file_unmapped (is_map task number) a b) (unmapped_falls (is_map task number) a b));
-    forks = λ parent child. falls _ (files_sweep m (file_forked parent child) (forked_falls parent child));
+    forks = λ parent child few. falls _ (files_sweep m (file_forked parent child) (forked_falls parent child));
     exits = λ task. falls _ (files_sweep m (file_without task) (without_falls task));
-    faults = λ task number s at home i intent. fault_balanced c size m sound new home i s at intent;
-    loads = λ task number s at home i offset count. load_balanced c size m sound new home i s at offset count;
-    stores = λ task number s at home i offset bytes. store_balanced c size m sound new home i s at offset bytes;
+    faults = λ task number s is home i intent. fault_balanced c size m sound new home i s (mapped_at task number s is) intent;
+    loads = λ task number s is home i offset count. load_balanced c size m sound new home i s (mapped_at task number s is) offset count;
+    stores = λ task number s is home i offset bytes. store_balanced c size m sound new home i s (mapped_at task number s is) offset bytes;
   }
 
   on_mount_balanced : (e : SlotEvent) → IsBalanced (Some m) (on_mount size slot c m e)

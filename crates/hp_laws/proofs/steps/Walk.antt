@@ -11,22 +11,21 @@ use Rattle.hp_model.specs.declared.refusal.Refusal.TheVariants.{BadName, FileExi
 use Rattle.hp_model.specs.declared.step.Intent.{Intent}
 use Rattle.hp_model.specs.declared.step.Reserving.{Reserving}
 use Rattle.hp_model.specs.declared.step.Sharing.{Sharing}
-use Rattle.hp_model.specs.files.File.{File, Mount, cell_at, has_page, is_entered, new_file, with_file}
+use Rattle.hp_model.specs.files.File.{File, Mount, cell_at, has_page, is_entered, new_file, with_file, maps_of}
 use Rattle.hp_model.specs.files.Fill.{lacking}
 use Rattle.hp_model.specs.files.Fork.{forked}
 use Rattle.hp_model.specs.files.GiveBack.{punched, truncated, unlinked, unmapped_from, without_task}
-use Rattle.hp_model.specs.files.MakeMap.{asked, mapped, next_number, with_new}
+use Rattle.hp_model.specs.files.MakeMap.{asked, mapped, next_number, with_new, tasks_of}
 use Rattle.hp_model.specs.files.Mapping.{is_map}
 use Rattle.hp_model.specs.files.MountCounts.{usage_of}
 use Rattle.hp_model.specs.machine.Plan.{Answered, Ask, Choice, Finish, Plan, gives, grant, refuse, unless, with_value}
-use Rattle.hp_model.specs.Profile.{most_bytes, most_file_pages, most_files, most_map_pages}
-use Rattle.hp_model.specs.machine.SlotEvent.{anon_tests, are_too_many_maps, bytes_answer, create_tests, edited, fault, file_named, fill, fork_tests, is_bad_range, is_name, load, map_file}
+use Rattle.hp_model.specs.Profile.{most_bytes, most_file_pages, most_files, most_map_pages, most_maps, most_tasks}
+use Rattle.hp_model.specs.machine.SlotEvent.{anon_tests, are_too_many_maps, bytes_answer, create_tests, edited, fault, file_named, fill, is_bad_range, is_name, load, map_file}
 use Rattle.hp_model.specs.machine.SlotEvent.{map_tests, on_mount, preallocate, preallocate_tests, punch, read, read_tests, remount_outcome}
 use Rattle.hp_model.specs.machine.SlotEvent.{remount_section, remount_tests, stat, store, truncate, umount_tests, unlink, unmap}
 use Rattle.hp_model.specs.files.Options.{limits, wanted_of}
 use Rattle.hp_model.specs.files.Spot.{Spot, spot}
 use Rattle.hp_model.specs.files.Value.{shown}
-use Rattle.hp_laws.proofs.counts.MountMoves.{IsSpot, spot_is}
 
 -- ---- tests and what is found
 
@@ -67,11 +66,15 @@ both_parts true b c e = cc
 both_parts false true c e = cc
 both_parts false false c e = refl
 
+-- nor a fork's
+abbrev pub ForksFewMaps : Mount → (parent child : ℕ) → Type 0
+ForksFewMaps m parent child = (nat_lt most_maps (length (maps_of (forked parent child m))) || nat_lt most_tasks (length (tasks_of (forked parent child m)))) ≡ false
+
 module _ (size k : ℕ) (c : Choice) (m : Mount) (W : SlotEvent → Plan → Type 0) where
   -- of what each event comes to, its tests passed
   pub record Walks : Type 0 where
     pub refuses : (e : SlotEvent) (r : Refusal) → W e (refuse r)
-    pub same : (e : SlotEvent) → W e (Finish (Answered Done (Some m)))
+    pub whole : (name : List ℕ) (a b : ℕ) (q : ℕ × File) → file_named m name ≡ Some q → W (slot.Preallocate name a b) (Finish (Answered Done (Some m)))
     pub tells : (e : SlotEvent) (a : Answer) → tells_all e ≡ true → W e (Finish (Answered a (Some m)))
     pub reads : (name : List ℕ) (i offset count : ℕ) (bytes : List ℕ) → nat_lt most_bytes count ≡ false
         → W (slot.Read name i offset count) (Finish (Answered (bytes_answer offset count bytes) (Some m)))
@@ -89,11 +92,11 @@ module _ (size k : ℕ) (c : Choice) (m : Mount) (W : SlotEvent → Plan → Typ
         (grant c m home (asked sharing reserving 0 n (new_file None))
         (Answered (MapNo (next_number task m)) (Some (with_new m (mapped task (next_number task m) 0 n sharing reserving (new_file None))))))
     pub unmaps : (task number a b : ℕ) → W (slot.Unmap task number a b) (gives Done (Some m) (Some (unmapped_from task number a b m)))
-    pub forks : (parent child : ℕ) → W (slot.ForkMaps parent child) (gives Done (Some m) (Some (forked parent child m)))
+    pub forks : (parent child : ℕ) → ForksFewMaps m parent child → W (slot.ForkMaps parent child) (gives Done (Some m) (Some (forked parent child m)))
     pub exits : (task : ℕ) → W (slot.ExitMaps task) (gives Done (Some m) (Some (without_task task m)))
-    pub faults : (task number : ℕ) (s : Spot) → IsSpot m s → (home i : ℕ) (intent : Intent) → W (slot.Fault task home number i intent) (fault c size m home i intent s)
-    pub loads : (task number : ℕ) (s : Spot) → IsSpot m s → (home i offset count : ℕ) → W (slot.Load task home number i offset count) (load c size m home i offset count s)
-    pub stores : (task number : ℕ) (s : Spot) → IsSpot m s → (home i offset : ℕ) (bytes : List ℕ)
+    pub faults : (task number : ℕ) (s : Spot) → spot m (is_map task number) ≡ Some s → (home i : ℕ) (intent : Intent) → W (slot.Fault task home number i intent) (fault c size m home i intent s)
+    pub loads : (task number : ℕ) (s : Spot) → spot m (is_map task number) ≡ Some s → (home i offset count : ℕ) → W (slot.Load task home number i offset count) (load c size m home i offset count s)
+    pub stores : (task number : ℕ) (s : Spot) → spot m (is_map task number) ≡ Some s → (home i offset : ℕ) (bytes : List ℕ)
         → W (slot.Store task home number i offset bytes) (store c size m home i offset bytes s)
 
   module _ (walks : Walks) where
@@ -107,8 +110,8 @@ module _ (size k : ℕ) (c : Choice) (m : Mount) (W : SlotEvent → Plan → Typ
     of_file : (e : SlotEvent) (name : List ℕ) (f : ℕ × File → Plan) → ((q : ℕ × File) → file_named m name ≡ Some q → W e (f q)) → W e (with_value (file_named m name) NoSuchFile f)
     of_file e name f h = plan_value (W e) (walks.refuses e) (file_named m name) NoSuchFile f h
 
-    of_map : (e : SlotEvent) (task number : ℕ) (f : Spot → Plan) → ((s : Spot) → IsSpot m s → W e (f s)) → W e (with_value (spot m (is_map task number)) NoSuchMap f)
-    of_map e task number f h = plan_value (W e) (walks.refuses e) (spot m (is_map task number)) NoSuchMap f (λ s is. h s (spot_is m (is_map task number) s is))
+    of_map : (e : SlotEvent) (task number : ℕ) (f : Spot → Plan) → ((s : Spot) → spot m (is_map task number) ≡ Some s → W e (f s)) → W e (with_value (spot m (is_map task number)) NoSuchMap f)
+    of_map e task number f h = plan_value (W e) (walks.refuses e) (spot m (is_map task number)) NoSuchMap f h
 
     -- so it is of each event but a remount and an umount
     pub walk : (e : SlotEvent) → relimits e ≡ false → W e (on_mount size k c m e)
@@ -132,7 +135,7 @@ module _ (size k : ℕ) (c : Choice) (m : Mount) (W : SlotEvent → Plan → Typ
         let e : SlotEvent = slot.Preallocate name a b in
         of_file e name (preallocate c size m a b)
         (λ q at. tested e (preallocate_tests a b) (if lacking a b q.1 == 0 then Finish (Answered Done (Some m)) else fill c size m a b q)
-        (cond_both (lacking a b q.1 == 0) (Finish (Answered Done (Some m))) (fill c size m a b q) (W e) (λ none. walks.same e) (λ some. walks.fills name a b q at)))
+        (cond_both (lacking a b q.1 == 0) (Finish (Answered Done (Some m))) (fill c size m a b q) (W e) (λ none. walks.whole name a b q at) (λ some. walks.fills name a b q at)))
     walk (slot.Read name i offset count) stays =
         let e : SlotEvent = slot.Read name i offset count in
         of_file e name (read size m i offset count)
@@ -173,7 +176,10 @@ module _ (size k : ℕ) (c : Choice) (m : Mount) (W : SlotEvent → Plan → Typ
     walk (slot.Store task home number i offset bytes) stays =
         of_map (slot.Store task home number i offset bytes) task number (store c size m home i offset bytes) (λ s at. walks.stores task number s at home i offset bytes)
     walk (slot.ForkMaps parent child) stays =
-        tested (slot.ForkMaps parent child) (fork_tests c m parent child) (gives Done (Some m) (Some (forked parent child m))) (walks.forks parent child)
+        let e : SlotEvent = slot.ForkMaps parent child in
+        let made : Plan = gives Done (Some m) (Some (forked parent child m)) in
+        passed e (nat_lt most_maps (length (maps_of (forked parent child m))) || nat_lt most_tasks (length (tasks_of (forked parent child m)))) TooMany (unless ((c.refused, OutOfMemory) ∷ []) made)
+        (λ few. tested e ((c.refused, OutOfMemory) ∷ []) made (walks.forks parent child few))
     walk (slot.ExitMaps task) stays = walks.exits task
 
     -- and of these too, where it is of setting limits and of giving all back
