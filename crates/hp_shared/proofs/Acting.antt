@@ -27,7 +27,7 @@ use Rattle.hp_events.proofs.Came.{always_came}
 use Rattle.hp_shared.specs.Slots.{IsActedOr}
 
 -- a door that was not used has its seat as it was
-unused : {X : Type 0} (keeps : Bool) (asked : X → Option Asked) (mine : X → List Held) (d : X) → asked d ≡ None → IsEntered keeps (mine d) (asked d) (mine d)
+pub unused : {X : Type 0} (keeps : Bool) (asked : X → Option Asked) (mine : X → List Held) (d : X) → asked d ≡ None → IsEntered keeps (mine d) (asked d) (mine d)
 unused keeps asked mine d none = subst (λ (a : Option Asked). IsEntered keeps (mine d) a (mine d)) (sym none) refl
 
 stayed : {X : Type 0} (keeps : Bool) (asked : X → Option Asked) (mine : X → List Held) (d e : X) → asked d ≡ None → e ≡ d → IsEntered keeps (mine d) (asked e) (mine e)

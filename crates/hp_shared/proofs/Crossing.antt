@@ -62,10 +62,10 @@ module _ (N : RattleType) (names : Ghosts N.Denot) (places : law.Ghosts N.Denot)
   spare_send = search (sendable, crosses, mount_send, slot_entry_send) depth 40
 
   nodes_send : IsSend (NodeLocks.the_row N names)
-  nodes_send = search (sendable, crosses, line_lock_send, node_frames_send) depth 30
+  nodes_send = search (sendable, crosses, node_frames_send) depth 30
 
   nodes_sync : IsSync (NodeLocks.the_row N names)
-  nodes_sync = search (sendable, crosses, line_lock_sync, node_frames_send) depth 30
+  nodes_sync = search (sendable, crosses, node_frames_send) depth 30
 
   pub shared_send : (k : RattleType) → IsSend (Shared.the_row N k places names)
   shared_send k = view_send (Inside.the_row N k places names) _ _ _ _ (declared_send (Inside.the_type N k places names) (

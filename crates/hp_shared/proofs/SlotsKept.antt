@@ -234,6 +234,16 @@ pub none_added : (o : Option (List SlotEntry)) (e : SlotEntry) → o ≡ None �
 none_added None e is = refl
 none_added (Some es) e is = cc
 
+-- a trail without room is kept
+pub full_keeps : (keeps : Bool) (o : Option (List SlotEntry)) (left : Option ℕ) (extra : ℕ) → is_some o ≡ keeps → (o ≡ None → left ≡ None) → has_room false left extra ≡ false
+    → keeps ≡ true
+full_keeps keeps None left extra kept counted full = (let room = ap (λ (l : Option ℕ). has_room false l extra) (counted refl) in cc)
+full_keeps keeps (Some es) left extra kept counted full = sym kept
+
+pub neither : (a b : Bool) → (a || b) ≡ false → (a ≡ false) × (b ≡ false)
+neither true b is = cc
+neither false b is = (refl, is)
+
 -- ---- where no entries are kept
 
 module _ (full : Type 0) (size k : ℕ) (o : Option (List SlotEntry)) (left : Option ℕ) (extra : ℕ) (old : Slot) (e : SlotEvent) (reply : Reply)

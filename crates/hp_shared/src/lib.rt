@@ -8,6 +8,7 @@ mod making;
 mod names;
 mod opener;
 mod parting;
+mod parts;
 mod seated_slot;
 mod seats;
 mod shared;

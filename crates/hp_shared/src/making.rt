@@ -1,5 +1,5 @@
 //! The parts of a machine before any thread has them.
-ghost use Rattle.std.specs.Prelude.{◌≡◌, ◌<◌, ◌≤◌, ◌==◌, ◌∷◌, [], None, length, replicate, vec_len, vec_capacity, All, IfOk};
+ghost use Rattle.std.specs.Prelude.{◌≡◌, ◌<◌, ◌≤◌, ◌==◌, ◌∷◌, [], None, length, suc, replicate, vec_len, vec_capacity, All, IfOk};
 ghost use Rattle.std.specs.List.{sum};
 ghost use Rattle.hp_model.specs.machine.Machine.{open_mount};
 ghost use Rattle.hp_model.specs.pool.PoolCounts.{IsSettled};
@@ -7,6 +7,7 @@ ghost use Rattle.hp_model.specs.Profile.{most_tasks, most_frames, most_frames_in
 ghost use Rattle.hp_history.specs.declared.held.Held.TheVariants.{Pool as PoolPart, Tasks as TasksPart};
 ghost use Rattle.hp_history.specs.History.{held_from};
 ghost use Rattle.hp_locked.specs.Views.{IsNewTrail};
+ghost use Rattle.hp_shared.specs.Slots.{slot_start};
 ghost use Rattle.hp_trail.specs.Keeping.{extra_if, kept_if, left_if, most_extra};
 
 use crate::opener::Opener;
@@ -120,6 +121,44 @@ pub(crate) fn open_history<N: Naming + Places>(
     (history, table, pool, opener, seat)
 }
 
+// The next slot under its lock, with this mount, the last of these trails, and the first part of this seat.
+fn lock_slot<N: Naming + Places, const K: usize>(
+    history: &History<N>,
+    seat: &mut Token,
+    mount: Option<Mount<N>>,
+    rest: &mut Vec<FreshTrail<K>>,
+    locks: &mut Vec<LineLock<SeatedSlot<N, Trace<SlotEntry, K>>>>,
+)
+    requires named { seat.old.table_id ≡ N.history }
+    requires slots { seat.old.me ≡ (
+      held_from (vec_len locks.old)
+          (replicate (vec_len rest.old) []),
+      [],
+    ) }
+    requires mount { mount ≡ slot_start (vec_len locks.old) }
+    requires some { 0 < vec_len rest.old }
+    requires room { vec_len locks.old < vec_capacity locks.old }
+    ensures named { seat.new.table_id ≡ N.history }
+    ensures slots { seat.new.me ≡ (
+      held_from (vec_len locks.new)
+          (replicate (vec_len rest.new) []),
+      [],
+    ) }
+    ensures one { vec_len locks.new ≡ suc (vec_len locks.old) }
+    ensures less { vec_len rest.old ≡ suc (vec_len rest.new) }
+    ensures room { vec_capacity locks.new ≡ vec_capacity locks.old }
+{
+    let Some(trail) = rest.pop() else {
+        unreachable!()
+    };
+    locks.push_reserved(LineLock::new(SeatedSlot::new(
+        locks.len() as u64,
+        mount,
+        trail.into_trail(),
+        history.give_away(seat),
+    )));
+}
+
 // Each slot under a lock, with one of the trails and its part of this seat, the first with this mount and the others without
 // one. There is room for them.
 pub(crate) fn lock_slots<N: Naming + Places, const K: usize>(
@@ -139,22 +178,8 @@ pub(crate) fn lock_slots<N: Naming + Places, const K: usize>(
 {
     let mut seat = slots;
     let mut rest = trails;
-    let Some(trail) = rest.pop() else {
-        unreachable!()
-    };
-    locks.push_reserved(LineLock::new(SeatedSlot::new(
-        0,
-        Some(first),
-        trail.into_trail(),
-        history.give_away(&mut seat),
-    )));
-    while let Some(trail) = rest.pop() {
-        let number = locks.len() as u64;
-        locks.push_reserved(LineLock::new(SeatedSlot::new(
-            number,
-            None,
-            trail.into_trail(),
-            history.give_away(&mut seat),
-        )));
+    lock_slot(history, &mut seat, Some(first), &mut rest, locks);
+    while !rest.is_empty() {
+        lock_slot(history, &mut seat, None, &mut rest, locks);
     }
 }

@@ -14,9 +14,10 @@ ghost use Rattle.hp_shared.specs.Sharing.{EndsRuns, entries_of};
 ghost use Rattle.hp_trail.specs.Walk.{trails_of};
 
 use crate::ended::Ended;
-use crate::making::{all_frames, first_mount, lock_slots, open_history, open_trail, open_trails};
+use crate::making::{first_mount, lock_slots, open_history};
 use crate::opener::Opener;
 use crate::parting::take_slots;
+use crate::parts::{Fresh, Parts};
 use crate::seated_slot::SeatedSlot;
 use crate::spare::Spare;
 use crate::table::Table;
@@ -25,7 +26,6 @@ use hp_history::{History, Opened, Places, Token};
 use hp_locked::{Core, Gate, LineLock, NodeLocks};
 use hp_model::entry::{PoolEntry, SlotEntry, TableEntry};
 use hp_model::naming::Naming;
-use hp_model::profile::MOST_TASKS;
 use hp_mount::Mount;
 use hp_own_pool::OwnPool;
 use hp_pool::Blanks;
@@ -122,43 +122,40 @@ impl<N: Naming + Places, const K: usize> Shared<N, K> {
         } }
         ensures { IfOk result (λ s. s ≡ record { page_size = page_bytes; slots = slots }) }
     {
-        let tasks = TaskTable::new(alloc)?;
-        let task_trail = open_trail(alloc, places, MOST_TASKS)?;
-        let pool_trail = open_trail(alloc, places, 2 * all_frames(frames))?;
-        let slot_trails = open_trails(alloc, slots, places)?;
-        let spare = Spare::open(alloc)?;
-        let mut locks = match Vec::with_capacity(alloc, slots) {
-            Ok(locks) => locks,
+        let parts = Parts::open(alloc, frames, slots, places)?;
+        let mut own = match OwnPool::new(alloc, frames, blanks) {
+            Ok(own) => own,
             Err(error) => {
-                spare.close();
+                parts.close();
                 return Err(error);
             }
         };
-        match OwnPool::new(alloc, frames, blanks) {
-            Err(error) => {
-                locks.destroy_empty();
-                spare.close();
-                Err(error)
-            }
-            Ok(own) => {
-                let mut own = own;
-                let first = first_mount(alloc, &mut own);
-                let (history, table, core, opener, parts) = open_history(opened);
-                lock_slots(&history, parts, first, slot_trails, &mut locks);
-                let (pool, stocks) = own.into_parts();
-                Ok(Shared {
-                    page_bytes,
-                    alloc,
-                    history,
-                    table: LineLock::new(Table::new(frames.len() as u64, tasks, task_trail, table)),
-                    core: LineLock::new(Core::new(pool, pool_trail, core)),
-                    nodes: NodeLocks::new(stocks),
-                    slots: locks,
-                    opener: Mutex::new(opener),
-                    spare: Mutex::new(spare),
-                })
-            }
-        }
+        let Parts {
+            fresh,
+            spare,
+            mut locks,
+        } = parts;
+        let Fresh {
+            tasks,
+            of_tasks,
+            of_pool,
+            of_slots,
+        } = fresh;
+        let first = first_mount(alloc, &mut own);
+        let (history, table, core, opener, seat) = open_history(opened);
+        lock_slots(&history, seat, first, of_slots, &mut locks);
+        let (pool, stocks) = own.into_parts();
+        Ok(Shared {
+            page_bytes,
+            alloc,
+            history,
+            table: LineLock::new(Table::new(frames.len() as u64, tasks, of_tasks, table)),
+            core: LineLock::new(Core::new(pool, of_pool, core)),
+            nodes: NodeLocks::new(stocks),
+            slots: locks,
+            opener: Mutex::new(opener),
+            spare: Mutex::new(spare),
+        })
     }
 
     /// The bytes of a page.

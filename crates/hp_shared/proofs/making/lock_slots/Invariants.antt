@@ -3,8 +3,8 @@ use Rattle.std.specs.Prelude.{replicate, vec_len, vec_capacity}
 use Rattle.hp_history.specs.History.{held_from}
 use Rattle.hp_shared.proofs.making.lock_slots.Given as goal
 
-abbrev pub invariant-loop-trail : goal.invariant-loop-trail
-invariant-loop-trail g l = record {
+abbrev pub invariant-loop-seat : goal.invariant-loop-seat
+invariant-loop-seat g l = record {
   all : vec_len l.locks + vec_len l.rest ≡ vec_len l.fn.trails;
   some : 0 < vec_len l.locks;
   room : vec_len l.fn.trails ≤ vec_capacity l.locks;
@@ -12,5 +12,5 @@ invariant-loop-trail g l = record {
   slots : l.seat.me ≡ (held_from (vec_len l.locks) (replicate (vec_len l.rest) []), []);
 }
 
-abbrev pub decreases-loop-trail : goal.decreases-loop-trail
-decreases-loop-trail g l = vec_len l.rest
+abbrev pub decreases-loop-seat : goal.decreases-loop-seat
+decreases-loop-seat g l = vec_len l.rest

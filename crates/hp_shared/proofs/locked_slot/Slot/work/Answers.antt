@@ -1,14 +1,15 @@
-use Rattle.std.proofs.Common.{◌≡◌, inr, true, false, None, sym, ap, ◌∙◌, subst}
+use Rattle.std.proofs.Common.{◌≡◌, inl, inr, true, false, None, refl, sym, ap, ◌∙◌, subst}
+use Rattle.std.proofs.lemmas.Bool.{false≢true}
 use Rattle.hp_history.specs.Sections.{IsEntered}
 use Rattle.hp_model.specs.beside.Told.{told_reply}
 use Rattle.hp_model.specs.text.Writing.{IsWithinLimits}
-use Rattle.hp_trail.specs.Keeping.{with_entry}
+use Rattle.hp_trail.specs.Keeping.{has_room, with_entry}
 use Rattle.hp_events.specs.Answered.{Went}
 use Rattle.hp_events.specs.Replies.{is_trace_full}
 use Rattle.hp_events.specs.SlotWork.{asked_event, full_for, has_maps_for, is_exit}
 use Rattle.hp_shared.specs.Slots.{IsActedOr, IsSlotEvent, SlotView}
-use Rattle.hp_shared.proofs.Acting.{acted_or, acted_plain, acted_small, event_entered}
-use Rattle.hp_shared.proofs.SlotsKept.{entry_asked, event_done, event_full, event_went, full_stays, may_fit, may_room, slot_noted, was_full, work_event, work_removes}
+use Rattle.hp_shared.proofs.Acting.{acted_or, acted_plain, acted_small, event_entered, unused}
+use Rattle.hp_shared.proofs.SlotsKept.{entry_asked, event_done, event_full, event_went, full_keeps, full_stays, may_fit, may_room, neither, slot_noted, was_full, work_event, work_removes}
 use Rattle.hp_shared.proofs.locked_slot.Slot.work.Given.{Over}
 use Rattle.hp_shared.proofs.locked_slot.Slot.work.Goals as goal
 use Rattle.hp_shared.proofs.locked_slot.Slot.work.Goals.{After-ask-told, After-note-receipt}
@@ -46,6 +47,28 @@ module _ (g : Over) (c : After-ask-told g) where
   mapped : has_maps_for c.args.work c.self.inside.mount ≡ true
   mapped = ap (λ (v : SlotView). has_maps_for c.args.work v.mount) c.self.view_is ∙ c.requires.has
 
+pub returns-then-not-may_note-clause-done : goal.returns-then-not-may_note-clause-done
+returns-then-not-may_note-clause-done g c =
+    let s = c.self.inside in
+    let room = (neither (is_exit c.args.work) (has_room false (g.T.Trail.left s.trail) (g.T.Trail.extra s.trail)) (sym c.may_note.ensures ∙ c.if-not-may_note.true)).1 in
+    (c.self.view_is, refl, g.met.D.SessionDoor.begins c.args.door.now c.requires.ready, inl (subst (λ (v : SlotView). has_room false v.left v.extra ≡ false) c.self.view_is room))
+
+pub returns-then-not-may_note-clause-entered : goal.returns-then-not-may_note-clause-entered
+returns-then-not-may_note-clause-entered g c =
+    unused g.D.SessionDoor.keeps g.D.SessionDoor.asked g.D.SessionDoor.mine c.args.door.now (g.met.D.SessionDoor.begins c.args.door.now c.requires.ready)
+
+pub returns-then-not-may_note-clause-keeps : goal.returns-then-not-may_note-clause-keeps
+returns-then-not-may_note-clause-keeps g c = λ full.
+    let t = c.self.inside.trail in
+    inl (full_keeps g.T.Trail.keeps (g.T.Trail.entries t) (g.T.Trail.left t) (g.T.Trail.extra t) (g.met.T.Trail.kept t) c.self.invariant.counted
+    (neither (is_exit c.args.work) (has_room false (g.T.Trail.left t) (g.T.Trail.extra t)) (sym c.may_note.ensures ∙ c.if-not-may_note.true)).1)
+
+pub returns-then-not-may_note-clause-exit : goal.returns-then-not-may_note-clause-exit
+returns-then-not-may_note-clause-exit g c = λ exit.
+    let t = c.self.inside.trail in
+    let no = (neither (is_exit c.args.work) (has_room false (g.T.Trail.left t) (g.T.Trail.extra t)) (sym c.may_note.ensures ∙ c.if-not-may_note.true)).0 in
+    absurd (false≢true (sym no ∙ exit))
+
 pub invariant_of-self-then-is_full : goal.invariant_of-self-then-is_full
 invariant_of-self-then-is_full g c =
     let a = (goal.at.invariant_of-self-then-is_full g c).After-ask-told in
@@ -79,6 +102,12 @@ returns-then-is_full-clause-done g c =
     (g.T.Trail.extra s.trail) s.mount (asked_event c.args.work) (told_reply c.ask-told.result)
     (g.D.SessionDoor.asked c.ask-told.new.door) c.ask-told.new.slot (acted g a) (sym c.is_full.ensures ∙ c.if-is_full.true))
 
+pub returns-then-is_full-clause-given : goal.returns-then-is_full-clause-given
+returns-then-is_full-clause-given g c = λ noted. absurd (false≢true (sym noted ∙ (sym c.is_full.ensures ∙ c.if-is_full.true)))
+
+pub returns-then-is_full-clause-exit : goal.returns-then-is_full-clause-exit
+returns-then-is_full-clause-exit g c = c.ask-told.ensures.exit
+
 pub returns-then-is_full-clause-entered : goal.returns-then-is_full-clause-entered
 returns-then-is_full-clause-entered g c = entered g (goal.at.returns-then-is_full-clause-entered g c).After-ask-told
 
@@ -94,6 +123,9 @@ note-receipt-requires-clause-plain g c =
     let s = c.self.inside in
     acted_plain (full g a) g.N.Naming.page_bytes s.number s.mount (asked_event c.args.work) (g.D.SessionDoor.asked c.ask-told.new.door) c.ask-told.new.slot
     (told_reply c.ask-told.result) (acted g a) c.requires.apart
+
+pub note-receipt-requires-clause-copies : goal.note-receipt-requires-clause-copies
+note-receipt-requires-clause-copies g c = c.requires.copies
 
 pub note-receipt-requires-clause-room : goal.note-receipt-requires-clause-room
 note-receipt-requires-clause-room g c =
@@ -148,3 +180,12 @@ returns-clause-entered g c = entered g (goal.at.returns-clause-entered g c).Afte
 
 pub returns-clause-limits : goal.returns-clause-limits
 returns-clause-limits g c = small g (goal.at.returns-clause-limits g c).After-ask-told
+
+pub returns-clause-keeps : goal.returns-clause-keeps
+returns-clause-keeps g c = λ full. absurd (false≢true (sym (sym c.is_full.ensures ∙ c.if-is_full.false) ∙ full))
+
+pub returns-clause-given : goal.returns-clause-given
+returns-clause-given g c = λ noted. c.note-receipt.ensures.given
+
+pub returns-clause-exit : goal.returns-clause-exit
+returns-clause-exit g c = c.ask-told.ensures.exit

@@ -8,7 +8,7 @@ use Rattle.hp_model.specs.declared.entry.SlotEntry.{SlotEntry}
 use Rattle.hp_events.specs.Replies.{is_trace_full}
 use Rattle.hp_shared.specs.Seated.{IsSeatedDone, SeatedView, first_of, run_in, session_left, slot_left}
 use Rattle.hp_shared.specs.Slots.{IsSlotEvent}
-use Rattle.hp_shared.proofs.SeatedKept.{event_seated, full_as, held, never_true, seat_next, seated_done, session_went, slot_went}
+use Rattle.hp_shared.proofs.SeatedKept.{event_seated, full_as, held, never_true, one_free, seat_next, seated_done, session_went, slot_went}
 use Rattle.hp_shared.proofs.SlotsKept.{mount_event}
 use Rattle.hp_shared.proofs.seated_slot.SeatedSlot.event_unnoted.Given.{Over}
 use Rattle.hp_shared.proofs.seated_slot.SeatedSlot.event_unnoted.Goals as goal
@@ -47,6 +47,9 @@ module _ (g : Over) (c : After-leave g) where
   session = ap (λ m. m.0) c.leave.ensures.told
       ∙ ap (λ h. h ∷ []) (session_went (as_event c.args.home c.args.event) (told_reply c.event_unnoted-told.result) c.into_mine-mine.result.me.0 done)
 
+pub join-requires-clause-one : goal.join-requires-clause-one
+join-requires-clause-one g c = one_free c.self.inside.slot.number c.self.inside.seat.views c.self.invariant.one
+
 pub invariant_of-self : goal.invariant_of-self
 invariant_of-self g c =
     let a = (goal.at.invariant_of-self g c).After-leave in
@@ -68,3 +71,6 @@ returns-clause-done g c =
     (event_seated g.T.Trail.keeps ⊥ g.N.Naming.page_bytes s c.event_unnoted-told.new.self (run g a) (as_event c.args.home c.args.event)
     (told_reply c.event_unnoted-told.result) c.event_unnoted-told.new.door.asked None c.args.mine.me.0 c.into_mine-mine.result.me.0 (entered g a) (does g a)
     (λ full. sym c.requires.unkept) c.self.invariant.kept c.leave.result.views (views g a) c.leave.new.mine.me.0 c.requires.session (session g a)))
+
+pub returns-clause-keeps : goal.returns-clause-keeps
+returns-clause-keeps g c = done g (goal.at.returns-clause-keeps g c).After-leave

@@ -4,7 +4,7 @@ use Rattle.hp_model.specs.declared.entry.SlotEntry.{SlotEntry}
 use Rattle.hp_model.specs.declared.event.SlotEvent.TheVariants.{Ls}
 use Rattle.hp_events.specs.Replies.{names_reply}
 use Rattle.hp_shared.specs.Seated.{IsSeatedEvent, SeatedView, first_of, run_in}
-use Rattle.hp_shared.proofs.SeatedKept.{event_seated, held, seat_next}
+use Rattle.hp_shared.proofs.SeatedKept.{event_seated, held, one_free, seat_next}
 use Rattle.hp_shared.proofs.seated_slot.SeatedSlot.names.Given.{Over}
 use Rattle.hp_shared.proofs.seated_slot.SeatedSlot.names.Goals as goal
 use Rattle.hp_shared.proofs.seated_slot.SeatedSlot.names.Goals.{After-leave_names}
@@ -15,6 +15,9 @@ module _ (g : Over) (c : After-leave_names g) where
 
   at_join : c.join.new.mine.me.0 ≡ held c.self.inside.slot.number run c.args.mine.now.me.0 None
   at_join = ap (λ m. m.0) c.join.ensures.both ∙ ap (λ h. h ∷ session_view c.args.mine.now.me.0 ∷ []) (ap (λ vs. free_slot (first_of vs)) c.self.invariant.one)
+
+pub join-requires-clause-one : goal.join-requires-clause-one
+join-requires-clause-one g c = one_free c.self.inside.slot.number c.self.inside.seat.views c.self.invariant.one
 
 pub invariant_of-self : goal.invariant_of-self
 invariant_of-self g c =

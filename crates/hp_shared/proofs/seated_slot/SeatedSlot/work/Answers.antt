@@ -6,7 +6,7 @@ use Rattle.hp_model.specs.declared.entry.SlotEntry.{SlotEntry}
 use Rattle.hp_events.specs.SlotWork.{asked_event, full_for, has_maps_for}
 use Rattle.hp_shared.specs.Seated.{IsSeatedEvent, SeatedView, first_of, run_in}
 use Rattle.hp_shared.specs.Slots.{IsSlotEvent}
-use Rattle.hp_shared.proofs.SeatedKept.{event_seated, full_as, held, seat_next, work_full_as}
+use Rattle.hp_shared.proofs.SeatedKept.{event_seated, full_as, held, one_free, seat_next, work_full_as}
 use Rattle.hp_shared.proofs.SlotsKept.{work_event}
 use Rattle.hp_shared.proofs.seated_slot.SeatedSlot.work.Given.{Over}
 use Rattle.hp_shared.proofs.seated_slot.SeatedSlot.work.Goals as goal
@@ -31,6 +31,9 @@ module _ (g : Over) (c : After-leave g) where
   does =
       full_as _ (full_for (g.T.Trail.keeps ≡ true) c.args.work) (work_full_as _ (g.T.Trail.keeps ≡ true) (λ f. sym c.requires.keeps ∙ f.1) c.args.work)
       g.N.Naming.page_bytes c.self.inside.slot c.work-told.new.self (asked_event c.args.work) (told_reply c.work-told.result.0) c.work-told.new.door.asked c.work-told.result.1 c.work-told.ensures.done
+
+pub join-requires-clause-one : goal.join-requires-clause-one
+join-requires-clause-one g c = one_free c.self.inside.slot.number c.self.inside.seat.views c.self.invariant.one
 
 pub invariant_of-self : goal.invariant_of-self
 invariant_of-self g c =

@@ -1,8 +1,9 @@
 use Rattle.std.proofs.Common.{◌≡◌, ◌==◌, ◌∙◌, ◌∷◌, ◌++◌, true, List, [], length, sym, ap, subst}
-use Rattle.std.specs.Prelude.{IfSome, vec_len}
+use Rattle.std.specs.Prelude.{IfSome, not, vec_len}
 use Rattle.hp_locked.specs.Views.{IsPoolTrail, IsTrailOf, frames_list}
 use Rattle.hp_model.specs.machine.Machine.{start}
 use Rattle.hp_model.specs.pool.PoolCounts.{Pool}
+use Rattle.hp_mount_door.specs.Door.{IsReady}
 use Rattle.hp_pool.specs.Sums.{idle_pool}
 use Rattle.hp_model.specs.declared.entry.TableEntry.{TableEntry}
 use Rattle.hp_model.specs.threads.PoolRun.{IsPoolRun}
@@ -85,3 +86,25 @@ returns-clause-ends g c = λ ordered.
 
 pub returns-clause-settled : goal.returns-clause-settled
 returns-clause-settled g c = start_is_settled (frames_list g.N.Naming.frames) c.args.self.page_size c.args.self.slots c.self.invariant.nodes c.self.invariant.small
+
+pub returns-clause-shape : goal.returns-clause-shape
+returns-clause-shape g c =
+    subst (λ (v : SharedView). g.N.Places.shape ≡ record { slots = v.slots; nodes = length (frames_list g.N.Naming.frames); looks = not (g.row.K == 1) }) c.self.view_is c.self.invariant.shape
+
+pub returns-clause-page : goal.returns-clause-page
+returns-clause-page g c = ap (λ (v : SharedView). v.page_size) c.self.view_is
+
+pub returns-clause-slots : goal.returns-clause-slots
+returns-clause-slots g c = c.take_slots-in_order.ensures.count ∙ ap (λ (v : SharedView). v.slots) c.self.view_is
+
+pub take_in-requires-clause-none : goal.take_in-requires-clause-none
+take_in-requires-clause-none g c = ap (λ m. m.1) c.into_parts-table.ensures.trail
+
+pub take_in-requires-2-clause-none : goal.take_in-requires-2-clause-none
+take_in-requires-2-clause-none g c = ap (λ m. m.1) c.take_in.ensures.view ∙ ap (λ m. m.1) c.into_parts-pool.ensures.seat
+
+pub returns-clause-ready : goal.returns-clause-ready
+returns-clause-ready g c = subst (λ (p : Pool). IsReady p) (sym (c.from_parts.ensures ∙ c.into_parts-pool.ensures.pool)) c.into_parts-pool.ensures.ready
+
+pub returns-clause-none : goal.returns-clause-none
+returns-clause-none g c = c.trails_in.ensures.none
