@@ -16,7 +16,8 @@ use Rattle.hp_laws.specs.Answers.{HasNoNames, lists_names}
 use Rattle.hp_laws.specs.Balance.{Always, left_by}
 use Rattle.hp_laws.proofs.promises.Listing.{names_are_listed}
 use Rattle.hp_laws.proofs.steps.Outcomes.{reply_of}
-use Rattle.hp_laws.proofs.promises.SmallReplies.{Small, slot_small, tells_all}
+use Rattle.hp_laws.proofs.promises.SmallReplies.{Small, slot_small}
+use Rattle.hp_laws.proofs.steps.Walk.{tells_all}
 use Rattle.hp_history.specs.declared.held.Held.{Held}
 use Rattle.hp_history.specs.Sections.{IsEntered}
 use Rattle.hp_locked.specs.Views.{HasAsked}
