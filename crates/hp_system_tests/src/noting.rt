@@ -1,11 +1,10 @@
 //! A mount through another door than the pool: one that notes what is taken, and has few places to note it.
-ghost use Rattle.std.specs.Prelude.{◌≡◌, ◌≤◌, length, ◌∷◌, []};
+ghost use Rattle.std.specs.Prelude.{◌≡◌, ◌≤◌, length};
 ghost use Rattle.hp_mount_door.specs.Door.{IsReady};
-ghost use Rattle.hp_nodes.specs.Ledgers.{AreFrames};
-ghost use Rattle.hp_pool.specs.Ledgers.{AreLedgers};
 
-use crate::calls::used;
+use crate::calls::{ends_empty, used};
 use crate::same::same;
+use crate::trial::{Trial, tried};
 use hp_model::answer::Answer;
 use hp_model::limits::Limits;
 use hp_model::naming::Naming;
@@ -19,11 +18,10 @@ use hp_pool::Blanks;
 use hp_store::{PageBatch, PageStore};
 use hp_subpool::Subpool;
 use std::alloc::Global;
-use std::marker::Brand;
 use std::process::Abort;
 
 // What was taken through a door, in pages: reservations, pages by a grant, and pages of reservations.
-#[derive(Clone, Copy, Debug, PartialEq, Eq)]
+#[derive(Clone, Copy, Drop, Debug, PartialEq, Eq)]
 struct Taken {
     reserves: u64,
     granted: u64,
@@ -266,56 +264,48 @@ fn a_page_by_a_grant<N: Naming, R: Abort>(rt: &R, alloc: Global, door: &mut Noti
     none.close();
 }
 
-fn run<N: Naming, R: Abort>(rt: &R, alloc: Global, blanks: Blanks)
-    requires ledgers { AreLedgers N.Naming blanks }
-    requires frames { AreFrames N.frames (4 ∷ 4 ∷ []) }
-    requires bytes { N.page_bytes ≡ 1024 }
-{
-    let mut pool = OwnPool::<N>::new(alloc, &[4, 4], blanks).expect(rt, "memory");
-    pool.set_overcommit(4);
-    let share = pool.share(Some(3), 0).expect(rt, "fits");
-    let mut mount = Mount::new(alloc, share, None);
-    let mut door = Noting {
-        pool,
-        places: 0,
-        taken: Taken {
-            reserves: 0,
-            granted: 0,
-            reserved: 0,
-        },
-    };
-    maps_in_turn(rt, &mut door, &mut mount);
-    accesses_in_turn(rt, &mut door, &mut mount);
-    preallocates_in_turn(rt, &mut door, &mut mount);
-    anon_in_turn(rt, &mut door, &mut mount);
-    a_page_by_a_grant(rt, alloc, &mut door);
-    mount.exit_maps(&mut door, 7);
-    match mount.close(&mut door) {
-        Ok(()) => {}
-        Err(_mount) => panic!(rt; "no task has maps"),
-    }
-    let Noting {
-        pool,
-        places: _,
-        taken,
-    } = door;
-    same!(rt;
-        taken,
-        Taken {
-            reserves: 3,
-            granted: 0,
-            reserved: 2
+// All of it, in turn. That is taken by then.
+impl Trial for Taken {
+    fn run<N: Naming, R: Abort>(self, rt: &R, alloc: Global, blanks: Blanks) {
+        let mut pool = OwnPool::<N>::new(alloc, &[4, 4], blanks).expect(rt, "memory");
+        pool.set_overcommit(4);
+        let share = pool.share(Some(3), 0).expect(rt, "fits");
+        let mut mount = Mount::new(alloc, share, None);
+        let mut door = Noting {
+            pool,
+            places: 0,
+            taken: Taken {
+                reserves: 0,
+                granted: 0,
+                reserved: 0,
+            },
+        };
+        maps_in_turn(rt, &mut door, &mut mount);
+        accesses_in_turn(rt, &mut door, &mut mount);
+        preallocates_in_turn(rt, &mut door, &mut mount);
+        anon_in_turn(rt, &mut door, &mut mount);
+        a_page_by_a_grant(rt, alloc, &mut door);
+        mount.exit_maps(&mut door, 7);
+        match mount.close(&mut door) {
+            Ok(()) => {}
+            Err(_mount) => panic!(rt; "no task has maps"),
         }
-    );
-    let counts = pool.close();
-    same!(rt;
-        [counts.total, counts.free, counts.rsvd, counts.surp],
-        [0, 0, 0, 0]
-    );
+        let Noting {
+            pool,
+            places: _,
+            taken,
+        } = door;
+        same!(rt; taken, self);
+        ends_empty(rt, pool);
+    }
 }
 
 #[test]
 fn a_mount_through_a_door_with_few_places(rt: HostRuntime) {
-    let blanks = Blanks::new(rt.alloc(), &[4, 4], 1024).expect(&rt, "memory");
-    run::<Brand, HostRuntime>(&rt, rt.alloc(), blanks);
+    let taken = Taken {
+        reserves: 3,
+        granted: 0,
+        reserved: 2,
+    };
+    tried(&rt, rt.alloc(), taken);
 }
