@@ -1,5 +1,6 @@
 //! A mount through another door than the pool: one that notes what is taken, and has few places to note it.
-ghost use Rattle.std.specs.Prelude.{◌≡◌, ◌≤◌, length};
+ghost use Rattle.std.specs.Prelude.{◌≡◌, ◌≤◌, length, IfErr};
+ghost use Rattle.hp_model.specs.declared.refusal.Refusal.TheVariants.{TraceFull};
 ghost use Rattle.hp_mount_door.specs.Door.{IsReady};
 
 use crate::calls::{ends_empty, used};
@@ -35,6 +36,21 @@ struct Noting<N: Naming> {
     taken: Taken,
 }
 
+impl<N: Naming> Noting<N> {
+    // A section takes a place.
+    fn note(&mut self) -> Result<(), Refusal>
+        ensures full { IfErr result (λ refusal. (refusal ≡ TraceFull)
+            × (self.new ≡ self.old) × (self.old.places ≡ 0)) }
+        ensures noted { self.new.pool ≡ self.old.pool }
+    {
+        if self.places == 0 {
+            return Err(Refusal::TraceFull);
+        }
+        self.places -= 1;
+        Ok(())
+    }
+}
+
 impl<N: Naming> PoolDoor<N> for Noting<N> {
     ghost use Rattle.hp_model.specs.pool.Pool.{section};
 
@@ -53,28 +69,19 @@ impl<N: Naming> PoolDoor<N> for Noting<N> {
         if asked == 0 {
             return PoolDoor::get(&mut self.pool, share, home, k);
         }
-        if self.places == 0 {
-            return Err(Refusal::TraceFull);
-        }
-        self.places -= 1;
+        self.note()?;
         self.taken.reserves = self.taken.reserves.saturating_add(asked);
         PoolDoor::get(&mut self.pool, share, home, k)
     }
 
     fn get_page(&mut self, share: &mut Subpool<N>, home: usize) -> Result<Page<N>, Refusal> {
-        if self.places == 0 {
-            return Err(Refusal::TraceFull);
-        }
-        self.places -= 1;
+        self.note()?;
         self.taken.granted = self.taken.granted.saturating_add(1);
         self.pool.get_page(share, home)
     }
 
     fn take_page(&mut self, share: &mut Subpool<N>, home: usize) -> Result<Page<N>, Refusal> {
-        if self.places == 0 {
-            return Err(Refusal::TraceFull);
-        }
-        self.places -= 1;
+        self.note()?;
         self.taken.reserved = self.taken.reserved.saturating_add(1);
         self.pool.take_page(share, home)
     }
@@ -86,10 +93,7 @@ impl<N: Naming> PoolDoor<N> for Noting<N> {
         count: u64,
         batch: &mut PageBatch<N>,
     ) -> Result<(), Refusal> {
-        if self.places == 0 {
-            return Err(Refusal::TraceFull);
-        }
-        self.places -= 1;
+        self.note()?;
         self.taken.granted = self.taken.granted.saturating_add(k);
         self.taken.reserved = self.taken.reserved.saturating_add(count.saturating_sub(k));
         PoolDoor::fill(&mut self.pool, share, k, count, batch)
@@ -100,10 +104,7 @@ impl<N: Naming> PoolDoor<N> for Noting<N> {
     }
 
     fn open(&mut self, page_bytes: u64, options: &[u8]) -> Result<(Subpool<N>, Limits), Refusal> {
-        if self.places == 0 {
-            return Err(Refusal::TraceFull);
-        }
-        self.places -= 1;
+        self.note()?;
         self.pool.open(page_bytes, options)
     }
 
@@ -113,10 +114,7 @@ impl<N: Naming> PoolDoor<N> for Noting<N> {
         page_bytes: u64,
         options: &[u8],
     ) -> Result<Option<u64>, Refusal> {
-        if self.places == 0 {
-            return Err(Refusal::TraceFull);
-        }
-        self.places -= 1;
+        self.note()?;
         PoolDoor::limits(&mut self.pool, share, page_bytes, options)
     }
 
