@@ -6,12 +6,14 @@ mod full;
 #[cfg(test)]
 mod gate;
 #[cfg(test)]
-mod histories;
-#[cfg(test)]
 mod lines;
 #[cfg(test)]
 mod over_tcp;
 #[cfg(test)]
 mod same;
+#[cfg(test)]
+mod serving;
+#[cfg(test)]
+mod start;
 #[cfg(test)]
 mod whole;

@@ -1,14 +1,12 @@
 //! One session's lines: where trails or its room are full, and with maps on several slots.
-ghost use Rattle.std.specs.Prelude.{◌≡◌, ◌≤◌, ◌∷◌, [], false};
-ghost use Rattle.hp_nodes.specs.Ledgers.{AreFrames};
-ghost use Rattle.hp_pool.specs.Ledgers.{AreLedgers};
+ghost use Rattle.std.specs.Prelude.{◌≤◌, false};
+ghost use Rattle.hp_server_tests.specs.Start.{IsStart};
 
-use crate::histories::history;
 use crate::same::same;
+use crate::start::{Start, TRACED};
 use hp_closing::{Closed, close, into_system};
-use hp_history::{Opened, Places};
+use hp_history::Places;
 use hp_model::naming::Naming;
-use hp_pool::Blanks;
 use hp_server::{Open, Waiting};
 use hp_serving::serve_session;
 use hp_shared::{Finished, Shared};
@@ -17,14 +15,20 @@ use std::marker::Brand;
 use std::process::Abort;
 use std::sync::Wait;
 
-// What a session leaves that is answered so to these lines, with room for so many receipts.
+// One session that is answered so to these lines.
+#[derive(Clone, Copy, Drop)]
+struct One<'a> {
+    lines: &'a [u8],
+    replies: &'a [u8],
+}
+
+// What the session leaves, with room for so many receipts.
 fn answered<N: Naming + Places + Send + Sync, R: Wait + Abort, const K: usize>(
     rt: &R,
     alloc: Global,
     shared: &Shared<N, K>,
     room: usize,
-    lines: &[u8],
-    replies: &[u8],
+    one: One<'_>,
 ) -> Finished<N, K> {
     let host = Waiting {
         rt,
@@ -32,35 +36,26 @@ fn answered<N: Naming + Places + Send + Sync, R: Wait + Abort, const K: usize>(
         gate: &Open,
         room,
     };
-    let mut input = lines;
+    let mut input = one.lines;
     let mut output = Vec::new(alloc);
     let told = serve_session(alloc, &&host, &mut input, &mut output).expect(rt, "memory");
-    same!(rt; output.as_slice(), replies);
+    same!(rt; output.as_slice(), one.replies);
     told
 }
 
-// What is left of a machine whose trails have so many places each, with the one session that is answered so.
+// What is left of a machine whose trails have so many places each, with the one session.
 fn closed<N: Naming + Places + Send + Sync, R: Wait + Abort>(
     rt: &R,
     alloc: Global,
-    blanks: Blanks,
-    history: Opened,
+    start: Start,
     places: usize,
-    lines: &[u8],
-    replies: &[u8],
+    one: One<'_>,
 ) -> Closed
-    requires ledgers { AreLedgers N.Naming blanks }
-    requires history { history.table.shared.table_id ≡ N.history }
-    requires shaped { history.shape ≡ N.shape }
-    requires shape { N.shape ≡ record { slots = 4; nodes = 2; looks = false } }
-    requires frames { AreFrames N.frames (4 ∷ 4 ∷ []) }
-    requires bytes { N.page_bytes ≡ 1024 }
+    requires start { IsStart N.Naming N.Places false start.blanks start.history }
     requires places { places ≤ 16777216 }
 {
-    let shared = Shared::<N, 1>::new(alloc, &[4, 4], 1024, 4, places, blanks, history).expect(
-        rt, "memory",
-    );
-    let told = answered(rt, alloc, &shared, 100, lines, replies);
+    let shared = start.machine::<N, R, TRACED>(rt, alloc, places);
+    let told = answered(rt, alloc, &shared, 100, one);
     let mut all = Vec::with_capacity(alloc, 1).expect(rt, "memory");
     all.push_reserved(told);
     let closed = close(alloc, shared, all).expect(rt, "memory");
@@ -68,26 +63,39 @@ fn closed<N: Naming + Places + Send + Sync, R: Wait + Abort>(
     closed
 }
 
+// The audit of a machine whose trails have so many places each, with one session that is answered so; how many pages it has,
+// and how many of them are free and reserved.
+fn left<R: Wait + Abort>(
+    rt: &R,
+    alloc: Global,
+    places: usize,
+    lines: &[u8],
+    replies: &[u8],
+) -> (Option<bool>, [u64; 3])
+    requires { places ≤ 16777216 }
+{
+    let start = Start::new(rt, alloc, false);
+    let left = closed::<Brand, R>(rt, alloc, start, places, One { lines, replies });
+    (
+        left.audit,
+        [left.counts.total, left.counts.free, left.counts.rsvd],
+    )
+}
+
 // Where a session has room for two receipts: how many entries the task table has.
 fn full_room<N: Naming + Places + Send + Sync, R: Wait + Abort>(
     rt: &R,
     alloc: Global,
-    blanks: Blanks,
-    history: Opened,
+    start: Start,
 ) -> usize
-    requires ledgers { AreLedgers N.Naming blanks }
-    requires history { history.table.shared.table_id ≡ N.history }
-    requires shaped { history.shape ≡ N.shape }
-    requires shape { N.shape ≡ record { slots = 4; nodes = 2; looks = false } }
-    requires frames { AreFrames N.frames (4 ∷ 4 ∷ []) }
-    requires bytes { N.page_bytes ≡ 1024 }
+    requires { IsStart N.Naming N.Places false start.blanks start.history }
 {
-    let shared = Shared::<N, 1>::new(alloc, &[4, 4], 1024, 4, 16, blanks, history).expect(
-        rt, "memory",
-    );
-    let lines = b"connect 1 0\nload 1 0 1 0 0 1\nattach 1\nconnect 2 0\n";
-    let replies = b"ok\nerror 23 TraceFull\nok 0\nerror 23 TraceFull\n";
-    let told = answered(rt, alloc, &shared, 2, lines, replies);
+    let shared = start.machine::<N, R, TRACED>(rt, alloc, 16);
+    let one = One {
+        lines: b"connect 1 0\nload 1 0 1 0 0 1\nattach 1\nconnect 2 0\n",
+        replies: b"ok\nerror 23 TraceFull\nok 0\nerror 23 TraceFull\n",
+    };
+    let told = answered(rt, alloc, &shared, 2, one);
     let (receipts, _seat) = told.into_parts();
     same!(rt; receipts.len(), 2);
     let (system, trails, ended) = into_system(shared);
@@ -102,57 +110,42 @@ fn full_room<N: Naming + Places + Send + Sync, R: Wait + Abort>(
 
 #[test]
 fn full_trails_of_tasks_and_of_the_pool(rt: HostRuntime) {
-    let blanks = Blanks::new(rt.alloc(), &[4, 4], 1024).expect(&rt, "memory");
-    let history = history(&rt, rt.alloc());
-    let left = closed::<Brand, HostRuntime>(
+    let left = left(
         &rt,
         rt.alloc(),
-        blanks,
-        history,
         2,
         b"connect 1 0\nconnect 2 0\nconnect 3 0\nnr 4\nnr 5\nnr 6\nmeminfo\nattach 2\nexit 1\nexit 1\n",
         b"ok\nok\nerror 23 TraceFull\nok 4\nok 5\nerror 23 TraceFull\nerror 23 TraceFull\nerror 23 TraceFull\n\
 ok\nerror 23 TraceFull\n",
     );
-    same!(rt; left.audit, Some(true));
-    same!(rt; left.counts.free, 5);
+    same!(rt; left, (Some(true), [5, 5, 0]));
 }
 
 #[test]
 fn full_trails_do_not_keep_a_page(rt: HostRuntime) {
-    let blanks = Blanks::new(rt.alloc(), &[4, 4], 1024).expect(&rt, "memory");
-    let history = history(&rt, rt.alloc());
-    let left = closed::<Brand, HostRuntime>(
+    let left = left(
         &rt,
         rt.alloc(),
-        blanks,
-        history,
         3,
         b"connect 1 0\nnr 2\ncreate 0 a\nmap 1 0 a 0 1 private\nstore 1 0 1 0 0 ff\nload 1 0 1 0 0 1\nls 0\n\
 unlink 0 a\nmeminfo\nexit 1\n",
         b"ok\nok 2\nok\nok 1\nok\nerror 23 TraceFull\nerror 23 TraceFull\n\
 error 23 TraceFull\nerror 23 TraceFull\nok\n",
     );
-    same!(rt; left.audit, Some(true));
-    same!(rt; [left.counts.total, left.counts.free, left.counts.rsvd], [2, 2, 0]);
+    same!(rt; left, (Some(true), [2, 2, 0]));
 }
 
 #[test]
 fn a_full_room_refuses_before_the_first_event(rt: HostRuntime) {
-    let blanks = Blanks::new(rt.alloc(), &[4, 4], 1024).expect(&rt, "memory");
-    let history = history(&rt, rt.alloc());
-    same!(rt; full_room::<Brand, HostRuntime>(&rt, rt.alloc(), blanks, history), 2);
+    let start = Start::new(&rt, rt.alloc(), false);
+    same!(rt; full_room::<Brand, HostRuntime>(&rt, rt.alloc(), start), 2);
 }
 
 #[test]
 fn a_fork_and_an_exit_pass_all_slots(rt: HostRuntime) {
-    let blanks = Blanks::new(rt.alloc(), &[4, 4], 1024).expect(&rt, "memory");
-    let history = history(&rt, rt.alloc());
-    let left = closed::<Brand, HostRuntime>(
+    let left = left(
         &rt,
         rt.alloc(),
-        blanks,
-        history,
         100,
         b"nr 8\nconnect 1 0\nmount 1 -\nmount 3 -\ncreate 0 a\ncreate 1 a\ncreate 3 a\n\
 map 1 0 a 0 1 private\nmap 1 1 a 0 1 private\nmap 1 3 a 0 1 private\n\
@@ -163,6 +156,5 @@ load 2 0 1 0 0 1\nload 2 1 1 0 0 1\nload 2 3 1 0 0 1\nexit 2\nstat 0 a\nstat 1 a
 ok\nok 1 0 0 2\nok 1 0 0 2\nok 1 0 0 2\nok\nok 1 0 0 1\nok 1 0 0 1\nok 1 0 0 1\n\
 ok a0\nok a1\nok a3\nok\nok 1 0 0 0\nok 1 0 0 0\nok 1 0 0 0\n",
     );
-    same!(rt; left.audit, Some(true));
-    same!(rt; [left.counts.total, left.counts.free, left.counts.rsvd], [8, 8, 0]);
+    same!(rt; left, (Some(true), [8, 8, 0]));
 }

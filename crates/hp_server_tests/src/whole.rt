@@ -1,13 +1,11 @@
 //! What the machine's audit says where sessions are missing, or out of their order.
-ghost use Rattle.std.specs.Prelude.{◌≡◌, ◌==◌, ◌∷◌, [], false, not, true};
-ghost use Rattle.hp_nodes.specs.Ledgers.{AreFrames};
-ghost use Rattle.hp_pool.specs.Ledgers.{AreLedgers};
+ghost use Rattle.std.specs.Prelude.{not};
+ghost use Rattle.hp_server_tests.specs.Start.{IsStart};
 
-use crate::histories::history_of;
 use crate::same::same;
-use hp_history::{Opened, Places};
+use crate::start::{Start, TRACED, UNTRACED};
+use hp_history::Places;
 use hp_model::naming::Naming;
-use hp_pool::Blanks;
 use hp_server::{Open, Served};
 use hp_serving::Machine;
 use hp_shared::Shared;
@@ -68,90 +66,52 @@ fn closed<M: Machine, R: Wait + Abort>(
     machine.close(alloc, all).expect(rt, "memory").audit
 }
 
-fn row<N: Naming + Places + Send + Sync, R: Wait + Abort, const K: usize>(
-    rt: &R,
-    alloc: Global,
-    blanks: Blanks,
-    history: Opened,
-    which: Which,
-) -> Option<bool>
-    requires ledgers { AreLedgers N.Naming blanks }
-    requires history { history.table.shared.table_id ≡ N.history }
-    requires shaped { history.shape ≡ N.shape }
-    requires shape { N.shape ≡ record { slots = 4; nodes = 2; looks = not (K == 1) } }
-    requires frames { AreFrames N.frames (4 ∷ 4 ∷ []) }
-    requires bytes { N.page_bytes ≡ 1024 }
-{
-    let machine = Served {
-        shared: Shared::<N, K>::new(alloc, &[4, 4], 1024, 4, ROOM, blanks, history).expect(
-            rt, "memory",
-        ),
+fn served<N: Naming + Places, const K: usize>(shared: Shared<N, K>) -> Served<N, Open, K> {
+    Served {
+        shared,
         gate: Open,
         room: ROOM,
-    };
-    closed(rt, alloc, machine, which)
+    }
 }
 
-fn row_traced<N: Naming + Places + Send + Sync, R: Wait + Abort>(
+fn audit_of<N: Naming + Places + Send + Sync, R: Wait + Abort>(
     rt: &R,
     alloc: Global,
-    blanks: Blanks,
-    history: Opened,
+    start: Start,
+    traced: bool,
     which: Which,
 ) -> Option<bool>
-    requires ledgers { AreLedgers N.Naming blanks }
-    requires history { history.table.shared.table_id ≡ N.history }
-    requires shaped { history.shape ≡ N.shape }
-    requires shape { N.shape ≡ record { slots = 4; nodes = 2; looks = false } }
-    requires frames { AreFrames N.frames (4 ∷ 4 ∷ []) }
-    requires bytes { N.page_bytes ≡ 1024 }
+    requires { IsStart N.Naming N.Places (not traced) start.blanks start.history }
 {
-    row::<N, R, 1>(rt, alloc, blanks, history, which)
+    if traced {
+        let machine = served(start.machine::<N, R, TRACED>(rt, alloc, ROOM));
+        closed(rt, alloc, machine, which)
+    } else {
+        let machine = served(start.machine::<N, R, UNTRACED>(rt, alloc, ROOM));
+        closed(rt, alloc, machine, which)
+    }
 }
 
-fn traced<R: Wait + Abort>(rt: &R, alloc: Global, which: Which) -> Option<bool> {
-    let blanks = Blanks::new(alloc, &[4, 4], 1024).expect(rt, "memory");
-    let history = history_of(rt, alloc, false);
-    row_traced::<Brand, R>(rt, alloc, blanks, history, which)
-}
-
-fn row_untraced<N: Naming + Places + Send + Sync, R: Wait + Abort>(
-    rt: &R,
-    alloc: Global,
-    blanks: Blanks,
-    history: Opened,
-    which: Which,
-) -> Option<bool>
-    requires ledgers { AreLedgers N.Naming blanks }
-    requires history { history.table.shared.table_id ≡ N.history }
-    requires shaped { history.shape ≡ N.shape }
-    requires shape { N.shape ≡ record { slots = 4; nodes = 2; looks = true } }
-    requires frames { AreFrames N.frames (4 ∷ 4 ∷ []) }
-    requires bytes { N.page_bytes ≡ 1024 }
-{
-    row::<N, R, 0>(rt, alloc, blanks, history, which)
-}
-
-fn untraced<R: Wait + Abort>(rt: &R, alloc: Global, which: Which) -> Option<bool> {
-    let blanks = Blanks::new(alloc, &[4, 4], 1024).expect(rt, "memory");
-    let history = history_of(rt, alloc, true);
-    row_untraced::<Brand, R>(rt, alloc, blanks, history, which)
+// The audit of a machine with a trace, or without one.
+fn audit<R: Wait + Abort>(rt: &R, alloc: Global, traced: bool, which: Which) -> Option<bool> {
+    let start = Start::new(rt, alloc, !traced);
+    audit_of::<Brand, R>(rt, alloc, start, traced, which)
 }
 
 #[test]
 fn the_audit_is_that_of_all_sessions(rt: HostRuntime) {
-    same!(rt; traced(&rt, rt.alloc(), Which::Both), Some(true));
-    same!(rt; untraced(&rt, rt.alloc(), Which::Both), None);
+    same!(rt; audit(&rt, rt.alloc(), true, Which::Both), Some(true));
+    same!(rt; audit(&rt, rt.alloc(), false, Which::Both), None);
 }
 
 #[test]
 fn the_audit_fails_where_a_session_is_left_out(rt: HostRuntime) {
-    same!(rt; traced(&rt, rt.alloc(), Which::First), Some(false));
-    same!(rt; untraced(&rt, rt.alloc(), Which::First), Some(false));
+    same!(rt; audit(&rt, rt.alloc(), true, Which::First), Some(false));
+    same!(rt; audit(&rt, rt.alloc(), false, Which::First), Some(false));
 }
 
 #[test]
 fn the_audit_fails_where_sessions_are_swapped(rt: HostRuntime) {
-    same!(rt; traced(&rt, rt.alloc(), Which::Swapped), Some(false));
-    same!(rt; untraced(&rt, rt.alloc(), Which::Swapped), Some(false));
+    same!(rt; audit(&rt, rt.alloc(), true, Which::Swapped), Some(false));
+    same!(rt; audit(&rt, rt.alloc(), false, Which::Swapped), Some(false));
 }

@@ -1,6 +1,7 @@
 //! Readers and writers that fail.
 
 use hp_wire::ends::{Sink, Source};
+use std::alloc::Global;
 use std::io;
 use std::io::{Read, Write};
 
@@ -8,8 +9,18 @@ use std::io::{Read, Write};
 #[derive(Drop)]
 pub struct Reader<'a> {
     pub rest: &'a [u8],
-    pub at_most: usize,
-    pub reads: u64,
+    at_most: usize,
+    reads: u64,
+}
+
+impl<'a> Reader<'a> {
+    pub fn new(rest: &'a [u8], at_most: usize, reads: u64) -> Reader<'a> {
+        Reader {
+            rest,
+            at_most,
+            reads,
+        }
+    }
 }
 
 impl Read for Reader<'_> {
@@ -33,8 +44,18 @@ impl Source for Reader<'_> {
 #[derive(Drop)]
 pub struct Writer {
     pub text: Vec<u8>,
-    pub at_most: usize,
-    pub writes: u64,
+    at_most: usize,
+    writes: u64,
+}
+
+impl Writer {
+    pub fn new(alloc: Global, at_most: usize, writes: u64) -> Writer {
+        Writer {
+            text: Vec::new(alloc),
+            at_most,
+            writes,
+        }
+    }
 }
 
 impl Write for Writer {

@@ -12,6 +12,8 @@ mod machine;
 #[cfg(test)]
 mod over_tcp;
 #[cfg(test)]
+mod plain;
+#[cfg(test)]
 mod runs;
 #[cfg(test)]
 mod same;

@@ -1,13 +1,11 @@
 //! A small machine that many sessions share.
 ghost use Rattle.std.specs.Prelude.{◌≡◌, ℕ, length, IfOk};
-ghost use Rattle.hp_model.specs.beside.Told.{told_reply};
-ghost use Rattle.hp_model.specs.text.Writing.{IsWithinLimits};
 ghost use Rattle.hp_serving.specs.Ended.{IsOfMachine};
 
-use hp_model::answer::{Counts, Reply};
+use crate::plain::{Plain, Tells};
+use hp_model::answer::Counts;
 use hp_model::refusal::Refusal;
-use hp_model::service::{Access, Service};
-use hp_model::step::{Intent, Step};
+use hp_model::step::Step;
 use hp_model::told::Told;
 use hp_serving::{Closed, Host, Machine, serve_session};
 use hp_wire::ends::{Sink, Source};
@@ -34,13 +32,18 @@ impl Small {
             audit,
         }
     }
+
+    /// The machine, with what its sessions wait by.
+    pub fn host<'x, R>(&'x self, rt: &'x R) -> Waiting<'x, R> {
+        Waiting { rt, machine: self }
+    }
 }
 
 /// The machine, with what its sessions wait by.
 #[derive(Drop)]
 pub struct Waiting<'x, R> {
-    pub rt: &'x R,
-    pub machine: &'x Small,
+    rt: &'x R,
+    machine: &'x Small,
 }
 
 /// A session, with how many calls it made.
@@ -65,7 +68,7 @@ pub struct Calls {
     pub made: u64,
 }
 
-impl<'x, R: Wait> Session<'x, R> {
+impl<'x, R: Wait> Tells for Session<'x, R> {
     fn note(&mut self) {
         self.made = self.made.saturating_add(1);
         let mut value = self.machine.calls.lock(self.rt);
@@ -73,70 +76,21 @@ impl<'x, R: Wait> Session<'x, R> {
         *calls = calls.saturating_add(1);
     }
 
-    fn told(&mut self, step: &Step<'_>) -> Result<Told<'static>, Refusal>
-        ensures { IsWithinLimits (told_reply result) }
-    {
-        self.note();
+    fn told(&self, step: &Step<'_>) -> Result<Told<'static>, Refusal> {
         match step {
             Step::Nr { pages } => Ok(Told::Number(*pages)),
             Step::Connect { .. } | Step::Create { .. } => Ok(Told::Done),
             _ => Err(Refusal::NoSuchSlot),
         }
     }
-}
 
-impl<'x, R: Wait> Service for Session<'x, R> {
-    ghost may_answer = { λ old step reply new. Unit {0} };
-
-    ghost page = { λ session. 1024 };
-
-    ghost is_ready = { λ session. Unit {0} };
-
-    fn call(&mut self, step: &Step<'_>) -> Reply {
-        match self.told(step) {
-            Ok(told) => Ok(told.into_answer()),
-            Err(refusal) => Err(refusal),
-        }
-    }
-
-    fn answer<'a>(
-        &mut self,
-        step: &Step<'_>,
-        _room: &'a mut [u8],
-        reply: &mut Result<Told<'a>, Refusal>,
-    ) {
-        *reply = self.told(step);
-    }
-
-    fn load<'a>(
-        &mut self,
-        _access: &Access,
-        _count: u64,
-        room: &'a mut [u8],
-    ) -> Result<&'a [u8], Refusal> {
-        self.note();
-        let (front, _) = room.split_at_mut(2);
-        front.copy_from_slice(&[255, 0]);
-        Ok(front)
-    }
-
-    fn store(&mut self, _access: &Access, _bytes: &[u8]) -> Result<(), Refusal> {
-        self.note();
+    fn fault(&self) -> Result<(), Refusal> {
         Ok(())
-    }
-
-    fn fault(&mut self, _access: &Access, _intent: Intent) -> Result<(), Refusal> {
-        self.note();
-        Ok(())
-    }
-
-    fn page_bytes(&self) -> u64 {
-        1024
     }
 }
 
 impl<'x, R: Wait> Host for Waiting<'x, R> {
-    type Session = Session<'x, R>;
+    type Session = Plain<Session<'x, R>>;
 
     type Told = Calls;
 
@@ -144,7 +98,7 @@ impl<'x, R: Wait> Host for Waiting<'x, R> {
 
     ghost was_told = { λ made told. told.made ≡ made };
 
-    fn open(&self, _alloc: Global) -> Result<Session<'x, R>, AllocError> {
+    fn open(&self, _alloc: Global) -> Result<Plain<Session<'x, R>>, AllocError> {
         let mut value = self.machine.opens.lock(self.rt);
         let opens: &mut u64 = &mut value;
         if *opens == 0 {
@@ -152,18 +106,20 @@ impl<'x, R: Wait> Host for Waiting<'x, R> {
         }
         let number = self.machine.most.saturating_sub(*opens) as usize;
         *opens -= 1;
-        Ok(Session {
-            rt: self.rt,
-            machine: self.machine,
-            number,
-            made: 0,
+        Ok(Plain {
+            by: Session {
+                rt: self.rt,
+                machine: self.machine,
+                number,
+                made: 0,
+            },
         })
     }
 
-    fn finish(session: Session<'x, R>) -> Calls {
+    fn finish(session: Plain<Session<'x, R>>) -> Calls {
         Calls {
-            number: session.number,
-            made: session.made,
+            number: session.by.number,
+            made: session.by.made,
         }
     }
 }
@@ -204,8 +160,7 @@ impl Machine for Small {
         reader: &mut A,
         writer: &mut B,
     ) -> Result<Calls, AllocError> {
-        let host = Waiting { rt, machine: self };
-        serve_session(alloc, &host, reader, writer)
+        serve_session(alloc, &self.host(rt), reader, writer)
     }
 
     fn number(told: &Calls) -> usize {

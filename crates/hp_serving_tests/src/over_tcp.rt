@@ -5,6 +5,7 @@ use crate::in_memory::Onto;
 use crate::machine::Small;
 use crate::same::same;
 use hp_serving::{Listening, serve_sessions};
+use hp_wire::ends::Sink;
 use std::alloc::Global;
 use std::io;
 use std::io::{Read, Write};
@@ -40,6 +41,27 @@ fn clients<R: Net<Stream = TcpStream>>(rt: &R, at: SocketAddr) -> io::Result<(u8
     Ok((bad[6], ok[1]))
 }
 
+// The small machine serves so many sessions of these connections on two workers: the status.
+fn serves<R: Threads + Wait + Clock + Sync, P: Sink>(
+    rt: &R,
+    alloc: Global,
+    connections: &mut Listening<'_, R, P>,
+    sessions: usize,
+) -> u8 {
+    let mut output = Writer::new(alloc, 1000, 9);
+    let mut faults = Writer::new(alloc, 1000, 9);
+    serve_sessions(
+        rt,
+        alloc,
+        Small::new(9, Some(true)),
+        connections,
+        sessions,
+        2,
+        &mut output,
+        &mut faults,
+    )
+}
+
 fn served<R: Threads + Wait + Clock + Net<Stream = TcpStream, Listener = TcpListener> + Sync>(
     rt: &R,
     alloc: Global,
@@ -48,32 +70,8 @@ fn served<R: Threads + Wait + Clock + Net<Stream = TcpStream, Listener = TcpList
     let at = listener.local_addr().ok()?;
     let port = Mutex::new(Vec::new(alloc));
     let mut connections = Listening::new(rt, alloc, listener, Onto { rt, text: &port });
-    let mut output = Writer {
-        text: Vec::new(alloc),
-        at_most: 1000,
-        writes: 9,
-    };
-    let mut faults = Writer {
-        text: Vec::new(alloc),
-        at_most: 1000,
-        writes: 9,
-    };
-    let (told, status) = join(
-        rt,
-        || clients(rt, at),
-        || {
-            serve_sessions(
-                rt,
-                alloc,
-                Small::new(9, Some(true)),
-                &mut connections,
-                4,
-                2,
-                &mut output,
-                &mut faults,
-            )
-        },
-    );
+    let serving = || serves(rt, alloc, &mut connections, 4);
+    let (told, status) = join(rt, || clients(rt, at), serving);
     let (bad, ok) = told.ok()?;
     drop(connections);
     let said = port.into_inner();
@@ -102,24 +100,8 @@ fn outlasted<R: Threads + Wait + Clock + Net<Stream = TcpStream, Listener = TcpL
     let listener = TcpListener::bind(rt, "127.0.0.1:0").ok()?;
     let at = listener.local_addr().ok()?;
     let mut connections = Listening::new(rt, alloc, listener, Vec::new(alloc));
-    let mut output = Vec::new(alloc);
-    let mut faults = Vec::new(alloc);
-    let (told, status) = join(
-        rt,
-        || outlasts(rt, at),
-        || {
-            serve_sessions(
-                rt,
-                alloc,
-                Small::new(9, Some(true)),
-                &mut connections,
-                2,
-                2,
-                &mut output,
-                &mut faults,
-            )
-        },
-    );
+    let serving = || serves(rt, alloc, &mut connections, 2);
+    let (told, status) = join(rt, || outlasts(rt, at), serving);
     told.ok()?;
     Some(status)
 }

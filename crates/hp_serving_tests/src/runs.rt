@@ -23,7 +23,7 @@ const REPLIES: &[u8] =
 fn replies_to(alloc: Global, input: &[u8]) -> Result<(Vec<u8>, u64), RunFault> {
     let mut rest = input;
     let mut text = Vec::new(alloc);
-    let mut sample = Sample { calls: 0 };
+    let mut sample = Sample::new();
     let count = run_lines(alloc, &mut rest, &mut text, &mut sample)?;
     Ok((text, count))
 }
@@ -97,18 +97,14 @@ fn refuses_long_lines(rt: HostRuntime) -> Result<(), Fail> {
 fn answers_what_ended_before_a_read_fails(rt: HostRuntime) -> Result<(), Fail> {
     let alloc = rt.alloc();
     for reads in 0..14u64 {
-        let mut reader = Reader {
-            rest: SCRIPT,
-            at_most: 7,
-            reads,
-        };
+        let mut reader = Reader::new(SCRIPT, 7, reads);
         let mut text = Vec::new(alloc);
-        let mut sample = Sample { calls: 0 };
+        let mut sample = Sample::new();
         let result = run_lines(alloc, &mut reader, &mut text, &mut sample);
         same!(rt; result, Err(RunFault::Read), "at {reads}");
         let read = SCRIPT.len() - reader.rest.len().min(SCRIPT.len());
         let ended = SCRIPT[..read].iter().filter(|b| **b == b'\n').count();
-        same!(rt; sample.calls, ended as u64, "at {reads}");
+        same!(rt; sample.by.calls, ended as u64, "at {reads}");
         same!(rt; REPLIES.starts_with(text.as_slice()), true, "at {reads}");
         same!(rt; ended == 0 || text.ends_with(b"\n"), true, "at {reads}");
     }
@@ -120,12 +116,8 @@ fn writes_a_front_before_a_write_fails(rt: HostRuntime) -> Result<(), Fail> {
     let alloc = rt.alloc();
     for writes in 0..40u64 {
         let mut rest = SCRIPT;
-        let mut writer = Writer {
-            text: Vec::new(alloc),
-            at_most: 5,
-            writes,
-        };
-        let mut sample = Sample { calls: 0 };
+        let mut writer = Writer::new(alloc, 5, writes);
+        let mut sample = Sample::new();
         let result = run_lines(alloc, &mut rest, &mut writer, &mut sample);
         same!(rt; result, Err(RunFault::Write), "at {writes}");
         same!(rt; writer.text.len() as u64, 5 * writes);
@@ -137,7 +129,7 @@ fn writes_a_front_before_a_write_fails(rt: HostRuntime) -> Result<(), Fail> {
 #[test]
 fn runs_over_a_sure_writer(rt: HostRuntime) -> Result<(), Fail> {
     let mut rest = SCRIPT;
-    let mut sample = Sample { calls: 0 };
+    let mut sample = Sample::new();
     let count = run_lines(rt.alloc(), &mut rest, &mut Nowhere, &mut sample)?;
     same!(rt; count, 11);
     Ok(())
@@ -152,7 +144,7 @@ fn answer_into(alloc: Global, buffer: &mut [u8]) -> Result<u64, RunFault>
 {
     let mut rest = SCRIPT;
     let mut replies = FixedBuffer::new(buffer);
-    let mut sample = Sample { calls: 0 };
+    let mut sample = Sample::new();
     match run_lines(alloc, &mut rest, &mut replies, &mut sample) {
         Ok(_) => Ok(replies.count()),
         Err(fault) => Err(fault),
@@ -212,7 +204,7 @@ fn all_replies_are_written_before_the_next_read(rt: HostRuntime) -> Result<(), F
         hangs: false,
     };
     let mut replies = Counter { written: &written };
-    let mut sample = Sample { calls: 0 };
+    let mut sample = Sample::new();
     let count = run_lines(rt.alloc(), &mut client, &mut replies, &mut sample)?;
     same!(rt; count, 7);
     assert!(rt; !client.hangs);

@@ -6,6 +6,7 @@ use crate::machine::Small;
 use crate::same::same;
 use hp_serving::serve_sessions;
 use std::alloc::{AllocError, Global};
+use std::process::Abort;
 use std::sync::{Mutex, Wait};
 use std::test::Fail;
 use std::thread::Threads;
@@ -23,14 +24,6 @@ struct Outcome {
     replies: Vec<u8>,
     output: Vec<u8>,
     faults: Vec<u8>,
-}
-
-fn writer(alloc: Global, writes: u64) -> Writer {
-    Writer {
-        text: Vec::new(alloc),
-        at_most: 1000,
-        writes,
-    }
 }
 
 // Serves so many sessions of these, to an output that fails after some writes.
@@ -52,8 +45,8 @@ fn ran<R: Threads + Wait + Sync>(
         sent: 0,
         announces,
     };
-    let mut output = writer(alloc, writes);
-    let mut faults = writer(alloc, 9);
+    let mut output = Writer::new(alloc, 1000, writes);
+    let mut faults = Writer::new(alloc, 1000, 9);
     let status = serve_sessions(
         rt,
         alloc,
@@ -89,14 +82,27 @@ fn closed(alloc: Global, audit: &str, calls: &str, told: &str) -> Result<Vec<u8>
     Ok(text)
 }
 
+// This was printed at the end.
+fn has_printed<R: Abort>(
+    rt: &R,
+    alloc: Global,
+    ran: &Outcome,
+    audit: &str,
+    calls: &str,
+    told: &str,
+) -> Result<(), AllocError> {
+    let wanted = closed(alloc, audit, calls, told)?;
+    same!(rt; ran.output.as_slice(), wanted.as_slice());
+    Ok(())
+}
+
 #[test]
 fn three_sessions_on_two_workers(rt: HostRuntime) -> Result<(), Fail> {
     let alloc = rt.alloc();
     let ran = ran(&rt, alloc, Small::new(9, Some(true)), &ALL, true, 3, 2, 9);
     same!(rt; ran.status, 0);
     same!(rt; ran.replies.len(), 5 + 8 + 17 + 5 + 3 + 5);
-    let wanted = closed(alloc, "audit ok\n", "5", "3")?;
-    same!(rt; ran.output.as_slice(), wanted.as_slice());
+    has_printed(&rt, alloc, &ran, "audit ok\n", "5", "3")?;
     assert!(rt; ran.faults.is_empty());
     Ok(())
 }
@@ -106,8 +112,7 @@ fn no_trail_no_audit(rt: HostRuntime) -> Result<(), Fail> {
     let alloc = rt.alloc();
     let ran = ran(&rt, alloc, Small::new(9, None), &ALL, true, 1, 64, 9);
     same!(rt; ran.status, 0);
-    let wanted = closed(alloc, "", "2", "1")?;
-    same!(rt; ran.output.as_slice(), wanted.as_slice());
+    has_printed(&rt, alloc, &ran, "", "2", "1")?;
     Ok(())
 }
 
@@ -116,8 +121,7 @@ fn a_failed_audit_is_3(rt: HostRuntime) -> Result<(), Fail> {
     let alloc = rt.alloc();
     let printed = ran(&rt, alloc, Small::new(9, Some(false)), &ALL, true, 3, 1, 9);
     same!(rt; printed.status, 3);
-    let wanted = closed(alloc, "audit failed\n", "5", "3")?;
-    same!(rt; printed.output.as_slice(), wanted.as_slice());
+    has_printed(&rt, alloc, &printed, "audit failed\n", "5", "3")?;
     assert!(rt; printed.faults.is_empty());
     let unprinted = ran(&rt, alloc, Small::new(9, Some(false)), &ALL, true, 3, 1, 0);
     same!(rt; unprinted.status, 3);
@@ -129,32 +133,12 @@ fn a_failed_audit_is_3(rt: HostRuntime) -> Result<(), Fail> {
 fn those_that_cannot_be_opened_count_as_ended(rt: HostRuntime) -> Result<(), Fail> {
     let alloc = rt.alloc();
     let inputs = [None, Some(b"nr 4\n".as_slice()), None, Some(b"nr 4\n")];
-    let unopened = ran(
-        &rt,
-        alloc,
-        Small::new(9, Some(true)),
-        &inputs,
-        true,
-        4,
-        2,
-        9,
-    );
-    same!(rt; unopened.status, 0);
-    let wanted = closed(alloc, "audit ok\n", "2", "2")?;
-    same!(rt; unopened.output.as_slice(), wanted.as_slice());
-    let refused = ran(
-        &rt,
-        alloc,
-        Small::new(1, Some(true)),
-        &inputs,
-        true,
-        4,
-        2,
-        9,
-    );
-    same!(rt; refused.status, 0);
-    let wanted = closed(alloc, "audit ok\n", "1", "1")?;
-    same!(rt; refused.output.as_slice(), wanted.as_slice());
+    for (opens, calls) in [(9u64, "2"), (1, "1")] {
+        let machine = Small::new(opens, Some(true));
+        let ran = ran(&rt, alloc, machine, &inputs, true, 4, 2, 9);
+        same!(rt; ran.status, 0, "of {opens}");
+        has_printed(&rt, alloc, &ran, "audit ok\n", calls, calls)?;
+    }
     Ok(())
 }
 
@@ -180,16 +164,8 @@ fn faults_of_the_program(rt: HostRuntime) -> Result<(), Fail> {
     assert!(rt; unsaid.replies.is_empty());
     same!(rt; unsaid.faults.as_slice(), b"hugetlbd: write failed\n".as_slice());
     for writes in 0..2u64 {
-        let cut = ran(
-            &rt,
-            alloc,
-            Small::new(9, Some(true)),
-            &ALL,
-            true,
-            3,
-            2,
-            writes,
-        );
+        let machine = Small::new(9, Some(true));
+        let cut = ran(&rt, alloc, machine, &ALL, true, 3, 2, writes);
         same!(rt; cut.status, 1);
         same!(rt; cut.output.len(), 9 * writes as usize);
         same!(rt; cut.faults.as_slice(), b"hugetlbd: write failed\n".as_slice());

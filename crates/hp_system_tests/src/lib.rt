@@ -11,3 +11,5 @@ mod noting;
 mod same;
 #[cfg(test)]
 mod system;
+#[cfg(test)]
+mod trial;

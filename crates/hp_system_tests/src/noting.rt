@@ -1,11 +1,11 @@
 //! A mount through another door than the pool: one that notes what is taken, and has few places to note it.
-ghost use Rattle.std.specs.Prelude.{◌≡◌, ◌≤◌, length, ◌∷◌, []};
+ghost use Rattle.std.specs.Prelude.{◌≡◌, ◌≤◌, length, IfErr};
+ghost use Rattle.hp_model.specs.declared.refusal.Refusal.TheVariants.{TraceFull};
 ghost use Rattle.hp_mount_door.specs.Door.{IsReady};
-ghost use Rattle.hp_nodes.specs.Ledgers.{AreFrames};
-ghost use Rattle.hp_pool.specs.Ledgers.{AreLedgers};
 
-use crate::calls::used;
+use crate::calls::{ends_empty, used};
 use crate::same::same;
+use crate::trial::{Trial, tried};
 use hp_model::answer::Answer;
 use hp_model::limits::Limits;
 use hp_model::naming::Naming;
@@ -19,11 +19,10 @@ use hp_pool::Blanks;
 use hp_store::{PageBatch, PageStore};
 use hp_subpool::Subpool;
 use std::alloc::Global;
-use std::marker::Brand;
 use std::process::Abort;
 
 // What was taken through a door, in pages: reservations, pages by a grant, and pages of reservations.
-#[derive(Clone, Copy, Debug, PartialEq, Eq)]
+#[derive(Clone, Copy, Drop, Debug, PartialEq, Eq)]
 struct Taken {
     reserves: u64,
     granted: u64,
@@ -35,6 +34,21 @@ struct Noting<N: Naming> {
     pool: OwnPool<N>,
     places: u64,
     taken: Taken,
+}
+
+impl<N: Naming> Noting<N> {
+    // A section takes a place.
+    fn note(&mut self) -> Result<(), Refusal>
+        ensures full { IfErr result (λ refusal. (refusal ≡ TraceFull)
+            × (self.new ≡ self.old) × (self.old.places ≡ 0)) }
+        ensures noted { self.new.pool ≡ self.old.pool }
+    {
+        if self.places == 0 {
+            return Err(Refusal::TraceFull);
+        }
+        self.places -= 1;
+        Ok(())
+    }
 }
 
 impl<N: Naming> PoolDoor<N> for Noting<N> {
@@ -55,28 +69,19 @@ impl<N: Naming> PoolDoor<N> for Noting<N> {
         if asked == 0 {
             return PoolDoor::get(&mut self.pool, share, home, k);
         }
-        if self.places == 0 {
-            return Err(Refusal::TraceFull);
-        }
-        self.places -= 1;
+        self.note()?;
         self.taken.reserves = self.taken.reserves.saturating_add(asked);
         PoolDoor::get(&mut self.pool, share, home, k)
     }
 
     fn get_page(&mut self, share: &mut Subpool<N>, home: usize) -> Result<Page<N>, Refusal> {
-        if self.places == 0 {
-            return Err(Refusal::TraceFull);
-        }
-        self.places -= 1;
+        self.note()?;
         self.taken.granted = self.taken.granted.saturating_add(1);
         self.pool.get_page(share, home)
     }
 
     fn take_page(&mut self, share: &mut Subpool<N>, home: usize) -> Result<Page<N>, Refusal> {
-        if self.places == 0 {
-            return Err(Refusal::TraceFull);
-        }
-        self.places -= 1;
+        self.note()?;
         self.taken.reserved = self.taken.reserved.saturating_add(1);
         self.pool.take_page(share, home)
     }
@@ -88,10 +93,7 @@ impl<N: Naming> PoolDoor<N> for Noting<N> {
         count: u64,
         batch: &mut PageBatch<N>,
     ) -> Result<(), Refusal> {
-        if self.places == 0 {
-            return Err(Refusal::TraceFull);
-        }
-        self.places -= 1;
+        self.note()?;
         self.taken.granted = self.taken.granted.saturating_add(k);
         self.taken.reserved = self.taken.reserved.saturating_add(count.saturating_sub(k));
         PoolDoor::fill(&mut self.pool, share, k, count, batch)
@@ -102,10 +104,7 @@ impl<N: Naming> PoolDoor<N> for Noting<N> {
     }
 
     fn open(&mut self, page_bytes: u64, options: &[u8]) -> Result<(Subpool<N>, Limits), Refusal> {
-        if self.places == 0 {
-            return Err(Refusal::TraceFull);
-        }
-        self.places -= 1;
+        self.note()?;
         self.pool.open(page_bytes, options)
     }
 
@@ -115,10 +114,7 @@ impl<N: Naming> PoolDoor<N> for Noting<N> {
         page_bytes: u64,
         options: &[u8],
     ) -> Result<Option<u64>, Refusal> {
-        if self.places == 0 {
-            return Err(Refusal::TraceFull);
-        }
-        self.places -= 1;
+        self.note()?;
         PoolDoor::limits(&mut self.pool, share, page_bytes, options)
     }
 
@@ -266,56 +262,48 @@ fn a_page_by_a_grant<N: Naming, R: Abort>(rt: &R, alloc: Global, door: &mut Noti
     none.close();
 }
 
-fn run<N: Naming, R: Abort>(rt: &R, alloc: Global, blanks: Blanks)
-    requires ledgers { AreLedgers N.Naming blanks }
-    requires frames { AreFrames N.frames (4 ∷ 4 ∷ []) }
-    requires bytes { N.page_bytes ≡ 1024 }
-{
-    let mut pool = OwnPool::<N>::new(alloc, &[4, 4], blanks).expect(rt, "memory");
-    pool.set_overcommit(4);
-    let share = pool.share(Some(3), 0).expect(rt, "fits");
-    let mut mount = Mount::new(alloc, share, None);
-    let mut door = Noting {
-        pool,
-        places: 0,
-        taken: Taken {
-            reserves: 0,
-            granted: 0,
-            reserved: 0,
-        },
-    };
-    maps_in_turn(rt, &mut door, &mut mount);
-    accesses_in_turn(rt, &mut door, &mut mount);
-    preallocates_in_turn(rt, &mut door, &mut mount);
-    anon_in_turn(rt, &mut door, &mut mount);
-    a_page_by_a_grant(rt, alloc, &mut door);
-    mount.exit_maps(&mut door, 7);
-    match mount.close(&mut door) {
-        Ok(()) => {}
-        Err(_mount) => panic!(rt; "no task has maps"),
-    }
-    let Noting {
-        pool,
-        places: _,
-        taken,
-    } = door;
-    same!(rt;
-        taken,
-        Taken {
-            reserves: 3,
-            granted: 0,
-            reserved: 2
+// All of it, in turn. That is taken by then.
+impl Trial for Taken {
+    fn run<N: Naming, R: Abort>(self, rt: &R, alloc: Global, blanks: Blanks) {
+        let mut pool = OwnPool::<N>::new(alloc, &[4, 4], blanks).expect(rt, "memory");
+        pool.set_overcommit(4);
+        let share = pool.share(Some(3), 0).expect(rt, "fits");
+        let mut mount = Mount::new(alloc, share, None);
+        let mut door = Noting {
+            pool,
+            places: 0,
+            taken: Taken {
+                reserves: 0,
+                granted: 0,
+                reserved: 0,
+            },
+        };
+        maps_in_turn(rt, &mut door, &mut mount);
+        accesses_in_turn(rt, &mut door, &mut mount);
+        preallocates_in_turn(rt, &mut door, &mut mount);
+        anon_in_turn(rt, &mut door, &mut mount);
+        a_page_by_a_grant(rt, alloc, &mut door);
+        mount.exit_maps(&mut door, 7);
+        match mount.close(&mut door) {
+            Ok(()) => {}
+            Err(_mount) => panic!(rt; "no task has maps"),
         }
-    );
-    let counts = pool.close();
-    same!(rt;
-        [counts.total, counts.free, counts.rsvd, counts.surp],
-        [0, 0, 0, 0]
-    );
+        let Noting {
+            pool,
+            places: _,
+            taken,
+        } = door;
+        same!(rt; taken, self);
+        ends_empty(rt, pool);
+    }
 }
 
 #[test]
 fn a_mount_through_a_door_with_few_places(rt: HostRuntime) {
-    let blanks = Blanks::new(rt.alloc(), &[4, 4], 1024).expect(&rt, "memory");
-    run::<Brand, HostRuntime>(&rt, rt.alloc(), blanks);
+    let taken = Taken {
+        reserves: 3,
+        granted: 0,
+        reserved: 2,
+    };
+    tried(&rt, rt.alloc(), taken);
 }

@@ -1,10 +1,8 @@
 //! A list of steps at a machine of two nodes of four frames each, and machines that come and go.
-ghost use Rattle.std.specs.Prelude.{◌≡◌, ◌∷◌, []};
-ghost use Rattle.hp_nodes.specs.Ledgers.{AreFrames};
-ghost use Rattle.hp_pool.specs.Ledgers.{AreLedgers};
 ghost use Rattle.hp_model.specs.machine.Ready.{IsReadyMachine};
 
 use crate::same::same;
+use crate::trial::{Trial, tried};
 use hp_model::answer::{Answer, Counts, Reply};
 use hp_model::lent::Lent;
 use hp_model::naming::Naming;
@@ -15,7 +13,6 @@ use hp_model::told::Told;
 use hp_pool::Blanks;
 use hp_system::System;
 use std::alloc::Global;
-use std::marker::Brand;
 use std::process::Abort;
 
 // A pool with all its pages free.
@@ -49,23 +46,6 @@ fn runs<N: Naming, R: Abort>(rt: &R, alloc: Global, system: &mut System<N>)
         Err(Refusal::NoSuchTask),
     ];
     assert!(rt; replies.as_slice() == expected.as_slice());
-}
-
-#[tactic(auto, using(hp_system::proofs::Ready::ready_pool))]
-fn run<N: Naming, R: Abort>(rt: &R, alloc: Global, blanks: Blanks)
-    requires ledgers { AreLedgers N.Naming blanks }
-    requires frames { AreFrames N.frames (4 ∷ 4 ∷ []) }
-    requires bytes { N.page_bytes ≡ 1024 }
-{
-    let mut system = System::<N>::new(alloc, &[4, 4], 1024, 2, blanks).expect(rt, "memory");
-    runs(rt, alloc, &mut system);
-    same!(rt; system.close(), all_free(2));
-}
-
-#[test]
-fn steps(rt: HostRuntime) {
-    let blanks = Blanks::new(rt.alloc(), &[4, 4], 1024).expect(&rt, "memory");
-    run::<Brand, HostRuntime>(&rt, rt.alloc(), blanks);
 }
 
 // The machine's calls, of which each is asked for one thing: what they promise is not carried through a whole test.
@@ -139,26 +119,51 @@ fn shows_zeros<N: Naming, R: Abort>(rt: &R, system: &mut System<N>)
     same!(rt; call(system, &read), Ok(zeros));
 }
 
-// Machines that are made, used and closed give back all that they held.
-#[tactic(auto, using(hp_system::proofs::Ready::ready_pool))]
-fn come_and_go<N: Naming, R: Abort>(rt: &R, alloc: Global, blanks: Blanks)
-    requires ledgers { AreLedgers N.Naming blanks }
-    requires frames { AreFrames N.frames (4 ∷ 4 ∷ []) }
-    requires bytes { N.page_bytes ≡ 1024 }
+// One step after another makes a file and looks at it.
+fn makes_a_file<N: Naming, R: Abort>(rt: &R, system: &mut System<N>)
+    requires { IsReadyMachine system.old }
+    ensures { IsReadyMachine system.new }
 {
-    let mut system = System::<N>::new(alloc, &[4, 4], 1024, 2, blanks).expect(rt, "memory");
     let name = Lent::new(b"Data_0.a-z");
     let create = Step::Create { slot: 0, name };
-    same!(rt; apply(&mut system, &create), Ok(Answer::Done));
-    same!(rt; names(&mut system), Ok(1));
-    shows_zeros(rt, &mut system);
-    system.close();
+    same!(rt; apply(system, &create), Ok(Answer::Done));
+    same!(rt; names(system), Ok(1));
+    shows_zeros(rt, system);
+}
+
+// A machine that is closed once it did steps in a list, or one by one.
+#[derive(Clone, Copy, Drop)]
+enum Doing {
+    AList,
+    OneByOne,
+}
+
+impl Trial for Doing {
+    #[tactic(auto, using(hp_system::proofs::Ready::ready_pool))]
+    fn run<N: Naming, R: Abort>(self, rt: &R, alloc: Global, blanks: Blanks) {
+        let mut system = System::<N>::new(alloc, &[4, 4], 1024, 2, blanks).expect(rt, "memory");
+        match self {
+            Doing::AList => {
+                runs(rt, alloc, &mut system);
+                same!(rt; system.close(), all_free(2));
+            }
+            Doing::OneByOne => {
+                makes_a_file(rt, &mut system);
+                system.close();
+            }
+        }
+    }
 }
 
 #[test]
+fn steps(rt: HostRuntime) {
+    tried(&rt, rt.alloc(), Doing::AList);
+}
+
+// Machines that are made, used and closed give back all that they held.
+#[test]
 fn machines_come_and_go(rt: HostRuntime) {
     for _ in 0..8 {
-        let blanks = Blanks::new(rt.alloc(), &[4, 4], 1024).expect(&rt, "memory");
-        come_and_go::<Brand, HostRuntime>(&rt, rt.alloc(), blanks);
+        tried(&rt, rt.alloc(), Doing::OneByOne);
     }
 }

@@ -19,6 +19,22 @@ fn sized<R: Abort>(rt: &R, alloc: Global, len: u64) -> Inode
     inode
 }
 
+// These calls on such a file.
+fn tried<R: Abort, F: FnOnce(&R, &mut Inode) -> Result<(), AllocError>>(
+    rt: &R,
+    alloc: Global,
+    len: u64,
+    calls: F,
+) -> Result<(), AllocError>
+    requires len { len < 2 ^ 32 }
+    requires calls { F.IsAlwaysCallable calls }
+{
+    let mut inode = sized(rt, alloc, len);
+    let ended = calls(rt, &mut inode);
+    drop(inode);
+    ended
+}
+
 // So many indices of a range have no entry.
 fn lacks<R: Abort>(rt: &R, inode: &Inode, a: u64, b: u64, count: u64) {
     assert!(rt; b <= inode.len());
@@ -107,10 +123,7 @@ fn calls<R: Abort>(rt: &R, inode: &mut Inode) -> Result<(), AllocError> {
 
 #[test]
 fn each_call_once(rt: HostRuntime) -> Result<(), Fail> {
-    let mut inode = sized(&rt, rt.alloc(), 2000);
-    let ended = calls(&rt, &mut inode);
-    drop(inode);
-    Ok(ended?)
+    Ok(tried(&rt, rt.alloc(), 2000, calls)?)
 }
 
 // Each index of a file of 65,536 gets its page, and every second goes.
@@ -133,10 +146,7 @@ fn takes_every_second<R: Abort>(rt: &R, inode: &mut Inode) -> Result<(), AllocEr
 
 #[test]
 fn every_second_page_is_taken(rt: HostRuntime) -> Result<(), Fail> {
-    let mut inode = sized(&rt, rt.alloc(), 65536);
-    let ended = takes_every_second(&rt, &mut inode);
-    drop(inode);
-    Ok(ended?)
+    Ok(tried(&rt, rt.alloc(), 65536, takes_every_second)?)
 }
 
 // So many indices of a range have a page.
@@ -166,10 +176,7 @@ fn counts_in_parts<R: Abort>(rt: &R, inode: &mut Inode) -> Result<(), AllocError
 
 #[test]
 fn pages_are_counted_in_parts(rt: HostRuntime) -> Result<(), Fail> {
-    let mut inode = sized(&rt, rt.alloc(), 200_000);
-    let ended = counts_in_parts(&rt, &mut inode);
-    drop(inode);
-    Ok(ended?)
+    Ok(tried(&rt, rt.alloc(), 200_000, counts_in_parts)?)
 }
 
 // Entries go in the middle of full words; then some on both sides of that hole; then all, past the last that there was.
@@ -189,10 +196,7 @@ fn drops_in_parts<R: Abort>(rt: &R, inode: &mut Inode) -> Result<(), AllocError>
 
 #[test]
 fn entries_are_dropped_in_parts(rt: HostRuntime) -> Result<(), Fail> {
-    let mut inode = sized(&rt, rt.alloc(), 20000);
-    let ended = drops_in_parts(&rt, &mut inode);
-    drop(inode);
-    Ok(ended?)
+    Ok(tried(&rt, rt.alloc(), 20000, drops_in_parts)?)
 }
 
 // Two ranges that overlap are entered, where need be at the second try.
@@ -209,10 +213,7 @@ fn reserves_at_last<R: Abort>(rt: &R, inode: &mut Inode) -> Result<(), AllocErro
 // Run with each allocation failing in turn.
 #[test]
 fn a_refusal_changes_nothing(rt: HostRuntime) -> Result<(), Fail> {
-    let mut inode = sized(&rt, rt.alloc(), 2000);
-    let ended = reserves_at_last(&rt, &mut inode);
-    drop(inode);
-    Ok(ended?)
+    Ok(tried(&rt, rt.alloc(), 2000, reserves_at_last)?)
 }
 
 // A file gets longer, and no shorter.

@@ -25,6 +25,19 @@ fn owned_at_last(alloc: Global, a: u64, b: u64) -> Result<Mapping, AllocError>
     }
 }
 
+// These calls on a map.
+fn tried<R: Abort, F: FnOnce(&R, &mut Mapping) -> Result<(), AllocError>>(
+    rt: &R,
+    mut map: Mapping,
+    calls: F,
+) -> Result<(), AllocError>
+    requires { F.IsAlwaysCallable calls }
+{
+    let ended = calls(rt, &mut map);
+    drop(map);
+    ended
+}
+
 // A fork that refused memory leaves the map as it was.
 fn forked_at_last<R: Abort>(rt: &R, map: &Mapping) -> Result<Mapping, AllocError> {
     match map.fork_for(1, 8) {
@@ -139,10 +152,7 @@ fn has_a_child<R: Abort>(rt: &R, map: &mut Mapping) -> Result<(), AllocError> {
 
 #[test]
 fn a_child_of_a_map(rt: HostRuntime) -> Result<(), Fail> {
-    let mut map = owned_at_last(rt.alloc(), 0, 200)?;
-    let ended = has_a_child(&rt, &mut map);
-    drop(map);
-    Ok(ended?)
+    Ok(tried(&rt, owned_at_last(rt.alloc(), 0, 200)?, has_a_child)?)
 }
 
 #[test]
@@ -189,10 +199,7 @@ fn is_small<R: Abort>(rt: &R, map: &mut Mapping) -> Result<(), AllocError> {
 
 #[test]
 fn places_are_written_up_to_the_last_one_touched(rt: HostRuntime) -> Result<(), Fail> {
-    let mut map = owned(rt.alloc(), 10, 1000)?;
-    let ended = is_small(&rt, &mut map);
-    drop(map);
-    Ok(ended?)
+    Ok(tried(&rt, owned(rt.alloc(), 10, 1000)?, is_small)?)
 }
 
 // A large map and its child have chunks of 64 places, of which the last is cut short.
@@ -218,14 +225,11 @@ fn is_large<R: Abort>(rt: &R, map: &mut Mapping) -> Result<(), AllocError> {
 
 #[test]
 fn places_of_a_large_map_are_written_by_chunks(rt: HostRuntime) -> Result<(), Fail> {
-    let mut map = owned(rt.alloc(), 5, 60_005)?;
-    let ended = is_large(&rt, &mut map);
-    drop(map);
-    Ok(ended?)
+    Ok(tried(&rt, owned(rt.alloc(), 5, 60_005)?, is_large)?)
 }
 
 // The tags of a map and of its child are those that their makers gave.
-fn is_tagged<R: Abort>(rt: &R, map: &Mapping) -> Result<(), AllocError> {
+fn is_tagged<R: Abort>(rt: &R, map: &mut Mapping) -> Result<(), AllocError> {
     let child = map.fork_for(13, 8)?;
     same!(rt; [map.tag(), child.tag()], [12, 13]);
     drop(child);
@@ -234,8 +238,5 @@ fn is_tagged<R: Abort>(rt: &R, map: &Mapping) -> Result<(), AllocError> {
 
 #[test]
 fn a_map_keeps_its_tag(rt: HostRuntime) -> Result<(), Fail> {
-    let map = owned(rt.alloc(), 10, 20)?;
-    let ended = is_tagged(&rt, &map);
-    drop(map);
-    Ok(ended?)
+    Ok(tried(&rt, owned(rt.alloc(), 10, 20)?, is_tagged)?)
 }

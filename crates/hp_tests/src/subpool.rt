@@ -4,10 +4,10 @@ ghost use Rattle.hp_model.specs.pool.PoolCounts.{IsSettled};
 ghost use Rattle.hp_nodes.specs.Ledgers.{AreFrames};
 ghost use Rattle.hp_pool.specs.Ledgers.{AreLedgers};
 
+use crate::pool::open;
 use crate::same::same;
 use hp_model::naming::Naming;
 use hp_model::refusal::Refusal;
-use hp_nodes::Frames;
 use hp_permit::Claim;
 use hp_pool::{Blanks, Pool};
 use hp_subpool::Subpool;
@@ -137,9 +137,7 @@ fn run<N: Naming, R: Abort>(rt: &R, alloc: Global, blanks: Blanks)
     requires frames { AreFrames N.frames (4 ∷ 4 ∷ []) }
     requires bytes { N.page_bytes ≡ 1024 }
 {
-    let Blanks { permits, nodes } = blanks;
-    let (frames, claims) = Frames::<N>::new(nodes);
-    let mut pool = Pool::new(alloc, &[4, 4], permits, claims).expect(rt, "memory");
+    let (mut pool, frames) = open::<N>(alloc, blanks).expect(rt, "memory");
     pool.set_nr(4);
     fills_the_minimum_again(rt, &mut pool);
     asks_the_minimum_first(rt, &mut pool);

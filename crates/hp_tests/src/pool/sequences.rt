@@ -4,10 +4,9 @@ ghost use Rattle.hp_model.specs.pool.PoolCounts.{IsSettled};
 ghost use Rattle.hp_nodes.specs.Ledgers.{AreFrames};
 ghost use Rattle.hp_pool.specs.Ledgers.{AreLedgers};
 
-use super::{is_refused, shows};
+use super::{is_refused, open, shows};
 use crate::same::same;
 use hp_model::naming::Naming;
-use hp_nodes::Frames;
 use hp_permit::{Claim, Permit};
 use hp_pool::{Blanks, Pool};
 use std::alloc::Global;
@@ -169,9 +168,7 @@ fn run<N: Naming, R: Abort>(rt: &R, alloc: Global, blanks: Blanks, number: u32)
     requires frames { AreFrames N.frames (4 ∷ 4 ∷ []) }
     requires bytes { N.page_bytes ≡ 1024 }
 {
-    let Blanks { permits, nodes } = blanks;
-    let (frames, claims) = Frames::<N>::new(nodes);
-    let pool = Pool::new(alloc, &[4, 4], permits, claims).expect(rt, "memory");
+    let (pool, frames) = open::<N>(alloc, blanks).expect(rt, "memory");
     match number {
         0 => goes_round(rt, pool),
         1 => promotes_surplus(rt, pool),
@@ -195,17 +192,14 @@ fn opens<N: Naming>(alloc: Global, blanks: Blanks) -> bool
     requires frames { AreFrames N.frames (4 ∷ 4 ∷ []) }
     requires bytes { N.page_bytes ≡ 1024 }
 {
-    let Blanks { permits, nodes } = blanks;
-    let (frames, claims) = Frames::<N>::new(nodes);
-    let made = match Pool::new(alloc, &[4, 4], permits, claims) {
-        Ok(pool) => {
+    match open::<N>(alloc, blanks) {
+        Ok((pool, frames)) => {
             pool.close();
+            frames.close();
             true
         }
         Err(_) => false,
-    };
-    frames.close();
-    made
+    }
 }
 
 // Must also pass where an allocation is refused: what was made is given back.

@@ -4,6 +4,7 @@ ghost use Rattle.hp_model.specs.pool.PoolCounts.{IsSettled};
 ghost use Rattle.hp_nodes.specs.Ledgers.{AreFrames};
 ghost use Rattle.hp_pool.specs.Ledgers.{AreLedgers};
 
+use super::open;
 use crate::same::same;
 use hp_model::naming::Naming;
 use hp_nodes::{Frames, Page};
@@ -141,11 +142,9 @@ fn run<N: Naming + Send + Sync, R: Threads + Wait + Abort + Sync>(
     requires frames { AreFrames N.frames (4 ∷ 4 ∷ []) }
     requires bytes { N.page_bytes ≡ 1024 }
 {
-    let Blanks { permits, nodes } = blanks;
-    let (frames, claims) = Frames::<N>::new(nodes);
-    let mut pool = Pool::new(alloc, &[4, 4], permits, claims).expect(rt, "memory");
-    pool.set_nr(4);
+    let (mut pool, frames) = open::<N>(alloc, blanks).expect(rt, "memory");
     pool.set_overcommit(2);
+    pool.set_nr(4);
     let mut all = pool.reserve(0, 4).expect(rt, "fits");
     let shared = Shared {
         core: Mutex::new(Core { pool }),

@@ -8,7 +8,7 @@ use Rattle.hp_shared.proofs.Crossing.{shared_sync}
 use Rattle.hp_server.specs.contracts.served.Served as Served
 use Rattle.hp_server_tests.specs.contracts.gate.Held as Held
 use Rattle.hp_server_tests.specs.contracts.gate.Hold as Hold
-use Rattle.hp_server_tests.proofs.over_tcp.serves_on.Goals as goal
+use Rattle.hp_server_tests.proofs.serving.serves_on.Goals as goal
 
 hold_sync : (κ : NamedLft) (R : RattleType) → IsSync R → IsSync (Hold.the_row κ R)
 hold_sync κ R r = search (sendable, crosses) depth 60 fits 5000

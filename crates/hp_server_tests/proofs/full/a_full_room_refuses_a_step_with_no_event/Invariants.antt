@@ -1,8 +1,0 @@
-use Rattle.hp_pool.specs.Ledgers.{names_of}
-use Rattle.hp_server_tests.proofs.full.a_full_room_refuses_a_step_with_no_event.Given as goal
-
-abbrev pub ghosts-row-N-Naming : goal.ghosts-row-N-Naming
-ghosts-row-N-Naming g a = names_of a.blanks 1024
-
-abbrev pub ghosts-row-N-Places : goal.ghosts-row-N-Places
-ghosts-row-N-Places g a = record { history = a.history.table.shared.table_id; shape = a.history.shape }
