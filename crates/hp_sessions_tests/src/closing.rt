@@ -5,7 +5,6 @@ use crate::playing::{Lengths, close_whole, joined};
 use crate::same::same;
 use crate::stage::{Scene, Sizes, Stage, traced, untraced};
 use hp_model::answer::Counts;
-use std::alloc::Global;
 use std::thread;
 use std::thread::Threads;
 
@@ -54,11 +53,6 @@ fn a_machine_with_a_trace_is_audited(rt: HostRuntime) {
 }
 
 #[test]
-fn a_machine_without_a_trace_has_no_audit(rt: HostRuntime) {
-    untraced(&rt, rt.alloc(), SIZES, Scene::Closes);
-}
-
-#[test]
 fn a_trace_has_a_trail_for_each_slot(rt: HostRuntime) {
     let trails = Lengths {
         receipts: 0,
@@ -68,6 +62,11 @@ fn a_trace_has_a_trail_for_each_slot(rt: HostRuntime) {
         slots: 3,
     };
     traced(&rt, rt.alloc(), SIZES, Scene::Parts(Some(trails)));
+}
+
+#[test]
+fn a_machine_without_a_trace_has_no_audit(rt: HostRuntime) {
+    untraced(&rt, rt.alloc(), SIZES, Scene::Closes);
 }
 
 #[test]

@@ -10,7 +10,6 @@ use crate::stage::{Scene, Sizes, Stage, traced, untraced};
 use hp_events::Parts;
 use hp_model::answer::Answer;
 use hp_sessions::Session;
-use std::alloc::Global;
 use std::process::Abort;
 use std::time::Clock;
 
@@ -22,7 +21,7 @@ pub const LARGE: Sizes<'static> = Sizes {
     frames: &[129],
     page_bytes: 2_097_152,
     slots: 4,
-    places: 1000,
+    places: 100,
 };
 
 // A file to be filled, and a map of a page on another slot.

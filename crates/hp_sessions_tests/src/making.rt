@@ -1,4 +1,5 @@
 //! Single pages, each of which is filled when its node's lock is let go, with a trace and without one.
+ghost use Rattle.hp_sessions_tests.specs.Machines.{IsFit};
 
 use crate::asking::{ask, connect, create, fault, map, mount, nr};
 use crate::draws::Draws;
@@ -6,12 +7,11 @@ use crate::filling::LARGE;
 use crate::machine::{Machine, Runs, Script};
 use crate::playing::{all_three, beside, pages_left};
 use crate::same::same;
-use crate::stage::{Scene, Stage, traced, untraced};
+use crate::stage::{Scene, Sizes, Stage, traced, untraced};
 use hp_events::Parts;
 use hp_model::answer::Answer;
 use hp_model::step::{Reserving, Sharing};
 use hp_sessions::Session;
-use std::alloc::Global;
 use std::process::Abort;
 use std::time::Clock;
 
@@ -99,12 +99,22 @@ pub fn made<R: Runs, M: Machine + Sync>(rt: &R, stage: Stage<M>) {
     same!(rt; pages_left(rt, stage, all), 129);
 }
 
+// Each page takes places of its own.
+fn sizes() -> Sizes<'static>
+    ensures { IsFit result.frames.now result.page_bytes result.slots result.places }
+{
+    Sizes {
+        places: 1000,
+        ..LARGE
+    }
+}
+
 #[test]
 fn a_page_is_filled_with_no_node_held(rt: HostRuntime) {
-    traced(&rt, rt.alloc(), LARGE, Scene::Made);
+    traced(&rt, rt.alloc(), sizes(), Scene::Made);
 }
 
 #[test]
 fn a_page_is_filled_with_no_node_held_and_no_trace(rt: HostRuntime) {
-    untraced(&rt, rt.alloc(), LARGE, Scene::Made);
+    untraced(&rt, rt.alloc(), sizes(), Scene::Made);
 }

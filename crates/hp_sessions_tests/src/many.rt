@@ -9,7 +9,6 @@ use crate::steps::Walk;
 use hp_events::Parts;
 use hp_model::step::{Reserving, Sharing, Step};
 use hp_sessions::Session;
-use std::alloc::Global;
 use std::process::Abort;
 
 const RUNS: u64 = 1000;

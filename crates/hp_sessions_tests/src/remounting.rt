@@ -1,7 +1,7 @@
 //! Limits that are set anew over a session.
 
 use crate::asking::{ask, connect, counts, create, map_at, mount, nr};
-use crate::machine::Script;
+use crate::machine::{Runs, Script};
 use crate::same::same;
 use crate::stage::{Scene, small, traced};
 use hp_events::Parts;
@@ -10,6 +10,7 @@ use hp_model::lent::Lent;
 use hp_model::refusal::Refusal;
 use hp_model::step::Step;
 use hp_sessions::Session;
+use std::alloc::Global;
 use std::process::Abort;
 
 const DF: Step<'static> = Step::Df { slot: 2 };
@@ -110,6 +111,11 @@ impl Script for Limits {
     }
 }
 
+// On a machine whose trails have three places.
+fn with_few_places<R: Runs>(rt: &R, alloc: Global, limits: Limits) {
+    traced(rt, alloc, small(3), Scene::Limits(limits));
+}
+
 #[test]
 fn limits_are_set_anew(rt: HostRuntime) {
     traced(&rt, rt.alloc(), small(100), Scene::Limits(Limits::Anew));
@@ -117,10 +123,10 @@ fn limits_are_set_anew(rt: HostRuntime) {
 
 #[test]
 fn no_limit_changes_where_the_pool_has_no_place(rt: HostRuntime) {
-    traced(&rt, rt.alloc(), small(3), Scene::Limits(Limits::PoolFull));
+    with_few_places(&rt, rt.alloc(), Limits::PoolFull);
 }
 
 #[test]
 fn no_limit_changes_where_the_slot_has_no_place(rt: HostRuntime) {
-    traced(&rt, rt.alloc(), small(3), Scene::Limits(Limits::SlotFull));
+    with_few_places(&rt, rt.alloc(), Limits::SlotFull);
 }

@@ -5,7 +5,6 @@ use crate::machine::{Machine, Runs};
 use crate::playing::{crowd, pages_left};
 use crate::stage::{Scene, Stage, small, traced, untraced};
 use crate::steps::Walk;
-use std::alloc::Global;
 
 const PLACES: usize = 200_000;
 
