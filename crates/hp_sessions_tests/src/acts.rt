@@ -1,10 +1,8 @@
 //! What a session does where a test holds it.
 
-use crate::rows::{call, store_of};
-use crate::same::same;
+use crate::asking::{ask, create, fault, map, mount, preallocate, store};
 use hp_events::Parts;
 use hp_model::answer::{Answer, Reply};
-use hp_model::lent::Lent;
 use hp_model::profile::MOST_BYTES;
 use hp_model::queued::Queued;
 use hp_model::service::{Access, Service};
@@ -27,44 +25,6 @@ pub enum Act {
     Exit,
     /// A mount ends whose file has a page.
     Umount,
-}
-
-fn create(slot: u64) -> Step<'static> {
-    let name = Lent::new(b"b");
-    Step::Create { slot, name }
-}
-
-fn preallocate(slot: u64) -> Step<'static> {
-    Step::Preallocate {
-        slot,
-        name: Lent::new(b"b"),
-        from: 0,
-        to: 1,
-    }
-}
-
-// A second map of task 1, of a page of this file.
-fn map_of(name: &[u8], sharing: Sharing, reserving: Reserving) -> Step<'_> {
-    Step::Map {
-        task: 1,
-        slot: 1,
-        name: Lent::new(name),
-        from: 0,
-        pages: 1,
-        sharing,
-        reserving,
-    }
-}
-
-// A write at that map.
-fn fault() -> Step<'static> {
-    Step::Fault {
-        task: 1,
-        slot: 1,
-        map: 2,
-        index: 0,
-        intent: Intent::Write,
-    }
 }
 
 fn store_queued<P: Parts>(session: &mut Session<P>) -> Reply {
@@ -92,23 +52,20 @@ impl Act {
         match self {
             Act::Store | Act::Queue => {}
             Act::Fault => {
-                same!(rt; call(session, &create(1)), Ok(Answer::Done));
-                let map = map_of(b"b", Sharing::Shared, Reserving::NoReserve);
-                same!(rt; call(session, &map), Ok(Answer::MapNo(2)));
+                ask!(rt, session; create(1, b"b"));
+                let hole = map(1, 1, b"b", 1, Sharing::Shared, Reserving::NoReserve);
+                ask!(rt, session; hole, Ok(Answer::MapNo(2)));
             }
-            Act::Fill => {
-                same!(rt; call(session, &create(1)), Ok(Answer::Done));
-            }
+            Act::Fill => ask!(rt, session; create(1, b"b")),
             Act::Exit => {
-                let map = map_of(b"a", Sharing::Private, Reserving::Reserve);
-                same!(rt; call(session, &map), Ok(Answer::MapNo(2)));
-                same!(rt; call(session, &fault()), Ok(Answer::Done));
+                let copy = map(1, 1, b"a", 1, Sharing::Private, Reserving::Reserve);
+                ask!(rt, session; copy, Ok(Answer::MapNo(2)));
+                ask!(rt, session; fault(1, 1, 2, 0));
             }
             Act::Umount => {
-                let options = Lent::new(b"-");
-                same!(rt; call(session, &Step::Mount { slot: 3, options }), Ok(Answer::Done));
-                same!(rt; call(session, &create(3)), Ok(Answer::Done));
-                same!(rt; call(session, &preallocate(3)), Ok(Answer::Done));
+                ask!(rt, session; mount(3, b"-"));
+                ask!(rt, session; create(3, b"b"));
+                ask!(rt, session; preallocate(3, b"b", 0, 1));
             }
         }
     }
@@ -116,12 +73,12 @@ impl Act {
     /// Does it.
     pub fn done<P: Parts>(self, session: &mut Session<P>) -> Reply {
         match self {
-            Act::Store => call(session, &store_of(1, &[0x11])),
+            Act::Store => session.call(&store(1, 1, &[0x11])),
             Act::Queue => store_queued(session),
-            Act::Fault => call(session, &fault()),
-            Act::Fill => call(session, &preallocate(1)),
-            Act::Exit => call(session, &Step::Exit { task: 1 }),
-            Act::Umount => call(session, &Step::Umount { slot: 3 }),
+            Act::Fault => session.call(&fault(1, 1, 2, 0)),
+            Act::Fill => session.call(&preallocate(1, b"b", 0, 1)),
+            Act::Exit => session.call(&Step::Exit { task: 1 }),
+            Act::Umount => session.call(&Step::Umount { slot: 3 }),
         }
     }
 

@@ -17,6 +17,7 @@ pub struct Draws<'a, R> {
     count: AtomicU64,
     last: AtomicU64,
     least: AtomicU64,
+    time: AtomicU64,
 }
 
 impl<'a, R: Clock + Abort> Gate for Draws<'a, R> {
@@ -38,6 +39,7 @@ impl<'a, R: Clock + Abort> Draws<'a, R> {
             count: AtomicU64::new(0),
             last: AtomicU64::new(0),
             least: AtomicU64::new(u64::MAX),
+            time: AtomicU64::new(0),
         }
     }
 
@@ -45,6 +47,17 @@ impl<'a, R: Clock + Abort> Draws<'a, R> {
     pub fn now(&self) -> u64 {
         let time = self.rt.monotonic().expect(self.rt, "the time");
         u64::try_from(time.as_nanos()).unwrap_or(u64::MAX)
+    }
+
+    /// Notes that what began at this time took until now.
+    pub fn took(&self, begun: u64) {
+        let time = self.now().saturating_sub(begun);
+        self.time.store(time, Ordering::SeqCst);
+    }
+
+    /// How many nanoseconds that was.
+    pub fn time(&self) -> u64 {
+        self.time.load(Ordering::SeqCst)
     }
 
     /// How many draws there were.

@@ -33,6 +33,8 @@ impl<'a, R: Clock> Gate for Slow<'a, R> {
     }
 }
 
+const MOST_TURNS: u64 = 10_000;
+
 /// Where a thread is held.
 #[derive(Clone, Copy, Drop, PartialEq, Eq)]
 pub enum Place {
@@ -40,16 +42,43 @@ pub enum Place {
     Node(u64),
 }
 
-const MOST_TURNS: u64 = 10_000;
+// Waited for by one thread, and set by another.
+#[derive(Drop)]
+struct Flag {
+    word: AtomicU64,
+}
 
-/// Holds a thread at a place, under its lock, until it is let go; but not longer than 10,000 turns of a millisecond.
+impl Flag {
+    fn new() -> Flag {
+        Flag {
+            word: AtomicU64::new(0),
+        }
+    }
+
+    fn set(&self) {
+        self.word.store(1, Ordering::SeqCst);
+    }
+
+    // Waits, but not longer than 10,000 turns of a millisecond: how many were not used.
+    fn wait<R: Clock>(&self, rt: &R) -> u64 {
+        for turn in 0..MOST_TURNS {
+            if self.word.load(Ordering::SeqCst) != 0 {
+                return MOST_TURNS - turn;
+            }
+            thread::sleep(rt, Duration::from_millis(1));
+        }
+        0
+    }
+}
+
+/// Holds a thread at a place, under its lock, until it is let go; but not longer than a flag waits.
 #[derive(Drop)]
 pub struct Hold<'a, R> {
     rt: &'a R,
     place: Place,
-    holds: AtomicU64,
-    open: AtomicU64,
     left: AtomicU64,
+    holds: Flag,
+    open: Flag,
 }
 
 impl<'a, R: Clock> Hold<'a, R> {
@@ -57,28 +86,23 @@ impl<'a, R: Clock> Hold<'a, R> {
         Hold {
             rt,
             place,
-            holds: AtomicU64::new(0),
-            open: AtomicU64::new(0),
             left: AtomicU64::new(MOST_TURNS),
+            holds: Flag::new(),
+            open: Flag::new(),
         }
     }
 
     /// Waits until a thread is held, but no longer than that either.
     pub fn wait(&self) {
-        for _turn in 0..MOST_TURNS {
-            if self.holds.load(Ordering::SeqCst) != 0 {
-                return;
-            }
-            thread::sleep(self.rt, Duration::from_millis(1));
-        }
+        let _left = self.holds.wait(self.rt);
     }
 
     /// Lets the thread go.
     pub fn open(&self) {
-        self.open.store(1, Ordering::SeqCst);
+        self.open.set();
     }
 
-    /// How many turns were not used.
+    /// How many turns were not used, where the thread was held longest.
     pub fn left(&self) -> u64 {
         self.left.load(Ordering::SeqCst)
     }
@@ -87,13 +111,10 @@ impl<'a, R: Clock> Hold<'a, R> {
         if place != self.place {
             return;
         }
-        self.holds.store(1, Ordering::SeqCst);
-        for turn in 0..MOST_TURNS {
-            if self.open.load(Ordering::SeqCst) != 0 {
-                return;
-            }
-            self.left.store(MOST_TURNS - 1 - turn, Ordering::SeqCst);
-            thread::sleep(self.rt, Duration::from_millis(1));
+        self.holds.set();
+        let left = self.open.wait(self.rt);
+        if left < self.left() {
+            self.left.store(left, Ordering::SeqCst);
         }
     }
 }

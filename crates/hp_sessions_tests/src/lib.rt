@@ -4,6 +4,8 @@
 #[cfg(test)]
 mod acts;
 #[cfg(test)]
+mod asking;
+#[cfg(test)]
 mod closing;
 #[cfg(test)]
 mod draws;
@@ -16,9 +18,13 @@ mod gates;
 #[cfg(test)]
 mod lines;
 #[cfg(test)]
+mod machine;
+#[cfg(test)]
 mod making;
 #[cfg(test)]
 mod many;
+#[cfg(test)]
+mod playing;
 #[cfg(test)]
 mod preallocating;
 #[cfg(test)]
@@ -27,6 +33,8 @@ mod remounting;
 mod rows;
 #[cfg(test)]
 mod same;
+#[cfg(test)]
+mod stage;
 #[cfg(test)]
 mod steps;
 #[cfg(test)]

@@ -1,8 +1,13 @@
 //! Random steps.
 ghost use Rattle.std.specs.Prelude.{◌<◌, max};
 
+use crate::asking::{connect, fault};
+use crate::machine::Script;
+use hp_events::Parts;
 use hp_model::lent::Lent;
-use hp_model::step::{Intent, Reserving, Sharing, Step};
+use hp_model::step::{Reserving, Sharing, Step};
+use hp_sessions::Session;
+use std::process::Abort;
 
 const NAMES: [&[u8]; 4] = [b"a", b"b", b"c", b"d"];
 
@@ -10,21 +15,13 @@ const OPTIONS: [&[u8]; 3] = [b"-", b"size=3K,min_size=1K", b"nr_inodes=2"];
 
 /// Numbers that look random (xorshift), and how many tasks and slots the steps are of.
 #[derive(Drop)]
-pub struct Dice {
+struct Dice {
     state: u64,
     tasks: u64,
     slots: u64,
 }
 
 impl Dice {
-    pub fn new(seed: u64, tasks: u64, slots: u64) -> Dice {
-        Dice {
-            state: seed,
-            tasks,
-            slots,
-        }
-    }
-
     fn task(&mut self) -> u64 {
         let tasks = self.tasks;
         1 + self.below(tasks)
@@ -72,13 +69,7 @@ fn access(dice: &mut Dice, task: u64, slot: u64) -> Step<'static> {
     let map = 1 + dice.below(2);
     let index = dice.below(3);
     match dice.below(6) {
-        0 => Step::Fault {
-            task,
-            slot,
-            map,
-            index,
-            intent: Intent::Write,
-        },
+        0 => fault(task, slot, map, index),
         1 => Step::Load {
             task,
             slot,
@@ -170,10 +161,7 @@ fn task_step(dice: &mut Dice, task: u64) -> Step<'static> {
     match dice.below(5) {
         0 => Step::Exit { task },
         1 => Step::Attach { task },
-        2 => Step::Connect {
-            task,
-            home: dice.below(2),
-        },
+        2 => connect(task, dice.below(2)),
         3 => Step::Anon {
             task,
             pages: 1 + dice.below(2),
@@ -187,7 +175,7 @@ fn task_step(dice: &mut Dice, task: u64) -> Step<'static> {
     }
 }
 
-pub fn any_step(dice: &mut Dice) -> Step<'static> {
+fn any_step(dice: &mut Dice) -> Step<'static> {
     let task = dice.task();
     let slot = dice.slot();
     match dice.below(10) {
@@ -196,5 +184,32 @@ pub fn any_step(dice: &mut Dice) -> Step<'static> {
         2 | 3 => file_step(dice, slot),
         4 | 5 => map_step(dice, task, slot),
         _ => access(dice, task, slot),
+    }
+}
+
+/// So many random steps, from this number on.
+#[derive(Clone, Copy, Drop)]
+pub struct Walk {
+    pub seed: u64,
+    pub steps: u64,
+    pub tasks: u64,
+    pub slots: u64,
+    pub room: usize,
+}
+
+impl Script for Walk {
+    fn room(&self) -> usize {
+        self.room
+    }
+
+    fn run<R: Abort, P: Parts>(self, _rt: &R, session: &mut Session<P>) {
+        let mut dice = Dice {
+            state: self.seed,
+            tasks: self.tasks,
+            slots: self.slots,
+        };
+        for _step in 0..self.steps {
+            let _reply = session.call(&any_step(&mut dice));
+        }
     }
 }

@@ -1,8 +1,0 @@
-use Rattle.hp_pool.specs.Ledgers.{names_of}
-use Rattle.hp_sessions_tests.proofs.preallocating.no_page_is_taken_where_the_pool_has_no_place.Given as goal
-
-abbrev pub ghosts-pool_full-N-Naming : goal.ghosts-pool_full-N-Naming
-ghosts-pool_full-N-Naming g a = names_of a.blanks 1024
-
-abbrev pub ghosts-pool_full-N-Places : goal.ghosts-pool_full-N-Places
-ghosts-pool_full-N-Places g a = record { history = a.history.table.shared.table_id; shape = a.history.shape }

@@ -1,0 +1,154 @@
+//! Steps that tests ask for, and what they are answered.
+
+use crate::same::assert_same;
+use hp_events::Parts;
+use hp_model::answer::{Answer, Reply};
+use hp_model::lent::Lent;
+use hp_model::step::{Intent, Reserving, Sharing, Step};
+use hp_sessions::Session;
+use std::process::Abort;
+
+/// Asks a session for a step, and compares its reply with what is wanted; with none named it is to be done. Nothing of it is carried
+/// through a test. A failure names the step in place of its line.
+macro_rules! ask {
+    ($rt:expr, $session:expr; $step:expr) => {
+        $crate::asking::done($rt, $session, stringify!($step), &$step)
+    };
+    ($rt:expr, $session:expr; $step:expr, $wanted:expr) => {
+        $crate::asking::answers($rt, $session, stringify!($step), &$step, $wanted)
+    };
+}
+
+pub(crate) use ask;
+
+pub fn answers<R: Abort, P: Parts>(
+    rt: &R,
+    session: &mut Session<P>,
+    name: &str,
+    step: &Step<'_>,
+    wanted: Reply,
+) {
+    assert_same(rt, name, session.call(step), wanted);
+}
+
+pub fn done<R: Abort, P: Parts>(rt: &R, session: &mut Session<P>, name: &str, step: &Step<'_>) {
+    answers(rt, session, name, step, Ok(Answer::Done));
+}
+
+/// Total, Free, Rsvd and Surp.
+pub fn counts<P: Parts>(session: &mut Session<P>) -> Option<[u64; 4]> {
+    match session.call(&Step::Meminfo) {
+        Ok(Answer::Numbers(counts)) => {
+            Some([counts.total, counts.free, counts.rsvd, counts.surp])
+        }
+        _ => None,
+    }
+}
+
+/// So many pages in the pool.
+pub fn nr<R: Abort, P: Parts>(rt: &R, session: &mut Session<P>, pages: u64) {
+    ask!(rt, session; Step::Nr { pages }, Ok(Answer::Number(pages)));
+}
+
+pub fn connect(task: u64, home: u64) -> Step<'static> {
+    Step::Connect { task, home }
+}
+
+pub fn mount(slot: u64, options: &[u8]) -> Step<'_> {
+    let options = Lent::new(options);
+    Step::Mount { slot, options }
+}
+
+pub fn create(slot: u64, name: &[u8]) -> Step<'_> {
+    let name = Lent::new(name);
+    Step::Create { slot, name }
+}
+
+pub fn preallocate(slot: u64, name: &[u8], from: u64, to: u64) -> Step<'_> {
+    Step::Preallocate {
+        slot,
+        name: Lent::new(name),
+        from,
+        to,
+    }
+}
+
+/// A map of so many pages of file a from an index on, which are the file's, and reserved.
+pub fn map_at(task: u64, slot: u64, from: u64, pages: u64) -> Step<'static> {
+    Step::Map {
+        task,
+        slot,
+        name: Lent::new(b"a"),
+        from,
+        pages,
+        sharing: Sharing::Shared,
+        reserving: Reserving::Reserve,
+    }
+}
+
+/// A map of so many pages of a file, from index 0 on.
+pub fn map(
+    task: u64,
+    slot: u64,
+    name: &[u8],
+    pages: u64,
+    sharing: Sharing,
+    reserving: Reserving,
+) -> Step<'_> {
+    Step::Map {
+        task,
+        slot,
+        name: Lent::new(name),
+        from: 0,
+        pages,
+        sharing,
+        reserving,
+    }
+}
+
+/// A map of so many pages of file a, from index 0 on, which are the file's, and reserved.
+pub fn map_shared(task: u64, slot: u64, pages: u64) -> Step<'static> {
+    map_at(task, slot, 0, pages)
+}
+
+/// A write at a page of a map.
+pub fn fault(task: u64, slot: u64, map: u64, index: u64) -> Step<'static> {
+    Step::Fault {
+        task,
+        slot,
+        map,
+        index,
+        intent: Intent::Write,
+    }
+}
+
+/// A store of these bytes at the first page of a task's first map on a slot.
+pub fn store(task: u64, slot: u64, bytes: &[u8]) -> Step<'_> {
+    Step::Store {
+        task,
+        slot,
+        map: 1,
+        index: 0,
+        offset: 0,
+        bytes: Lent::new(bytes),
+    }
+}
+
+/// A load of the first byte there.
+pub fn load(task: u64, slot: u64) -> Step<'static> {
+    Step::Load {
+        task,
+        slot,
+        map: 1,
+        index: 0,
+        offset: 0,
+        count: 1,
+    }
+}
+
+/// What a load answers that finds this byte.
+pub fn byte(byte: u8) -> Reply {
+    let mut bytes = [0u8; 256];
+    bytes[0] = byte;
+    Ok(Answer::Bytes { count: 1, bytes })
+}

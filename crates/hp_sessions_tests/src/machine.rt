@@ -1,0 +1,173 @@
+//! A machine that sessions work on, behind which its own types are not seen: so a test's proof knows none of them.
+
+use crate::gates::Free;
+use hp_closing::{Closed, close, into_system};
+use hp_entrance::Entrance;
+use hp_events::Parts;
+use hp_history::Places;
+use hp_locked::Gate;
+use hp_model::answer::Counts;
+use hp_model::entry::Receipt;
+use hp_model::naming::Naming;
+use hp_sessions::Session;
+use hp_shared::{Finished, Shared, Trails};
+use std::alloc::{AllocError, Global};
+use std::process::Abort;
+use std::sync::Wait;
+use std::thread::Threads;
+use std::time::Clock;
+
+/// What a test's machine is run by.
+pub trait Runs: Threads + Wait + Abort + Clock + Sync {}
+
+impl<R: Threads + Wait + Abort + Clock + Sync> Runs for R {}
+
+/// What a session does.
+pub trait Script: Drop {
+    /// For how many receipts it has room: more than a short test needs.
+    fn room(&self) -> usize {
+        1000
+    }
+
+    /// Waits for what is to be there before the session opens.
+    fn wait(&self) {}
+
+    /// Does it.
+    fn run<R: Abort, P: Parts>(self, rt: &R, session: &mut Session<P>);
+}
+
+/// A machine that was taken apart: its counts once all else was gone, its trails where it kept them, whether its slots were in
+/// order, and how many sessions there were.
+#[derive(Drop)]
+pub struct Apart {
+    pub counts: Counts,
+    pub trails: Option<Trails>,
+    pub in_order: bool,
+    pub sessions: u64,
+}
+
+/// A machine that sessions work on.
+pub trait Machine {
+    /// What a session leaves.
+    type Left: Drop + Send;
+
+    /// The bytes of a page.
+    fn page_bytes(&self) -> u64;
+
+    /// How many slots there are.
+    fn slots(&self) -> usize;
+
+    /// A session that a gate may hold: all that it does, once it waited.
+    fn session<R: Runs, G: Gate, S: Script>(&self, rt: &R, gate: &G, script: S) -> Self::Left;
+
+    /// Two sessions, of which the second opens when the first has done its part, and before that ends.
+    fn after<R: Runs, S: Script, T: Script>(
+        &self,
+        rt: &R,
+        script: S,
+        then: T,
+    ) -> (Self::Left, Self::Left);
+
+    /// Three sessions that are open at once. The third does nothing, and ends first.
+    fn three<R: Runs, S: Script, T: Script>(
+        &self,
+        rt: &R,
+        script: S,
+        then: T,
+    ) -> (Self::Left, Self::Left, Self::Left);
+
+    /// The number of the session that left this.
+    fn number(left: &Self::Left) -> u64;
+
+    /// What that session was told.
+    fn told(left: Self::Left) -> Vec<Receipt>;
+
+    /// Closes the machine with these sessions.
+    fn close(self, alloc: Global, sessions: Vec<Self::Left>) -> Result<Closed, AllocError>;
+
+    /// Takes the machine apart.
+    fn apart(self) -> Apart;
+}
+
+fn opened<'a, N: Naming + Places, R: Wait + Abort, G: Gate, const K: usize>(
+    rt: &'a R,
+    shared: &'a Shared<N, K>,
+    gate: &'a G,
+    room: usize,
+) -> Session<Entrance<'a, N, R, G, K>> {
+    Session::open(Entrance::open(rt, shared, gate, room).expect(rt, "memory"))
+}
+
+impl<N: Naming + Places + Send + Sync, const K: usize> Machine for Shared<N, K> {
+    type Left = Finished<N, K>;
+
+    fn page_bytes(&self) -> u64 {
+        self.page_bytes()
+    }
+
+    fn slots(&self) -> usize {
+        self.count()
+    }
+
+    fn session<R: Runs, G: Gate, S: Script>(&self, rt: &R, gate: &G, script: S) -> Finished<N, K> {
+        script.wait();
+        let mut session = opened(rt, self, gate, script.room());
+        script.run(rt, &mut session);
+        session.finish().into_finished()
+    }
+
+    fn after<R: Runs, S: Script, T: Script>(
+        &self,
+        rt: &R,
+        script: S,
+        then: T,
+    ) -> (Finished<N, K>, Finished<N, K>) {
+        let free = Free {};
+        let mut first = opened(rt, self, &free, script.room());
+        script.run(rt, &mut first);
+        let mut second = opened(rt, self, &free, then.room());
+        then.run(rt, &mut second);
+        let first = first.finish().into_finished();
+        (first, second.finish().into_finished())
+    }
+
+    fn three<R: Runs, S: Script, T: Script>(
+        &self,
+        rt: &R,
+        script: S,
+        then: T,
+    ) -> (Finished<N, K>, Finished<N, K>, Finished<N, K>) {
+        let free = Free {};
+        let mut first = opened(rt, self, &free, script.room());
+        let mut second = opened(rt, self, &free, then.room());
+        let third = opened(rt, self, &free, 0);
+        script.run(rt, &mut first);
+        then.run(rt, &mut second);
+        let third = third.finish().into_finished();
+        let first = first.finish().into_finished();
+        (first, second.finish().into_finished(), third)
+    }
+
+    fn number(left: &Finished<N, K>) -> u64 {
+        left.number()
+    }
+
+    fn told(left: Finished<N, K>) -> Vec<Receipt> {
+        let (receipts, _seat) = left.into_parts();
+        receipts
+    }
+
+    fn close(self, alloc: Global, sessions: Vec<Finished<N, K>>) -> Result<Closed, AllocError> {
+        close(alloc, self, sessions)
+    }
+
+    fn apart(self) -> Apart {
+        let (system, trails, ended) = into_system(self);
+        Apart {
+            counts: system.close(),
+            trails,
+            in_order: ended.in_order,
+            sessions: ended.sessions,
+        }
+    }
+}
