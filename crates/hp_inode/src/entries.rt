@@ -110,7 +110,8 @@ impl Entries {
     /// Gives back the memory of a block of which no index is in the set.
     pub fn give_back(&mut self, at: u64)
         requires { (k : ℕ) → marked (slice_index_or self.old at []) k ≡ false }
-        ensures { (k : ℕ) → entered_at self.new k ≡ entered_at self.old k }
+        ensures here { slice_index_or self.new at [] ≡ [] }
+        ensures same { (k : ℕ) → entered_at self.new k ≡ entered_at self.old k }
     {
         self.blocks.clear(at as usize);
     }

@@ -164,6 +164,7 @@ impl PageTable {
     /// Gives back the memory of a block without a page.
     pub fn give_back(&mut self, at: u64)
         requires { (k : ℕ) → k / block_size ≡ at → page_at self.old k ≡ None }
+        ensures here { slice_index_or self.new at [] ≡ [] }
         ensures pages { (k : ℕ) → page_at self.new k ≡ page_at self.old k }
         ensures slots { (k : ℕ) → k / block_size ≢ at
             → has_slot_at self.new k ≡ has_slot_at self.old k }
