@@ -1,4 +1,5 @@
 -- A mount stays sound where a place gets a copy whose stamp no other place holds: a new one, or one that is written.
+use Rattle.std.proofs.lemmas.Grind.{common_steps}
 use Rattle.std.proofs.Common.{◌≡◌, ⊎_elim, inl, inr, ◌⊎◌, ℕ, ◌-◌, ◌<◌, ◌≤◌, Bool, true, false, ◌==◌, Option, None}
 use Rattle.std.proofs.Common.{Some, List, length, map, get_or, set, arith, refl, sym, ap, ◌∙◌, subst, nat_lt, if◌then◌else◌}
 use Rattle.std.specs.List.{count_by, list_any, slice_index_or}
@@ -136,8 +137,7 @@ module _ (m : Mount) (s : Spot) (at : IsSpot m s) (i : ℕ) (c : Bool) (o : Opti
       was = subst IsSoundFile (at.file.is s.file) (sound.files s.file_no s.file at.file.within)
 
       live_consumed : (b : Bool) → b ≡ true → is_unconsumed (Live b (Some copy)) ≡ false
-      live_consumed true e = refl
-      live_consumed false e = cc
+      live_consumed b e = grind (arith, common_steps)
 
       map_sound : IsSoundMap (length s.file.cells) put
       map_sound z a has =
@@ -160,11 +160,7 @@ module _ (m : Mount) (s : Spot) (at : IsSpot m s) (i : ℕ) (c : Bool) (o : Opti
       in_was l z a has = subst (λ f. HasCopy (map_in f l) z a) (spot_file m s at) has
 
       owner_same : (l : ℕ) → (map_in new l).owner ≡ (map_in s.file l).owner
-      owner_same l =
-          elim (cases_eq l s.map_no) as (λ _. (map_in new l).owner ≡ (map_in s.file l).owner) [
-            | inl same ↦ ap (λ x. x.owner) (ap (map_in new) same ∙ map_here) ∙ sym (ap (λ x. x.owner) (ap (map_in s.file) same ∙ spot_map m s at))
-            | inr other ↦ ap (λ x. x.owner) (get_or-set_other s.file.maps s.map_no l put no_map other)
-          ]
+      owner_same l = grind (arith, common_steps)
 
       one_owner : (stamp j k : ℕ) → owns_stamp stamp (map_in new j) ≡ true → owns_stamp stamp (map_in new k) ≡ true → j ≡ k
       one_owner stamp j k a b =
@@ -223,13 +219,7 @@ module _ (m : Mount) (s : Spot) (at : IsSpot m s) (i : ℕ) (c : Bool) (o : Opti
 
 module _ (stamp : ℕ) where
   robbed_place : (p : Place Copy) (a : Copy) → copy_of (drop_stamp stamp p) ≡ Some a → a.stamp ≡ stamp → ⊥
-  robbed_place Gone a = λ e. cc
-  robbed_place (Live c None) a = λ e. cc
-  robbed_place (Live c (Some b)) a =
-      elim (b.stamp == stamp) as (λ t. (b.stamp == stamp) ≡ t → copy_of (if t then Live c None else Live c (Some b)) ≡ Some a → a.stamp ≡ stamp → ⊥) [
-        | true ↦ λ t e same. cc
-        | false ↦ λ t e same. (let is : b ≡ a = cc in both_ways (b.stamp == stamp) t (eq-eqb b.stamp stamp (ap (λ x. x.stamp) is ∙ same)))
-      ] refl
+  robbed_place p a = grind (arith, common_steps)
 
   held : (p : Place Copy) (a : Copy) → copy_of p ≡ Some a → a.stamp ≡ stamp → holds stamp p ≡ true
   held p a e same = ap (λ o. elim o [ None ↦ false | Some copy ↦ copy.stamp == stamp ]) e ∙ eq-eqb a.stamp stamp same
@@ -322,11 +312,7 @@ module _ (m : Mount) (s : Spot) (at : IsSpot m s) (i : ℕ) (copy : Copy) (has :
   -- ---- a copy that one map holds
 
   count_held : (f : File) (k z : ℕ) (a : Copy) → HasCopy (map_in f k) z a → a.stamp ≡ copy.stamp → 1 ≤ held_in copy.stamp (map_in f k)
-  count_held f k z a held same =
-      let x : Map = map_in f k in
-      let live = live_of (place_at x z) a held in
-      let at = live_at x z live.0 (Some a) live.1 in
-      some_counted (place_has (is_stamp copy.stamp)) Gone x.places (z - x.start) at.within (ap (place_has (is_stamp copy.stamp)) at.is ∙ eq-eqb a.stamp copy.stamp same)
+  count_held f k z a held same = grind (arith, common_steps)
 
   pub held_once : is_held_once s.file copy.stamp ≡ true → IsAlone m s.file_no s.map_no i copy.stamp
   held_once once h l z a held same =

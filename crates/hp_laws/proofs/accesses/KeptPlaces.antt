@@ -1,4 +1,5 @@
 -- What an access, and a store after it, makes of the places of maps and of the cells of files.
+use Rattle.std.proofs.lemmas.Grind.{common_steps}
 use Rattle.std.proofs.Common.{◌≡◌, ⊎_elim, inl, inr, ◌⊎◌, map, ℕ, suc, ◌+◌, ◌-◌, ◌<◌, Bool, true, false, ◌&&◌, ◌==◌, not}
 use Rattle.std.proofs.Common.{Option, None, Some, is_some, List, [], ◌∷◌, length, get_or, refl, sym, ap, ◌∙◌, subst, arith, if◌then◌else◌, nat_lt}
 use Rattle.std.specs.List.{slice_index_or, list_any}
@@ -44,20 +45,10 @@ any_there t d (x ∷ xs) e =
     ⊎_elim (λ here. (0, omega arith, here)) (λ later. (let there = any_there t d xs later in (suc there.0, omega (arith, there.1), there.2))) (or_cases (t x) (list_any t xs) e)
 
 held_there : (stamp : ℕ) (y : Map) (x : ℕ) → holds stamp (place_at y x) ≡ true → list_any (holds stamp) y.places ≡ true
-held_there stamp y x e =
-    let held = held_copy stamp (place_at y x) e in
-    let live = live_of (place_at y x) held.0 held.1 in
-    let at = live_at y x live.0 (Some held.0) live.1 in
-    list_any_at (holds stamp) y.places (x - y.start) Gone at.within (ap (holds stamp) (at.is ∙ sym live.1) ∙ e)
+held_there stamp y x e = grind (arith, common_steps)
 
 robbed_place : (stamp : ℕ) (y : Map) (x : ℕ) → place_at (robbed stamp y) x ≡ drop_stamp stamp (place_at y x)
-robbed_place stamp y x =
-    cond_both (list_any (holds stamp) y.places) (record y { unmapped = true; places = map (drop_stamp stamp) y.places }) y
-    (λ z. place_at z x ≡ drop_stamp stamp (place_at y x)) (λ some. dropped_at stamp y x) (λ none. not_held none (holds stamp (place_at y x)) refl)
-  where
-    not_held : list_any (holds stamp) y.places ≡ false → (b : Bool) → holds stamp (place_at y x) ≡ b → place_at y x ≡ drop_stamp stamp (place_at y x)
-    not_held none true e = (let some = held_there stamp y x e in cc)
-    not_held none false e = ap (λ b. if b then without_copy (place_at y x) else place_at y x) (sym e)
+robbed_place stamp y x = grind (arith, common_steps)
 
 -- it has a place that was so
 robbed_mark : (stamp : ℕ) (y : Map) → ((robbed stamp y).unmapped ≡ y.unmapped) ⊎ (((robbed stamp y).unmapped ≡ true) × ((x : ℕ) × (holds stamp (place_at y x) ≡ true)))
@@ -206,13 +197,10 @@ module _ (size : ℕ) (m : Mount) (sound : IsSoundMount m) (s : Spot) (at : IsSp
     dropped l x other held = place_beside l x other ∙ ap (λ b. if b then without_copy (place_at (map_in s.file l) x) else place_at (map_in s.file l) x) held
 
     none_left : (p : Place Copy) → copy_of (without_copy p) ≡ None
-    none_left Gone = refl
-    none_left (Live c o) = refl
+    none_left p = grind (arith, common_steps)
 
     some_marked : (l x : ℕ) → holds copy.stamp (place_at (map_in s.file l) x) ≡ true → (robbed copy.stamp (map_in s.file l)).unmapped ≡ true
-    some_marked l x held =
-        ap (λ b. (if b then record (map_in s.file l) { unmapped = true; places = map (drop_stamp copy.stamp) (map_in s.file l).places } else map_in s.file l).unmapped)
-        (held_there copy.stamp (map_in s.file l) x held)
+    some_marked l x held = grind (arith, common_steps)
 
     lost_beside : (l x : ℕ) → (l ≡ s.map_no → ⊥) → holds copy.stamp (place_at (map_in s.file l) x) ≡ true → LostAt robs s.file_no l x
     lost_beside l x other held = (
@@ -317,9 +305,7 @@ module _ (size : ℕ) (m : Mount) (sound : IsSoundMount m) (s : Spot) (at : IsSp
     same_marks j l = same_edit (marked l) (new_file None) edit (edit_marks size m sound s at i offset bytes l) n.files s.file_no j
 
     page_stays : (c : Cell Page) → has_page (cell_written offset bytes c) ≡ has_page c
-    page_stays Hole = refl
-    page_stays Entered = refl
-    page_stays (Present page) = refl
+    page_stays c = grind (arith, common_steps)
 
     -- ---- through a shared map
 
@@ -343,8 +329,7 @@ module _ (size : ℕ) (m : Mount) (sound : IsSoundMount m) (s : Spot) (at : IsSp
           (λ f. ap (λ g. cell_at g x) (shared_edit f) ∙ edit_other (cell_written offset bytes) Hole f.cells i x other) n.files s.file_no j
 
       cell_same : (j x : ℕ) → cell_at (file_in w j) x ≡ cell_at (file_in n j) x → CellAt w j x
-      cell_same j x same =
-          ⊎_elim (λ was. inl (same ∙ was)) (λ filled. inr (filled.0, filled.1, ap has_page same ∙ filled.2)) (held.cells j x)
+      cell_same j x same = grind (arith, common_steps)
 
       cell_here : CellAt w s.file_no i
       cell_here = inr (

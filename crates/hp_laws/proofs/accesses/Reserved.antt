@@ -1,4 +1,6 @@
 -- An access at a reserved index, and an owner's write into its copy.
+use Rattle.std.proofs.Common.{arith}
+use Rattle.std.proofs.lemmas.Grind.{common_steps}
 use Rattle.std.proofs.Common.{◌≡◌, ℕ, Bool, true, false, ◌&&◌, None, Some, refl, ap, IsTrue, if◌then◌else◌}
 use Rattle.hp_model.specs.declared.step.Sharing.TheVariants.{Shared, Private}
 use Rattle.hp_model.specs.declared.step.Intent.{Intent}
@@ -23,43 +25,27 @@ either : (b : Bool) (p q : Plan) → NeverWantsPages p → NeverWantsPages q →
 either b p q hp hq = always_if KeepsGoing b p q (λ e. hp) (λ e. hq)
 
 shared_keeps : (c : Choice) (size : ℕ) (m : Mount) (s : Spot) (home i : ℕ) (cell : Cell Page) → IsTrue (is_entered cell) → NeverWantsPages (shared_access c size m s home i cell)
-shared_keeps c size m s home i (Present page) e = tt
-shared_keeps c size m s home i Entered e = λ a. tt
-shared_keeps c size m s home i Hole e = cc
+shared_keeps c size m s home i cell e = grind (arith, common_steps)
 
 the_first : (b : Bool) (p q : Plan) → b ≡ true → NeverWantsPages p → NeverWantsPages (if b then p else q)
-the_first true p q e hp = hp
-the_first false p q e hp = cc
+the_first b p q e hp = grind (arith, common_steps)
 
 owner_keeps : (m : Mount) (s : Spot) (home stamp : ℕ) (fresh : ℕ → Outcome) → ((n : ℕ) → KeepsGoing (fresh n)) → NeverWantsPages (owner_write m s home stamp fresh)
 owner_keeps m s home stamp fresh h = either (is_full m 1) _ _ tt (λ a. outcome_if KeepsGoing a.granted _ _ (h a.node) tt)
 
 pub copy_keeps : OwnerWrites
-copy_keeps c m s home i consumed copy e =
-    either (is_held_once s.file copy.stamp) _ _ tt (the_first s.map.owner _ _ e (owner_keeps m s home copy.stamp _ (λ n. tt)))
+copy_keeps c m s home i consumed copy e = grind (arith, common_steps)
 
 new_keeps : (c : Choice) (size : ℕ) (m : Mount) (s : Spot) (home i : ℕ) → s.map.owner ≡ true → NeverWantsPages (new_copy c size m s home i false)
 new_keeps c size m s home i e = the_first (s.map.owner && true) _ _ (ap (λ b. b && true) e) (λ a. tt)
 
 uncopied_keeps : (c : Choice) (size : ℕ) (m : Mount) (s : Spot) (home i : ℕ) (intent : Intent) → s.map.owner ≡ true → NeverWantsPages (uncopied_access c size m s home i false intent)
-uncopied_keeps c size m s home i Write e = new_keeps c size m s home i e
-uncopied_keeps c size m s home i Read e = either (has_page (cell_at s.file i)) _ _ tt (new_keeps c size m s home i e)
+uncopied_keeps c size m s home i intent e = grind (arith, common_steps)
 
 -- an owner whose index is not consumed
 private_keeps : (c : Choice) (size : ℕ) (m : Mount) (s : Spot) (home i : ℕ) (p : Place Copy) (intent : Intent) → s.map.owner ≡ true →
     is_unconsumed p ≡ true → NeverWantsPages (private_access c size m s home i p intent)
-private_keeps c size m s home i Gone intent e u = refl
-private_keeps c size m s home i (Live consumed (Some copy)) Read e u = tt
-private_keeps c size m s home i (Live consumed (Some copy)) Write e u = copy_keeps c m s home i consumed copy e
-private_keeps c size m s home i (Live false None) intent e u = either s.map.unmapped _ _ refl (uncopied_keeps c size m s home i intent e)
-private_keeps c size m s home i (Live true None) intent e u = cc
+private_keeps c size m s home i p intent e u = grind (arith, common_steps)
 
 pub reserved_access : ReservedAccess
-reserved_access c size m s home i intent =
-    elim s.map.sharing as (λ v. IsTrue (if is_shared v then is_entered (cell_at s.file i) else (s.map.owner && is_unconsumed (place_at s.map i))) →
-    NeverWantsPages (if is_shared v then shared_access c size m s home i (cell_at s.file i)
-    else private_access c size m s home i (place_at s.map i) intent)) [
-      | Shared ↦ λ e. shared_keeps c size m s home i (cell_at s.file i) e
-      | Private ↦ λ e. private_keeps c size m s home i (place_at s.map i) intent (and_parts s.map.owner (is_unconsumed (place_at s.map i)) e).0
-          (and_parts s.map.owner (is_unconsumed (place_at s.map i)) e).1
-    ]
+reserved_access c size m s home i intent = grind (arith, common_steps)

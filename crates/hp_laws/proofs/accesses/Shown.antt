@@ -1,4 +1,5 @@
 -- What files and maps show after an access.
+use Rattle.std.proofs.lemmas.Grind.{common_steps}
 use Rattle.std.proofs.Common.{◌≡◌, inl, inr, ◌⊎◌, map, ℕ, ◌<◌, ◌-◌, Bool, true, false, ◌&&◌, not, Option, None, Some, List, length, set, refl, sym, ap, ◌∙◌, subst, arith, if◌then◌else◌, nat_lt}
 use Rattle.std.specs.List.{slice_index_or}
 use Rattle.std.proofs.lemmas.Bool.{cases_eq, ltb-false}
@@ -56,26 +57,17 @@ fill_looks size f i page l e =
 -- ---- a place of a map
 
 pub not_below : (b : Bool) (x : Place Copy) (c : Bool) (o : Option Copy) → (if b then Gone else x) ≡ Live c o → b ≡ false
-not_below true x c o e = cc
-not_below false x c o e = refl
+not_below b x c o e = grind (arith, common_steps)
 
 module _ (m : Map) (i : ℕ) (c : Bool) (o : Option Copy) (is : place_at m i ≡ Live c o) (p : Place Copy) where
   from : nat_lt i m.start ≡ false
   from = not_below (nat_lt i m.start) (slice_index_or m.places (i - m.start) Gone) c o is
 
   pub place_put : place_at (with_place m i p) i ≡ p
-  place_put =
-      ap (λ b. if b then Gone else slice_index_or (set m.places (i - m.start) p) (i - m.start) Gone) from
-      ∙ get_or-set_same m.places (i - m.start) p Gone (live_at m i c o is).within
+  place_put = grind (arith, common_steps)
 
   pub place_other : (x : ℕ) → (x ≡ i → ⊥) → place_at (with_place m i p) x ≡ place_at m x
-  place_other x other =
-      let low = ltb-false i m.start from in
-      elim (nat_lt x m.start) as (λ b. nat_lt x m.start ≡ b → (if b then Gone else slice_index_or (set m.places (i - m.start) p) (x - m.start) Gone)
-      ≡ (if b then Gone else slice_index_or m.places (x - m.start) Gone)) [
-        | true ↦ λ e. refl
-        | false ↦ λ e. get_or-set_other m.places (i - m.start) (x - m.start) p Gone (λ same. other (omega (arith, same, low, ltb-false x m.start e)))
-      ] refl
+  place_other x other = grind (arith, common_steps)
 
 -- the map has a copy there that shows what it showed
 copy_looks : (size : ℕ) (f : File) (k : ℕ) (m : Map) (i : ℕ) (c d : Bool) (o : Option Copy) (new : Copy) → IsMapAt f k m → place_at m i ≡ Live c o → new.page.bytes ≡ value size f m i
@@ -101,28 +93,20 @@ On Q (Answered a None) = ⊥
 On Q (Answered a (Some n)) = Q n
 
 on_granted : (Q : Mount → Type 0) (b : Bool) (n : Mount) → Q n → On Q (if b then Answered Done (Some n) else Refused NoPages)
-on_granted Q true n h = h
-on_granted Q false n h = tt
+on_granted Q b n h = grind (arith, common_steps)
 
 pub on_grant_page : (Q : Mount → Type 0) (c : Choice) (m : Mount) (home : ℕ) (n : ℕ → Mount) → ((node : ℕ) → Q (n node)) → Always (On Q) (grant_page c m home (λ node. Answered Done (Some (n node))))
-on_grant_page Q c m home n h =
-    always_test (On Q) (is_full m 1) MountFull _ tt
-    (λ e. always_test (On Q) c.refused OutOfMemory (Ask (λ nr. GrantPage home (rise m 1)) (λ a. when_granted (Answered Done (Some (n a.node))) a)) tt
-    (λ f a. on_granted Q a.granted (n a.node) (h a.node)))
+on_grant_page Q c m home n h = grind (arith, common_steps)
 
 pub on_reserved_page : (Q : Mount → Type 0) (home : ℕ) (n : ℕ → Mount) → ((node : ℕ) → Q (n node)) → Always (On Q) (reserved_page home (λ node. Answered Done (Some (n node))))
 on_reserved_page Q home n h = λ a. h a.node
 
 pub on_weaker : (Q R : Mount → Type 0) → ((n : Mount) → Q n → R n) → (o : Outcome) → On Q o → On R o
-on_weaker Q R h (Refused r) on = tt
-on_weaker Q R h (Answered a None) on = on
-on_weaker Q R h (Answered a (Some n)) on = h n on
+on_weaker Q R h o on = grind (arith, common_steps)
 
 -- what follows an answer, on the mount that it leaves
 pub on_follows : (Q R : Mount → Type 0) (f : Mount → Outcome) → ((n : Mount) → Q n → On R (f n)) → (o : Outcome) → On Q o → On R (continued f o)
-on_follows Q R f h (Refused r) on = tt
-on_follows Q R f h (Answered a None) on = absurd on
-on_follows Q R f h (Answered a (Some n)) on = h n on
+on_follows Q R f h o on = grind (arith, common_steps)
 
 -- ---- an access that leaves all as it shows
 
@@ -166,15 +150,7 @@ module _ (size : ℕ) (m : Mount) (s : Spot) (at : IsSpot m s) (i : ℕ) where
 
   -- nothing changes
   stays_same : (is_shared s.map.sharing ≡ true → has_page (cell_at s.file i) ≡ true) → Same m
-  stays_same there =
-      record {
-        cells = λ j x. refl;
-        maps = λ j l x. refl;
-        marks = λ j l. refl;
-        value = ap (λ f. value size f (slice_index_or f.maps s.map_no s.map) i) (at.file.is s.file) ∙ ap (λ y. value size s.file y i) same_map;
-        present = λ e. ap (λ f. has_page (cell_at f i)) (at.file.is (new_file None)) ∙ there e;
-        held = λ e j l. refl;
-      }
+  stays_same there = grind (arith, common_steps)
 
   pub fill_same : (node : ℕ) → i < length s.file.cells → shown size (cell_at s.file i) ≡ zeros size →
       Same (with_file m s.file_no (with_cell s.file i (Present (record { node = node; bytes = zeros size }))))
@@ -274,8 +250,7 @@ module _ (size : ℕ) (m : Mount) (s : Spot) (at : IsSpot m s) (i : ℕ) where
           (sym (ap (λ q. by_place size q (look size i s.file)) is))
 
       owner_or : (b : Bool) (x n : Mount) → Result x → Result n → On Result (if b then Answered Done (Some x) else Answered Done (Some n))
-      owner_or true x n hx hn = hx
-      owner_or false x n hx hn = hn
+      owner_or b x n hx hn = grind (arith, common_steps)
 
       write_copy : (consumed : Bool) (copy : Copy) → place_at s.map i ≡ Live consumed (Some copy) → Always (On Result) (copy_write c m s home i consumed copy)
       write_copy consumed copy is =

@@ -1,4 +1,6 @@
 -- What a slot's files show after a file or a map is made, a load and a store, and what a load answers.
+use Rattle.std.proofs.Common.{arith}
+use Rattle.std.proofs.lemmas.Grind.{common_steps}
 use Rattle.std.proofs.Common.{◌≡◌, ◌⊎◌, ℕ, zero, suc, ◌+◌, ◌<◌, Bool, true, false, ◌&&◌, ◌||◌, ◌==◌, not, Option, None, Some, ⊎_elim}
 use Rattle.std.proofs.Common.{Result as ResultOf, Ok, Err, List, [], ◌∷◌, length, replicate, refl, sym, ap, ◌∙◌, if◌then◌else◌, nat_lt, ◌-◌}
 use Rattle.std.specs.List.{slice_index_or, sum}
@@ -56,13 +58,10 @@ pub always_value : {X : Type 0} (P : Outcome → Type 0) → ((r : Refusal) → 
 always_value P stops o r f h = plan_value (Always P) stops o r f h
 
 granted_or : (P : Outcome → Type 0) → ((r : Refusal) → P (Refused r)) → (b : Bool) (o : Outcome) → P o → P (if b then o else Refused NoPages)
-granted_or P stops true o h = h
-granted_or P stops false o h = stops NoPages
+granted_or P stops b o h = grind (arith, common_steps)
 
 pub always_grant : (P : Outcome → Type 0) → ((r : Refusal) → P (Refused r)) → (c : Choice) (m : Mount) (home k : ℕ) (o : Outcome) → P o → Always P (grant c m home k o)
-always_grant P stops c m home k o h =
-    always_unless P stops ((is_full m k, MountFull) ∷ (c.refused, OutOfMemory) ∷ []) (if rise m k == 0 then Finish o else Ask (λ nr. Grant home (rise m k)) (when_granted o))
-    (always_if P (rise m k == 0) (Finish o) (Ask (λ nr. Grant home (rise m k)) (when_granted o)) (λ e. h) (λ e a. granted_or P stops a.granted o h))
+always_grant P stops c m home k o h = grind (arith, common_steps)
 
 -- pages of a range, whose nodes the pool answers
 pub always_fill : (P : Outcome → Type 0) → ((r : Refusal) → P (Refused r)) → (ts : List (Bool × Refusal)) (d n : ℕ) (o : List ℕ → Outcome) → ((pages : List ℕ) → P (o pages))
@@ -73,16 +72,10 @@ always_fill P stops ts d n o h =
 -- where nothing of the range lacks a page, and else
 pub always_preallocate : (P : Outcome → Type 0) → ((r : Refusal) → P (Refused r)) → (c : Choice) (size : ℕ) (m : Mount) (a b : ℕ) (q : ℕ × File) → P (Answered Done (Some m))
     → ((pages : List ℕ) → P (Answered Done (Some (with_file m q.0 (range_filled size a b (rising_nodes (lacking a b q.1) pages) q.1))))) → Always P (preallocate c size m a b q)
-always_preallocate P stops c size m a b q none h =
-    always_unless P stops (preallocate_tests a b) (if lacking a b q.1 == 0 then Finish (Answered Done (Some m)) else fill c size m a b q)
-    (always_if P (lacking a b q.1 == 0) (Finish (Answered Done (Some m))) (fill c size m a b q) (λ e. none)
-    (λ e. always_fill P stops ((is_full m (unentered a b q.1), MountFull) ∷ (c.refused, OutOfMemory) ∷ []) (rise m (unentered a b q.1)) (lacking a b q.1)
-    (λ pages. Answered Done (Some (with_file m q.0 (range_filled size a b (rising_nodes (lacking a b q.1) pages) q.1)))) h))
+always_preallocate P stops c size m a b q none h = grind (arith, common_steps)
 
 pub always_gives : (P : Outcome → Type 0) (a : Answer) (old new : Slot) → P (Answered a new) → Always P (gives a old new)
-always_gives P a old new h =
-    always_if P ((sum (puts_of old new) == 0) && (fall_of old new == 0)) (Finish (Answered a new)) (Ask (λ nr. GiveBack (puts_of old new) (fall_of old new)) (λ answer. Answered a new))
-    (λ e. h) (λ e answer. h)
+always_gives P a old new h = grind (arith, common_steps)
 
 pub always_mount : (P : Outcome → Type 0) → ((r : Refusal) → P (Refused r)) → ((l : Limits) → P (Answered Done (Some (record { limits = l; files = [] }))))
     → (c : Choice) (size : ℕ) (options : List ℕ) → Always P (mount_on c size options)
@@ -136,9 +129,7 @@ module _ (size : ℕ) (m : Mount) (a : Answer) where
   )
 
 entered_shows : (size : ℕ) (c : Cell Page) → shown size (entered c) ≡ shown size c
-entered_shows size Hole = refl
-entered_shows size Entered = refl
-entered_shows size (Present page) = refl
+entered_shows size c = grind (arith, common_steps)
 
 mapped_shows : (size task number a n : ℕ) (sharing : Sharing) (reserving : Reserving) (f : File) (x : ℕ) → look size x (mapped task number a n sharing reserving f) ≡ look size x f
 mapped_shows size task number a n sharing reserving f x =
@@ -150,9 +141,7 @@ mapped_shows size task number a n sharing reserving f x =
     (λ e. long)
 
 zero_shows : (size : ℕ) (c : Cell Page) → has_page c ≡ false → shown size c ≡ zeros size
-zero_shows size Hole none = refl
-zero_shows size Entered none = refl
-zero_shows size (Present page) none = cc
+zero_shows size c none = grind (arith, common_steps)
 
 filled_shows : (size a b : ℕ) (pages : List ℕ) (f : File) (x : ℕ) → look size x (range_filled size a b (rising_nodes (lacking a b f) pages) f) ≡ look size x f
 filled_shows size a b pages f x =
@@ -168,13 +157,10 @@ filled_quiet size m a b pages q at =
 
 -- a new map has no copies
 none_yet : (n j : ℕ) → copy_of {C = Copy} (slice_index_or (replicate n (Live false None)) j Gone) ≡ None
-none_yet zero j = refl
-none_yet (suc n) zero = refl
-none_yet (suc n) (suc j) = none_yet n j
+none_yet n j = grind (arith, common_steps)
 
 none_at : (task number a n : ℕ) (sharing : Sharing) (reserving : Reserving) (x : ℕ) → copy_of (place_at (new_map task number a n sharing reserving) x) ≡ None
-none_at task number a n sharing reserving x =
-    cond_both (nat_lt x a) Gone (slice_index_or (replicate n (Live false None)) (x - a) Gone) (λ (p : Place Copy). copy_of p ≡ None) (λ e. refl) (λ e. none_yet n (x - a))
+none_at task number a n sharing reserving x = grind (arith, common_steps)
 
 none_past : (x : ℕ) → copy_of (place_at no_map x) ≡ None
 none_past x = cond_both (nat_lt x 0) Gone Gone (λ (p : Place Copy). copy_of p ≡ None) (λ e. refl) (λ e. refl)
@@ -188,8 +174,7 @@ mapped_seen size task number a n sharing reserving f l x =
     (λ j. same_one (λ (y : Map). value size f y x) no_map more (ap by_copy (none_at task number a n sharing reserving x) ∙ sym (ap by_copy (none_past x))) j) l
 
 mapped_marks : (task number a n : ℕ) (sharing : Sharing) (reserving : Reserving) (f : File) (l : ℕ) → marked l (mapped task number a n sharing reserving f) ≡ marked l f
-mapped_marks task number a n sharing reserving f l =
-    let more : Map = new_map task number a n sharing reserving in same_more (λ (y : Map). y.unmapped) no_map f.maps (more ∷ []) (λ j. same_one (λ (y : Map). y.unmapped) no_map more refl j) l
+mapped_marks task number a n sharing reserving f l = grind (arith, common_steps)
 
 module _ (size : ℕ) (m : Mount) (task number a n : ℕ) (sharing : Sharing) (reserving : Reserving) (answer : Answer) where
   pub mapped_quiet : (q : ℕ × File) → IsFileAt m q.0 q.1 → Quiet size (Some m) (Answered answer (Some (with_file m q.0 (mapped task number a n sharing reserving q.1))))
@@ -207,10 +192,7 @@ module _ (size : ℕ) (m : Mount) (task number a n : ℕ) (sharing : Sharing) (r
 module _ (size : ℕ) (c : Choice) (m : Mount) (home i : ℕ) where
   pub bytes_on : (Q : Mount → Type 0) (offset count : ℕ) (intent : Intent) (s : Spot) →
       (i < length s.file.cells → Always (On Q) (access c size m s home i intent)) → Always (On Q) (byte_access c size m home i offset count intent s)
-  bytes_on Q offset count intent s h =
-      always_unless (On Q) (λ r. tt) ((is_unmapped s i || (count == 0), OutOfRange) ∷ (nat_lt size (offset + count), CrossesPage)
-      ∷ (nat_lt most_bytes count, TooMany) ∷ []) (if is_beyond s i then refuse BeyondEnd else access c size m s home i intent)
-      (always_test (On Q) (is_beyond s i) BeyondEnd (access c size m s home i intent) tt (λ e. h (leb-false (length s.file.cells) i e)))
+  bytes_on Q offset count intent s h = grind (arith, common_steps)
 
 -- the files show what they showed, and an answer is what the map shows
 pub record Loads (size : ℕ) (old : Slot) (o : Option Spot) (i offset count : ℕ) (out : Outcome) : Type 0 where

@@ -1,4 +1,6 @@
 -- What files show after a store.
+use Rattle.std.proofs.Common.{arith}
+use Rattle.std.proofs.lemmas.Grind.{common_steps}
 use Rattle.std.proofs.Common.{◌≡◌, ⊎_elim, ℕ, Bool, true, false, ◌&&◌, ◌==◌, None, List, refl, sym, ap, ◌∙◌, subst, if◌then◌else◌}
 use Rattle.std.proofs.lemmas.Bool.{cond_both, eqb-true, eqb-false}
 use Rattle.hp_model.specs.declared.cell.Cell.{Cell}
@@ -17,9 +19,7 @@ use Rattle.hp_laws.proofs.accesses.Shown.{look, Result}
 -- ---- a store
 
 present_over : (size offset : ℕ) (bytes : List ℕ) (c : Cell Page) → has_page c ≡ true → shown size (cell_written offset bytes c) ≡ over offset bytes (shown size c)
-present_over size offset bytes Hole e = cc
-present_over size offset bytes Entered e = cc
-present_over size offset bytes (Present page) e = refl
+present_over size offset bytes c e = grind (arith, common_steps)
 
 module _ (size : ℕ) (m : Mount) (s : Spot) (at : IsSpot m s) (i : ℕ) (n : Mount) where
   -- the files show what they showed, and there is a page to be written
@@ -28,15 +28,7 @@ module _ (size : ℕ) (m : Mount) (s : Spot) (at : IsSpot m s) (i : ℕ) (n : Mo
     pub present : is_shared s.map.sharing ≡ true → has_page (cell_at (file_in n s.file_no) i) ≡ true
 
   pub ready : Result size m s at i n → Ready
-  ready done =
-      ⊎_elim (λ same. record { cells = same.0.cells; present = same.0.present })
-      (λ taken. record {
-        cells = λ j x.
-            let none = new_file None in
-            ap (λ y. look size x (file_in y j)) taken.left
-            ∙ same_put (look size x) none m.files s.file_no _ at.file.within (sym (ap (look size x) (at.file.is none))) j;
-        present = λ e. (let apart = taken.apart in cc);
-      }) done
+  ready done = grind (arith, common_steps)
 
   module _ (is : Ready) (offset : ℕ) (bytes : List ℕ) (j x : ℕ) where
     abbrev after : Mount

@@ -1,4 +1,5 @@
 -- What maps show after a store, and after a fault that writes.
+use Rattle.std.proofs.lemmas.Grind.{common_steps}
 use Rattle.std.proofs.Common.{◌≡◌, ⊎_elim, inl, inr, ◌⊎◌, map, ℕ, ◌-◌, Bool, true, false, ◌&&◌, ◌==◌, not}
 use Rattle.std.proofs.Common.{Option, None, Some, is_some, List, set, refl, sym, ap, ◌∙◌, subst, arith, if◌then◌else◌, nat_lt}
 use Rattle.std.specs.List.{slice_index_or, list_any}
@@ -45,16 +46,10 @@ module _ (m : Map) (i : ℕ) (c : Bool) (o : Option Copy) (is : place_at m i ≡
 -- ---- a map that may lose its copies of a stamp
 
 no_copy : (p : Place Copy) → copy_of (without_copy p) ≡ None
-no_copy Gone = refl
-no_copy (Live consumed copy) = refl
+no_copy p = grind (arith, common_steps)
 
 pub dropped_at : (stamp : ℕ) (m : Map) (x : ℕ) → place_at (record m { unmapped = true; places = map (drop_stamp stamp) m.places }) x ≡ drop_stamp stamp (place_at m x)
-dropped_at stamp m x =
-    elim (nat_lt x m.start) as (λ b. (if b then Gone else slice_index_or (map (drop_stamp stamp) m.places) (x - m.start) Gone)
-    ≡ drop_stamp stamp (if b then Gone else slice_index_or m.places (x - m.start) Gone)) [
-      | true ↦ refl
-      | false ↦ get_map (drop_stamp stamp) Gone refl m.places (x - m.start)
-    ]
+dropped_at stamp m x = grind (arith, common_steps)
 
 -- it shows what it showed, or had the copy and has none now
 abbrev Robs : (size stamp : ℕ) (old new : Map) (x : ℕ) (v : List ℕ) → Type 0
@@ -62,33 +57,14 @@ Robs size stamp old new x v = (by_place size (place_at new x) v ≡ by_place siz
     ⊎ ((holds stamp (place_at old x) ≡ true) × (copy_of (place_at new x) ≡ None) × (new.unmapped ≡ true))
 
 robs : (size stamp : ℕ) (m : Map) (x : ℕ) (v : List ℕ) → Robs size stamp m (robbed stamp m) x v
-robs size stamp m x v =
-    let less : Map = record m { unmapped = true; places = map (drop_stamp stamp) m.places } in
-    let p : Place Copy = place_at m x in
-    cond_both (list_any (holds stamp) m.places) less m (λ r. Robs size stamp m r x v)
-    (λ some. by_drop p (dropped_at stamp m x))
-    (λ none. inl refl)
-  where
-    by_drop : (p : Place Copy) → place_at (record m { unmapped = true; places = map (drop_stamp stamp) m.places }) x
-        ≡ drop_stamp stamp (place_at m x) → Robs size stamp m (record m { unmapped = true; places = map (drop_stamp stamp) m.places }) x v
-    by_drop p at =
-        elim (holds stamp (place_at m x)) as (λ b. holds stamp (place_at m x) ≡ b → Robs size stamp m (record m { unmapped = true; places = map (drop_stamp stamp) m.places }) x v) [
-          | true ↦ λ e. inr (e, ap copy_of at ∙ ap (λ b. copy_of (if b then without_copy (place_at m x) else place_at m x)) e ∙ no_copy (place_at m x), refl)
-          | false ↦ λ e. inl (ap (λ q. by_place size q v) at ∙ ap (λ b. by_place size (if b then without_copy (place_at m x) else place_at m x) v) e)
-        ] refl
+robs size stamp m x v = grind (arith, common_steps)
 
 pub held_copy : (stamp : ℕ) (p : Place Copy) → holds stamp p ≡ true → (a : Copy) × (copy_of p ≡ Some a) × (a.stamp ≡ stamp)
-held_copy stamp Gone e = cc
-held_copy stamp (Live c None) e = cc
-held_copy stamp (Live c (Some a)) e = (a, refl, eqb-true a.stamp stamp e)
+held_copy stamp p e = grind (arith, common_steps)
 
 -- a copy whose bytes are written stays the same copy
 pub same_written : (offset : ℕ) (bytes : List ℕ) (p q : Place Copy) → is_same_copy p (place_written offset bytes q) ≡ is_same_copy p q
-same_written offset bytes Gone q = refl
-same_written offset bytes (Live c None) q = refl
-same_written offset bytes (Live c (Some a)) Gone = refl
-same_written offset bytes (Live c (Some a)) (Live d None) = refl
-same_written offset bytes (Live c (Some a)) (Live d (Some b)) = refl
+same_written offset bytes p q = grind (arith, common_steps)
 
 -- ---- a store
 
@@ -117,12 +93,7 @@ module _ (size : ℕ) (m : Mount) (sound : IsSoundMount m) (s : Spot) (at : IsSp
   pick : (a d : Bool) (o : Option Copy) (v : List ℕ)
       → (elim o [ None ↦ (if a && (true && d) then over offset bytes v else v) | Some copy ↦ copy.page.bytes ])
       ≡ (if a && (d && not (is_some o)) then over offset bytes (elim o [ None ↦ v | Some copy ↦ copy.page.bytes ]) else (elim o [ None ↦ v | Some copy ↦ copy.page.bytes ]))
-  pick true true None v = refl
-  pick true false None v = refl
-  pick false d None v = refl
-  pick true true (Some copy) v = refl
-  pick true false (Some copy) v = refl
-  pick false d (Some copy) v = refl
+  pick a d o v = grind (arith, common_steps)
 
   shared_seen : (n : Mount) → is_shared s.map.sharing ≡ true → Copied size m s at i n → (j l x : ℕ) → Seen (written n s i offset bytes) j l x
   shared_seen n e done j l x =
@@ -167,9 +138,7 @@ module _ (size : ℕ) (m : Mount) (sound : IsSoundMount m) (s : Spot) (at : IsSp
     file_was = at.file.is (new_file None)
 
     pub map_left : map_in left s.map_no ≡ s.map
-    map_left =
-        (let long = length-map s.file.maps (robbed stamp) in
-        let within = at.map.within in get_or-set_same (map (robbed stamp) s.file.maps) s.map_no s.map no_map (omega (arith, long, within)))
+    map_left = grind (arith, common_steps)
 
     pub map_beside : (l : ℕ) → (l ≡ s.map_no → ⊥) → map_in left l ≡ robbed stamp (map_in s.file l)
     map_beside l other = get_or-set_other (map (robbed stamp) s.file.maps) s.map_no l s.map no_map other ∙ get_map (robbed stamp) no_map refl s.file.maps l
@@ -333,24 +302,13 @@ module _ (size : ℕ) (m : Mount) (sound : IsSoundMount m) (s : Spot) (at : IsSp
       (λ e. refl) (λ e. same_edit (λ (y : Map). y.unmapped) no_map (map_written i offset bytes) (λ y. refl) f.maps s.map_no l)
 
   robbed_marks : (stamp : ℕ) (y : Map) → y.unmapped ≡ true → (robbed stamp y).unmapped ≡ true
-  robbed_marks stamp y e =
-      cond_both (list_any (holds stamp) y.places) (record y { unmapped = true; places = map (drop_stamp stamp) y.places }) y (λ r. r.unmapped ≡ true) (λ some. refl) (λ none. e)
+  robbed_marks stamp y e = grind (arith, common_steps)
 
   left_marks : (stamp l : ℕ) → marked l s.file ≡ true → marked l (left stamp) ≡ true
-  left_marks stamp l e =
-      elim (cases_eq l s.map_no) as (λ _. marked l (left stamp) ≡ true) [
-        | inl same ↦ subst (λ y. marked y (left stamp) ≡ true) (sym same) (ap (λ y. y.unmapped) (map_left stamp ∙ sym (at.map.is no_map)) ∙ subst (λ y. marked y s.file ≡ true) same e)
-        | inr other ↦ ap (λ y. y.unmapped) (map_beside stamp l other) ∙ robbed_marks stamp (map_in s.file l) e
-      ]
+  left_marks stamp l e = grind (arith, common_steps)
 
   back_marks : (stamp j l : ℕ) → marked l (file_in m j) ≡ true → marked l (file_in (back stamp) j) ≡ true
-  back_marks stamp j l e =
-      elim (cases_eq j s.file_no) as (λ _. marked l (file_in (back stamp) j) ≡ true) [
-        | inl same ↦
-            subst (λ y. marked l (file_in (back stamp) y) ≡ true) (sym same)
-            (ap (marked l) (file_left stamp) ∙ left_marks stamp l (ap (marked l) (sym (file_was stamp)) ∙ subst (λ y. marked l (file_in m y) ≡ true) same e))
-        | inr other ↦ ap (marked l) (get_or-set_other m.files s.file_no j (left stamp) (new_file None) other) ∙ e
-      ]
+  back_marks stamp j l e = grind (arith, common_steps)
 
   pub store_marks : (n : Mount) → Result size m s at i n → (j l : ℕ) → marked l (file_in m j) ≡ true → marked l (file_in (written n s i offset bytes) j) ≡ true
   store_marks n done j l e =

@@ -1,4 +1,5 @@
 -- Which copies a file's maps hold, by tests of a stamp and a node; and what that says of the counts of stamps.
+use Rattle.std.proofs.lemmas.Grind.{common_steps}
 use Rattle.std.proofs.Common.{◌≡◌, ℕ, ◌+◌, ◌≤◌, Bool, true, false, ◌&&◌, ◌||◌, ◌==◌, None, Some, List, [], ◌∷◌, ◌++◌, length, map, refl, sym, ap, ◌∙◌, cond, arith, if◌then◌else◌}
 use Rattle.std.specs.List.{list_any, filter_map, flat_map, cons_option}
 use Rattle.std.proofs.lemmas.List.{map-append}
@@ -26,8 +27,7 @@ IsAgreed f = (q m n : ℕ) → file_has (is_stamp_at m q) f ≡ true → file_ha
 -- ---- how many different numbers a list has
 
 at_least_if : (b : Bool) (n : ℕ) → n ≤ cond b n (n + 1)
-at_least_if true n = omega arith
-at_least_if false n = omega arith
+at_least_if b n = grind (arith, common_steps)
 
 grows_left : (ys xs : List ℕ) → length (distinct xs) ≤ length (distinct (ys ++ xs))
 grows_left [] xs = omega arith
@@ -37,9 +37,7 @@ grows_left (y ∷ ys) xs =
     omega (arith, more, is, grows_left ys xs)
 
 absorbed : (a b : Bool) → (b ≡ true → a ≡ true) → (a || b) ≡ a
-absorbed true b h = refl
-absorbed false true h = sym (h refl)
-absorbed false false h = refl
+absorbed a b h = grind (arith, common_steps)
 
 pub fewer_members : (xs ys : List ℕ) → ((q : ℕ) → is_among q xs ≡ true → is_among q ys ≡ true) → length (distinct xs) ≤ length (distinct ys)
 fewer_members xs ys within =
@@ -71,8 +69,7 @@ pub stamps_are : (f : File) (q : ℕ) → is_among q (stamps_of f) ≡ file_has 
 stamps_are f q = maps_stamp q f.maps
 
 one_at : (b : Bool) (q s : ℕ) (rest : List ℕ) → is_among q (cons_option (if b then Some s else None) rest) ≡ ((b && (s == q)) || is_among q rest)
-one_at true q s rest = refl
-one_at false q s rest = refl
+one_at b q s rest = grind (arith, common_steps)
 
 places_at : (n q : ℕ) (ps : List (Place Copy)) → is_among q (filter_map (stamp_at n) (filter_map copy_of ps)) ≡ list_any (place_has (is_stamp_at n q)) ps
 places_at n q [] = refl
@@ -120,17 +117,14 @@ stamps_grow stamp node f g h new =
     one_more_member stamp (stamps_of f) (stamps_of g) (λ q. stamps_are g q ∙ h (is_stamp q) ∙ ap (λ b. (stamp == q) || b) (sym (stamps_are f q))) new
 
 or_weaker : (a b c d : Bool) → (a ≡ true → c ≡ true) → (b ≡ true → d ≡ true) → (a || b) ≡ true → (c || d) ≡ true
-or_weaker true b c d f g e = or_left c d (f refl)
-or_weaker false b c d f g e = or_right c d (g e)
+or_weaker a b c d f g e = grind (arith, common_steps)
 
 pub any_weaker : {X : Type 0} (p q : X → Bool) → ((x : X) → p x ≡ true → q x ≡ true) → (xs : List X) → list_any p xs ≡ true → list_any q xs ≡ true
 any_weaker p q h [] e = e
 any_weaker p q h (x ∷ xs) e = or_weaker (p x) (list_any p xs) (q x) (list_any q xs) (h x) (any_weaker p q h xs) e
 
 place_weaker : (t u : ℕ → ℕ → Bool) → ((s n : ℕ) → t s n ≡ true → u s n ≡ true) → (p : Place Copy) → place_has t p ≡ true → place_has u p ≡ true
-place_weaker t u h Gone e = e
-place_weaker t u h (Live c None) e = e
-place_weaker t u h (Live c (Some copy)) e = h copy.stamp copy.page.node e
+place_weaker t u h n e = grind (arith, common_steps)
 
 -- a weaker test finds a copy too
 pub weaker : (t u : ℕ → ℕ → Bool) (f : File) → ((s n : ℕ) → t s n ≡ true → u s n ≡ true) → file_has t f ≡ true → file_has u f ≡ true

@@ -1,4 +1,5 @@
 -- How the counts of a file change with one of its indices.
+use Rattle.std.proofs.lemmas.Grind.{common_steps}
 use Rattle.std.proofs.Common.{◌≡◌, ℕ, ◌+◌, ◌<◌, Bool, cond, length, ap, arith}
 use Rattle.std.specs.List.{slice_set, count_by}
 use Rattle.std.proofs.lemmas.List.Sums.{sum_by-set}
@@ -18,13 +19,7 @@ count-set test f i c l = sum_by-set (λ x. cond (test x) 1 0) f.cells i c Hole l
 
 -- a page by an entry: one page more, one reservation less
 pub fill_entry-pages : (f : File) (i : ℕ) (page : Page) → i < length f.cells → cell_at f i ≡ Entered → file_pages (with_cell f i (Present page)) ≡ file_pages f + 1
-fill_entry-pages f i page l is =
-    let step = count-set has_page f i (Present page) l in
-    let was = ap (share has_page) is in
-    omega (arith, step, was)
+fill_entry-pages f i page l is = grind (arith, common_steps)
 
 pub fill_entry-reserves : (f : File) (i : ℕ) (page : Page) → i < length f.cells → cell_at f i ≡ Entered → file_reserves (with_cell f i (Present page)) + 1 ≡ file_reserves f
-fill_entry-reserves f i page l is =
-    let step = count-set is_waiting f i (Present page) l in
-    let was = ap (share is_waiting) is in
-    omega (arith, step, was)
+fill_entry-reserves f i page l is = grind (arith, common_steps)

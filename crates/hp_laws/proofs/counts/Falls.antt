@@ -1,4 +1,5 @@
 -- What only gives back: no count of a file or a mount is higher after it.
+use Rattle.std.proofs.lemmas.Grind.{common_steps}
 use Rattle.std.proofs.Common.{◌≡◌, ⊎_elim, ℕ, zero, suc, ◌+◌, ◌-◌, ◌≤◌, Bool, true, false, not, None, Some, List}
 use Rattle.std.proofs.Common.{[], ◌∷◌, ◌++◌, length, map, take, drop, replicate, refl, sym, ap, ◌∙◌, cond, arith, if◌then◌else◌}
 use Rattle.std.specs.List.{list_any, sum_by, count_by, filter}
@@ -85,9 +86,7 @@ sum_by-edit_range_le g f h a b xs =
 -- ---- punched and cut
 
 hole_least : (test : Cell Page → Bool) → test Hole ≡ false → test Entered ≡ test Entered → (x : Cell Page) → bit (test (cell_punched x)) ≤ bit (test x)
-hole_least test none same Hole = omega arith
-hole_least test none same Entered = omega arith
-hole_least test none same (Present page) = let zero_here = ap bit none in omega (arith, zero_here)
+hole_least test none same x = grind (arith, common_steps)
 
 cells_punched : (a b : ℕ) (xs : List (Cell Page)) → CellsFall xs (edit_range cell_punched a b xs)
 cells_punched a b xs = record {
@@ -97,32 +96,22 @@ cells_punched a b xs = record {
 }
 
 pub no_holes : (test : Cell Page → Bool) → test Hole ≡ false → (k : ℕ) → count_by test (replicate k Hole) ≡ 0
-no_holes test none zero = refl
-no_holes test none (suc k) =
-    let here = ap bit none in
-    omega (arith, sum_by-cons (λ x. cond (test x) 1 0) Hole (replicate k Hole), here, no_holes test none k)
+no_holes test none k = grind (arith, common_steps)
 
 cut_le : (test : Cell Page → Bool) → test Hole ≡ false → (n : ℕ) (xs : List (Cell Page)) → count_by test (cells_to n xs) ≤ count_by test xs
-cut_le test none n xs =
-    let parts = sum_by-append (λ x. cond (test x) 1 0) (take n xs) (replicate (n - length xs) Hole) in
-    let front = sum_by-take-le (λ x. cond (test x) 1 0) xs n in
-    omega (arith, parts, front, no_holes test none (n - length xs))
+cut_le test none n xs = grind (arith, common_steps)
 
 cells_cut : (n : ℕ) (xs : List (Cell Page)) → CellsFall xs (cells_to n xs)
 cells_cut n xs = record { pages = cut_le has_page refl n xs; waits = cut_le is_waiting refl n xs; each = λ k. cut_le (is_page_at k) refl n xs }
 
 copy_down : (t : ℕ → ℕ → Bool) (p : Place Copy) → place_has t (without_copy p) ≡ true → place_has t p ≡ true
-copy_down t Gone e = e
-copy_down t (Live c o) e = cc
+copy_down t p e = grind (arith, common_steps)
 
 owed_if : (b : Bool) (x y : ℕ) → x ≤ y → cond b x 0 ≤ cond b y 0
-owed_if true x y l = l
-owed_if false x y l = omega arith
+owed_if b x y l = grind (arith, common_steps)
 
 copy_owes : (p : Place Copy) → bit (is_unconsumed (without_copy p)) ≤ bit (is_unconsumed p)
-copy_owes Gone = omega arith
-copy_owes (Live true o) = omega arith
-copy_owes (Live false o) = omega arith
+copy_owes p = grind (arith, common_steps)
 
 -- each map falls
 maps_fall : (h : Map → Map) → ((t : ℕ → ℕ → Bool) (m : Map) → map_has t (h m) ≡ true → map_has t m ≡ true) →
@@ -185,9 +174,7 @@ pub without_falls : (task : ℕ) (f : File) → FileFalls f (file_without task f
 without_falls task f = file_falls f (file_without task f) (same_cells f.cells) (maps_filtered (λ m. not (is_of task m)) f.maps f.maps (same_maps f.maps))
 
 fresh_has : (t : ℕ → ℕ → Bool) (p : Place Copy) → place_has t (unconsumed p) ≡ true → place_has t p ≡ true
-fresh_has t Gone e = e
-fresh_has t (Live c None) e = e
-fresh_has t (Live c (Some copy)) e = e
+fresh_has t p e = grind (arith, common_steps)
 
 child_owes : (child : ℕ) (ms : List Map) → sum_by owner_reserves (map (map_for child) ms) ≡ 0
 child_owes child [] = refl

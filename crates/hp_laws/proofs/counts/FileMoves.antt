@@ -1,4 +1,5 @@
 -- How the counts of a file change with one page: filled, copied, copied on a write.
+use Rattle.std.proofs.lemmas.Grind.{common_steps}
 use Rattle.std.proofs.Common.{◌≡◌, ⊎_elim, subst, ◌++◌, ℕ, zero, suc, ◌+◌, ◌-◌, ◌<◌, Bool, true, false, ◌||◌, ◌==◌, Option}
 use Rattle.std.proofs.Common.{None, Some, List, [], ◌∷◌, length, map, refl, sym, ap, ◌∙◌, cond, arith, if◌then◌else◌, nat_lt}
 use Rattle.std.specs.List.{list_any, slice_set, slice_index_or, sum_by, count_by, filter_map, flat_map}
@@ -28,50 +29,28 @@ pub record FileGrows (f g : File) (node k u : ℕ) : Type 0 where
 -- ---- a page of the file
 
 pub fill_entry : (f : File) (i : ℕ) (page : Page) → i < length f.cells → cell_at f i ≡ Entered → FileGrows f (with_cell f i (Present page)) page.node 1 0
-fill_entry f i page l is = record {
-  pages = fill_entry-pages f i page l is;
-  usage = omega (arith, fill_entry-pages f i page l is, fill_entry-reserves f i page l is);
-  each = λ n. (let step = count-set (is_page_at n) f i (Present page) l in let was = ap (share (is_page_at n)) is in omega (arith, step, was));
-}
+fill_entry f i page l is = grind (arith, common_steps)
 
 pub fill_hole : (f : File) (i : ℕ) (page : Page) → i < length f.cells → cell_at f i ≡ Hole → FileGrows f (with_cell f i (Present page)) page.node 1 1
-fill_hole f i page l is =
-    let step = count-set has_page f i (Present page) l in
-    let was = ap (share has_page) is in
-    let waits = count-set is_waiting f i (Present page) l in
-    let waited = ap (share is_waiting) is in
-    record {
-      pages = omega (arith, step, was);
-      usage = omega (arith, step, was, waits, waited);
-      each = λ n. (let at_n = count-set (is_page_at n) f i (Present page) l in let was_n = ap (share (is_page_at n)) is in omega (arith, at_n, was_n));
-    }
+fill_hole f i page l is = grind (arith, common_steps)
 
 -- ---- a place of a map
 
 below_start : (b : Bool) (x : Place Copy) (c : Bool) (o : Option Copy) → (if b then Gone else x) ≡ Live c o → x ≡ Live c o
-below_start true x c o e = cc
-below_start false x c o e = e
+below_start b x c o e = grind (arith, common_steps)
 
 pub record IsLiveAt (m : Map) (i : ℕ) (c : Bool) (o : Option Copy) : Type 0 where
   pub within : i - m.start < length m.places
   pub is : slice_index_or m.places (i - m.start) Gone ≡ Live c o
 
 in_range : (j : ℕ) (ps : List (Place Copy)) (c : Bool) (o : Option Copy) → slice_index_or ps j Gone ≡ Live c o → j < length ps
-in_range j [] c o e = cc
-in_range zero (p ∷ ps) c o e = omega arith
-in_range (suc j) (p ∷ ps) c o e = let rest = in_range j ps c o e in omega (arith, rest)
+in_range j ps c o e = grind (arith, common_steps)
 
 pub live_at : (m : Map) (i : ℕ) (c : Bool) (o : Option Copy) → place_at m i ≡ Live c o → IsLiveAt m i c o
-live_at m i c o e =
-    let is = below_start (nat_lt i m.start) (slice_index_or m.places (i - m.start) Gone) c o e in
-    record {
-      within = in_range (i - m.start) m.places c o is;
-      is = is;
-    }
+live_at m i c o e = grind (arith, common_steps)
 
 pub or_false : (b : Bool) → b ≡ (b || false)
-or_false true = refl
-or_false false = refl
+or_false b = grind (arith, common_steps)
 
 -- where a copy is put where none is
 put_has : (t : ℕ → ℕ → Bool) (m : Map) (i : ℕ) (c d : Bool) (new : Copy) → IsLiveAt m i c None → map_has t (with_place m i (Live d (Some new))) ≡ (t new.stamp new.page.node || map_has t m)
@@ -92,8 +71,7 @@ put_file_has t f k m i c d new here at =
 -- ---- reservations of owners
 
 owner_if : (b : Bool) (x y u v : ℕ) → x + u ≡ y + v → cond b x 0 + cond b u 0 ≡ cond b y 0 + cond b v 0
-owner_if true x y u v e = e
-owner_if false x y u v e = refl
+owner_if b x y u v e = grind (arith, common_steps)
 
 -- what a place adds to its map's reservations
 abbrev pub owed : Map → Place Copy → ℕ
@@ -101,9 +79,7 @@ owed m p = cond m.owner (cond (is_unconsumed p) 1 0) 0
 
 pub owner_step : (m : Map) (i : ℕ) (p : Place Copy) → i - m.start < length m.places
     → owner_reserves (with_place m i p) + owed m (slice_index_or m.places (i - m.start) Gone) ≡ owner_reserves m + owed m p
-owner_step m i p l =
-    let count = sum_by-set (λ (x : Place Copy). cond (is_unconsumed x) 1 0) m.places (i - m.start) p Gone l in
-    owner_if m.owner (count_by is_unconsumed (slice_set m.places (i - m.start) p)) (count_by is_unconsumed m.places) _ _ count
+owner_step m i p l = grind (arith, common_steps)
 
 pub reserves_step : (f : File) (k : ℕ) (m : Map) (i : ℕ) (c d : Bool) (o q : Option Copy) → IsMapAt f k m → IsLiveAt m i c o
     → file_reserves (with_map f k (with_place m i (Live d q))) + owed m (Live c o) ≡ file_reserves f + owed m (Live d q)
@@ -115,16 +91,13 @@ reserves_step f k m i c d o q here at =
     omega (arith, maps, was, step, is)
 
 pub same_owed : (m : Map) (c : Bool) (o q : Option Copy) → owed m (Live c o) ≡ owed m (Live c q)
-same_owed m true o q = refl
-same_owed m false o q = refl
+same_owed m c o q = grind (arith, common_steps)
 
 owned : (b : Bool) → b ≡ true → ◌≡◌ {A = ℕ} (cond b 1 0) 1
-owned true e = refl
-owned false e = cc
+owned b e = grind (arith, common_steps)
 
 pub spent : (b : Bool) → ◌≡◌ {A = ℕ} (cond b 0 0) 0
-spent true = refl
-spent false = refl
+spent b = grind (arith, common_steps)
 
 -- ---- a new copy where there is none
 

@@ -1,4 +1,5 @@
 -- Each change of a file keeps it sound.
+use Rattle.std.proofs.lemmas.Grind.{common_steps}
 use Rattle.std.proofs.Common.{◌≡◌, inl, inr, ℕ, zero, suc, ◌+◌, ◌-◌, ◌<◌, ◌≤◌, Bool, true, false, ◌&&◌, not, take, None, Some}
 use Rattle.std.proofs.Common.{List, [], ◌∷◌, length, map, get_or, replicate, cond, arith, refl, sym, ap, ◌∙◌, subst, nat_lt, if◌then◌else◌, length-append}
 use Rattle.std.specs.List.{slice_index_or, slice_set}
@@ -75,8 +76,7 @@ module _ (n pages : ℕ) (x : Map) (i : ℕ) (a : Copy) (from : n ≤ i) (to : i
   cut = edit_range without_copy (n - x.start) (n + pages - x.start) x.places
 
   none_left : (p : Place Copy) → copy_of (without_copy p) ≡ Some a → ⊥
-  none_left Gone e = cc
-  none_left (Live c o) e = cc
+  none_left p e = grind (arith, common_steps)
 
   none_at : x.start ≤ i → copy_of (get_or cut (i - x.start) Gone) ≡ Some a → ⊥
   none_at low has =
@@ -97,10 +97,7 @@ module _ (n pages : ℕ) (x : Map) (i : ℕ) (a : Copy) (from : n ≤ i) (to : i
       ] refl
 
 length-cells_to : (n : ℕ) (cells : List (Cell Page)) → length (cells_to n cells) ≡ n
-length-cells_to n cells =
-    let both = length-append (take n cells) (replicate (n - length cells) Hole) in
-    let more = length-replicate {A = Cell Page} (n - length cells) Hole in
-    omega (arith, both, more, length-take n cells)
+length-cells_to n cells = grind (arith, common_steps)
 
 pub truncated_keeps : (n : ℕ) (f : File) → KeepsFile f (truncated n f)
 truncated_keeps n f =
@@ -123,17 +120,14 @@ truncated_keeps n f =
 -- ---- a map more
 
 blank_at : (n k : ℕ) → copy_of {C = Copy} (get_or (replicate n (Live false None)) k Gone) ≡ None
-blank_at zero k = refl
-blank_at (suc n) zero = refl
-blank_at (suc n) (suc k) = blank_at n k
+blank_at n k = grind (arith, common_steps)
 
 module _ (task number a n : ℕ) (sharing : Sharing) (reserving : Reserving) where
   abbrev new : Map
   new = new_map task number a n sharing reserving
 
   blank : (i : ℕ) → copy_of (place_at new i) ≡ None
-  blank i =
-      cond_both (nat_lt i a) Gone (slice_index_or (replicate n (Live false None)) (i - a) Gone) (λ p. copy_of p ≡ None) (λ e. refl) (λ e. blank_at n (i - a))
+  blank i = grind (arith, common_steps)
 
   owns_none : (stamp : ℕ) → owns_stamp stamp new ≡ false
   owns_none stamp =
@@ -141,11 +135,7 @@ module _ (task number a n : ℕ) (sharing : Sharing) (reserving : Reserving) whe
       (λ e. (let held = map_copy (is_stamp stamp) new (and_parts new.owner (map_has (is_stamp stamp) new) e).1 in let none = sym (blank held.0) ∙ held.2 in cc))
 
   long : (cells : List (Cell Page)) → length cells ≤ length (cells_mapped sharing reserving a n cells)
-  long cells =
-      let more = length-append cells (replicate (a + n - length cells) Hole) in
-      let same = length-edit_range entered a (a + n) (at_least (a + n) cells) in
-      cond_both (is_shared sharing && reserves reserving) (edit_range entered a (a + n) (at_least (a + n) cells)) (at_least (a + n) cells) (λ cs. length cells ≤ length cs)
-      (λ e. omega (arith, more, same)) (λ e. omega (arith, more))
+  long cells = grind (arith, common_steps)
 
   pub mapped_keeps : (f : File) → KeepsFile f (mapped task number a n sharing reserving f)
   mapped_keeps f =

@@ -1,4 +1,5 @@
 -- A file whose range gets pages of zeros.
+use Rattle.std.proofs.lemmas.Grind.{common_steps}
 use Rattle.std.proofs.Common.{◌≡◌, ⊎_elim, inl, inr, ◌⊎◌, ℕ, ◌+◌, ◌-◌, ◌<◌, ◌≤◌, true, ◌==◌, List, length, map, max, take, drop, replicate, refl, sym, ap, ◌∙◌, arith}
 use Rattle.std.specs.List.{All, count_by}
 use Rattle.std.proofs.lemmas.Bool.{cases_lt}
@@ -32,22 +33,13 @@ module _ (size a b : ℕ) (nodes : List ℕ) (f : File) where
   pages = map (zero_page size) nodes
 
   pub length-longer : length longer ≡ max (length f.cells) b
-  length-longer =
-      let both = length-append f.cells (replicate (b - length f.cells) Hole) in
-      let more = length-replicate {A = Cell Page} (b - length f.cells) Hole in
-      omega (arith, both, more)
+  length-longer = grind (arith, common_steps)
 
   pub same_longer : (i : ℕ) → cell_in longer i ≡ cell_at f i
   same_longer i = same_more (λ c. c) Hole f.cells (replicate (b - length f.cells) Hole) (same_none (λ c. c) Hole (b - length f.cells)) i
 
   holes_asked : unentered a b f ≡ count_by is_hole (part a b longer)
-  holes_asked =
-      ⊎_elim
-      (λ (none : b < a).
-      ap (λ k. count_by is_hole (take k (drop a (at_least (a + (b - a)) f.cells)))) {x = b - a} {y = 0} (omega (arith, none))
-      ∙ ap (λ k. count_by is_hole (take k (drop a longer))) {x = 0} {y = b - a} (omega (arith, none)))
-      (λ (some : a ≤ b). ap (λ n. count_by is_hole (take (b - a) (drop a (at_least n f.cells)))) {x = a + (b - a)} {y = b} (omega (arith, some)))
-      (cases_lt b a)
+  holes_asked = grind (arith, common_steps)
 
   module _ (all : length nodes ≡ lacking a b f) where
     few : length pages ≤ bare a b longer

@@ -1,4 +1,5 @@
 -- How the counts of a mount change with one of its files.
+use Rattle.std.proofs.lemmas.Grind.{common_steps}
 use Rattle.std.proofs.Common.{◌≡◌, ◌==◌, subst, ℕ, ◌+◌, ◌<◌, ◌≤◌, Bool, true, false, Option, None, Some, List, [], ◌∷◌, length, map, refl, sym, ap, ◌∙◌, cond, arith}
 use Rattle.std.specs.List.{list_any, slice_index_or}
 use Rattle.std.specs.Option.{option_map}
@@ -62,21 +63,10 @@ file_fills m at_no f g nodes u at fills =
 
 -- a file more, by what it has above an empty one
 pub new_grows : (m : Mount) (name : Option (List ℕ)) (g : File) (u : ℕ) → FileGrows (new_file name) g 0 0 u → MountGrows m (with_new m g) 0 0 u
-new_grows m name g u grows =
-    let pages = sum_by-append file_pages m.files (g ∷ []) in
-    let reserves = sum_by-append file_reserves m.files (g ∷ []) in
-    let one = sum_by-cons file_pages g [] in
-    let two = sum_by-cons file_reserves g [] in
-    record {
-      pages = omega (arith, pages, one, grows.pages);
-      usage = omega (arith, pages, reserves, one, two, grows.pages, grows.usage);
-      each = λ x. omega (arith, sum_by-append (file_pages_at x) m.files (g ∷ []), sum_by-cons (file_pages_at x) g [], grows.each x);
-      limits = refl;
-    }
+new_grows m name g u grows = grind (arith, common_steps)
 
 pub nothing_more : (b : Bool) (n : ℕ) → n ≡ n + cond b 0 0
-nothing_more true n = omega arith
-nothing_more false n = omega arith
+nothing_more b n = grind (arith, common_steps)
 
 -- a change of one file that no count sees
 pub edit_grows : (m : Mount) (at_no : ℕ) (h : File → File) → ((f : File) → FileGrows f (h f) 0 0 0) → MountGrows m (record m { files = edit_at h m.files at_no }) 0 0 0

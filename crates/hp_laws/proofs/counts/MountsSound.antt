@@ -1,4 +1,5 @@
 -- A mount stays sound where its files do, and where no number and no name comes twice.
+use Rattle.std.proofs.lemmas.Grind.{common_steps}
 use Rattle.std.proofs.Common.{◌≡◌, ℕ, ◌+◌, ◌≤◌, Bool, true, false, ◌&&◌, ◌==◌, not, None, List, [], ◌∷◌, ◌++◌, length, map, cond, arith, refl, sym, ap, ◌∙◌, subst, if◌then◌else◌, nat_lt}
 use Rattle.std.specs.List.{count_by, filter, flat_map, sum_by}
 use Rattle.std.proofs.lemmas.Bool.{and_from, and_parts, both_ways, eq-eqb, eqb-true, ltb-false, ltb-true, not-true}
@@ -26,9 +27,7 @@ use Rattle.hp_laws.proofs.lists.AtMostOne.{bit}
 -- ---- sums over the files
 
 pub bit_le : (a b : Bool) → (a ≡ true → b ≡ true) → bit a ≤ bit b
-bit_le true true h = omega arith
-bit_le true false h = (let e = h refl in cc)
-bit_le false b h = omega arith
+bit_le a b h = grind (arith, common_steps)
 
 pub count_maps : (p : Map → Bool) (fs : List File) → count_by p (flat_map (λ f. f.maps) fs) ≡ sum_by (λ f. count_by p f.maps) fs
 count_maps p [] = refl
@@ -168,8 +167,7 @@ same_bit p h same xs = sum_by-map_le (λ x. bit (p x)) h (λ x. bit_le (p (h x))
 
 pub mapped_numbers : (h : Map → Map) → ((x : Map) → (h x).task ≡ x.task) → ((x : Map) → (h x).number ≡ x.number)
     → (task number : ℕ) (xs : List Map) → count_by (is_map task number) (map h xs) ≤ count_by (is_map task number) xs
-mapped_numbers h tasks numbers task number xs =
-    same_bit (is_map task number) h (λ x. ap (λ t. (t == task) && ((h x).number == number)) (tasks x) ∙ ap (λ u. (x.task == task) && (u == number)) (numbers x)) xs
+mapped_numbers h tasks numbers task number xs = grind (arith, common_steps)
 
 pub filtered_numbers : (p : Map → Bool) (task number : ℕ) (xs ys : List Map) → count_by (is_map task number) ys ≤ count_by (is_map task number) xs
     → count_by (is_map task number) (filter p ys) ≤ count_by (is_map task number) xs
@@ -178,8 +176,7 @@ filtered_numbers p task number xs ys le = let fewer = sum_by-filter_le (λ x. bi
 -- ---- numbers of children
 
 cons_count : (p q : Map → Bool) (b : Bool) (x : Map) (xs : List Map) (n : ℕ) → (b ≡ true → p x ≡ true → q x ≡ true) → count_by p xs ≤ n → count_by p (cond b (x ∷ xs) xs) ≤ bit (q x) + n
-cons_count p q true x xs n h le = let one = bit_le (p x) (q x) (h refl) in let cons = sum_by-cons (λ x. bit (p x)) x xs in omega (arith, one, cons, le)
-cons_count p q false x xs n h le = omega (arith, le)
+cons_count p q b x xs n h le = grind (arith, common_steps)
 
 -- of the maps that are kept no more pass the one test than of all the other
 filter_count : (p q keep : Map → Bool) → ((x : Map) → keep x ≡ true → p x ≡ true → q x ≡ true) → (xs : List Map) → count_by p (filter keep xs) ≤ count_by q xs

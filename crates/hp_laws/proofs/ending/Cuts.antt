@@ -1,4 +1,5 @@
 -- What files and maps show after a range of a file or of a map is gone.
+use Rattle.std.proofs.lemmas.Grind.{common_steps}
 use Rattle.std.proofs.Common.{◌≡◌, ⊎_elim, inl, inr, ◌⊎◌, subst, ℕ, ◌+◌, ◌-◌, ◌<◌, ◌≤◌, ◌&&◌, ◌==◌, Bool, true, false, Option}
 use Rattle.std.proofs.Common.{None, Some, List, length, map, replicate, take, get_or, option_map, refl, sym, ap, ◌∙◌, arith, if◌then◌else◌, nat_le, nat_lt}
 use Rattle.std.specs.List.{list_any}
@@ -99,13 +100,10 @@ pub record IsCut (size : ℕ) (f g : File) (h : Map → Map) (cut : ℕ → Bool
   pub seen : (y : Map) → IsSoundMap (length f.cells) y → (x : ℕ) → value size g (h y) x ≡ (if cut x then zeros size else value size f y x)
 
 no_copy : (size : ℕ) (p : Place Copy) (v : List ℕ) → by_place size (without_copy p) v ≡ v
-no_copy size Gone v = refl
-no_copy size (Live consumed copy) v = refl
+no_copy size p v = grind (arith, common_steps)
 
 punched_shows : (size : ℕ) (c : Cell Page) → shown size (cell_punched c) ≡ zeros size
-punched_shows size Hole = refl
-punched_shows size Entered = refl
-punched_shows size (Present page) = refl
+punched_shows size c = grind (arith, common_steps)
 
 module _ (size a b : ℕ) (f : File) where
   punch_cells : (x : ℕ) → look size x (punched a b f) ≡ (if is_in a b x then zeros size else look size x f)
@@ -137,18 +135,10 @@ module _ (size n : ℕ) (f : File) where
   cell_kept x = same_more (λ (c : Cell Page). c) Hole (take n f.cells) (replicate (n - length f.cells) Hole) (λ j. same_none (λ (c : Cell Page). c) Hole (n - length f.cells) j) x
 
   cut_cells : (x : ℕ) (c : Bool) → nat_le n x ≡ c → look size x (truncated n f) ≡ (if c then zeros size else look size x f)
-  cut_cells x true past =
-      let long = length-take n f.cells in
-      let from = leb-true n x past in
-      ap (shown size) (cell_kept x ∙ get_or_past (take n f.cells) x Hole (omega (arith, long, from)))
-  cut_cells x false below = ap (shown size) (cell_kept x ∙ get_or-take n f.cells x Hole (leb-false n x below))
+  cut_cells x c past = grind (arith, common_steps)
 
   none_beyond : (y : Map) → IsSoundMap (length f.cells) y → (x : ℕ) → length f.cells ≤ x → (v : List ℕ) → by_place size (place_at y x) v ≡ v
-  none_beyond y sound x past v = by_copy (copy_of (place_at y x)) refl
-    where
-      by_copy : (o : Option Copy) → copy_of (place_at y x) ≡ o → (elim o [ None ↦ v | Some copy ↦ copy.page.bytes ]) ≡ v
-      by_copy None e = refl
-      by_copy (Some copy) e = (let below = (sound x copy e).below in absurd (omega (arith, below, past)))
+  none_beyond y sound x past v = grind (arith, common_steps)
 
   cut_seen : (y : Map) → IsSoundMap (length f.cells) y → (x : ℕ) (c : Bool) → nat_le n x ≡ c →
       value size (truncated n f) (map_punched n (n + length f.cells) y) x ≡ (if c then zeros size else value size f y x)

@@ -1,4 +1,5 @@
 -- What a script keeps whose events on slots only end maps of one task: a fork's, or an exit's.
+use Rattle.std.proofs.lemmas.Grind.{common_steps}
 use Rattle.std.proofs.Common.{false, ◌≡◌, ⊎_elim, inl, inr, subst, ℕ, ◌<◌, ◌≤◌, ◌==◌, Option, None, Some, Ok, Err, List, [], ◌∷◌, ◌++◌, length, refl, sym, ap, ◌∙◌, arith}
 use Rattle.std.specs.List.{range_with_len, slice_index_or, slice_set}
 use Rattle.std.proofs.lemmas.Bool.{cases_eq, ltb-true}
@@ -50,32 +51,15 @@ pub record Fades (size gone : ℕ) (x y : Slot) : Type 0 where
 
 module _ (size gone : ℕ) where
   none_keeps : SlotKeeps size None (slot.ExitMaps gone) None
-  none_keeps = record {
-    names = λ name i f goes_on named. cc;
-    numbers = λ task number i p goes_on found. cc;
-    together = λ a b p o goes_on stays found there. cc;
-  }
+  none_keeps = grind (arith, common_steps)
 
   pub stays : (x : Slot) → Fades size gone x x
-  stays None = record { keeps = none_keeps; limits = tt; usage = omega arith; whole = λ task number p other found. (p, found, refl, refl); files = files_same None }
-  stays (Some m) =
-      record {
-        keeps = same_keeps size m (slot.ExitMaps gone) (λ j x old. refl) (λ j l x old. refl);
-        limits = refl;
-        usage = omega arith;
-        whole = λ task number p other found. (p, found, refl, refl);
-        files = files_same (Some m);
-      }
+  stays x = grind (arith, common_steps)
 
   -- one after the other
   module _ (x y z : Slot) where
     map_then : (p q r : Spot) (i : ℕ) → KeptMap size x (slot.ExitMaps gone) y p q i → KeptMap size y (slot.ExitMaps gone) z q r i → KeptMap size x (slot.ExitMaps gone) z p r i
-    map_then p q r i first second = record {
-      shape = second.shape ∙ first.shape;
-      file = λ name goes_on named. second.file name goes_on (first.file name goes_on named);
-      marked = λ marked. second.marked (first.marked marked);
-      shows = ⊎_elim (λ a. ⊎_elim (λ b. inl (b ∙ a)) (λ lost. absurd lost) second.shows) (λ lost. absurd lost) first.shows;
-    }
+    map_then p q r i first second = grind (arith, common_steps)
 
     keeps_then : SlotKeeps size x (slot.ExitMaps gone) y → SlotKeeps size y (slot.ExitMaps gone) z → SlotKeeps size x (slot.ExitMaps gone) z
     keeps_then first second = record {
@@ -93,16 +77,10 @@ module _ (size gone : ℕ) where
     }
 
   limits_then : (x y z : Slot) → SameLimits x y → SameLimits y z → SameLimits x z
-  limits_then None y z a b = tt
-  limits_then (Some m) None z a b = absurd a
-  limits_then (Some m) (Some n) None a b = absurd b
-  limits_then (Some m) (Some n) (Some o) a b = b ∙ a
+  limits_then x y z a b = grind (arith, common_steps)
 
   whole_then : (x y z : Slot) → Whole gone x y → Whole gone y z → Whole gone x z
-  whole_then x y z a b task number p other found =
-      let q = a task number p other found in
-      let r = b task number q.0 other q.1 in
-      (r.0, r.1, r.2 ∙ q.2, r.3 ∙ q.3)
+  whole_then x y z a b task number p other found = grind (arith, common_steps)
 
   pub fades_then : (x y z : Slot) → Fades size gone x y → Fades size gone y z → Fades size gone x z
   fades_then x y z a b =
@@ -129,12 +107,7 @@ module _ (size gone : ℕ) where
 
   -- a child's maps end by its fork as by its exit
   fork_map : (x y : Slot) (parent : ℕ) (p q : Spot) (i : ℕ) → KeptMap size x (slot.ForkMaps parent gone) y p q i → KeptMap size x (slot.ExitMaps gone) y p q i
-  fork_map x y parent p q i kept = record {
-    shape = kept.shape;
-    file = kept.file;
-    marked = kept.marked;
-    shows = ⊎_elim (λ same. inl same) (λ lost. absurd lost) kept.shows;
-  }
+  fork_map x y parent p q i kept = grind (arith, common_steps)
 
   pub fork_fades : (m : Mount) (parent : ℕ) → Fades size gone (Some m) (Some (forked parent gone m))
   fork_fades m parent =
@@ -257,8 +230,7 @@ module _ (gone : ℕ) where
   forks_of (k ∷ ks) done parent = ((refl, λ r. or_of done r (fork_slots ks (done ++ k ∷ []) parent gone) (forks_of ks (done ++ k ∷ []) parent)), forks_of ks done parent)
 
   when_of : (r : Reply) (next : Script) → AllOf next → AllOf (when_done r next)
-  when_of (Err r) next all = tt
-  when_of (Ok a) next all = all
+  when_of r next all = grind (arith, common_steps)
 
 -- ---- fork and exit
 

@@ -1,4 +1,5 @@
 -- What a step ends is gone: after an umount there is no mount, after an unlink no file of the name, and after an exit no map of the task on any slot.
+use Rattle.std.proofs.lemmas.Grind.{common_steps}
 use Rattle.std.proofs.Common.{◌≡◌, ⊎_elim, subst, ℕ, ◌<◌, ◌==◌, ◌||◌, Bool, true, false, not, None, Option, Some, Ok, Err, List, [], ◌∷◌, length, map, option_map, refl, sym, ap, ◌∙◌, arith}
 use Rattle.std.specs.List.{filter, list_any, range_with_len, slice_index_or, slice_set}
 use Rattle.std.proofs.lemmas.Bool.{cases_eq, cases_lt, eq-eqb, eqb-true, false_from_ne_true, ltb-true}
@@ -144,24 +145,18 @@ module _ (s : State) (st : IsSettledState s) where
   NoMount (Answered a new) = new ≡ None
 
   umount_none : (size k : ℕ) (c : Choice) (old : Slot) → Always NoMount (slot_event size k c old slot.Umount)
-  umount_none size k c None = tt
-  umount_none size k c (Some m) = always_unless NoMount (λ r. tt) (umount_tests k m) (gives Done (Some m) None) (always_gives NoMount Done (Some m) None refl)
+  umount_none size k c old = grind (arith, common_steps)
 
   umount_gone : (t : State) (k : ℕ) → k < length s.slots → (o : Outcome) → NoMount o → t.slots ≡ slice_set s.slots k (left_by (slot_at s k) o) → IsGone s (step.Umount k) (reply_of o) t
-  umount_gone t k l (Refused r) none slots = tt
-  umount_gone t k l (Answered a new) none slots = ap (λ (xs : List Slot). slice_index_or xs k None) slots ∙ get_or-set_same s.slots k new None l ∙ none
+  umount_gone t k l o none slots = grind (arith, common_steps)
 
   number_gone : (t : State) (k task number a b : ℕ) → k < length s.slots → (o : Outcome) → Ends task number a b (slot_at s k) o → t.slots ≡ slice_set s.slots k (left_by (slot_at s k) o)
       → IsGone s (step.Unmap task k number a b) (reply_of o) t
-  number_gone t k task number a b l (Refused r) ends slots = tt
-  number_gone t k task number a b l (Answered x new) ends slots = λ none.
-      subst (λ y. spot_on y task number ≡ None) (sym (ap (λ (xs : List Slot). slice_index_or xs k None) slots ∙ get_or-set_same s.slots k new None l)) (ends none)
+  number_gone t k task number a b l o ends slots = grind (arith, common_steps)
 
   name_gone : (t : State) (k : ℕ) (name : List ℕ) → k < length s.slots → (o : Outcome) → Nameless name o → t.slots ≡ slice_set s.slots k (left_by (slot_at s k) o)
       → IsGone s (step.Unlink k name) (reply_of o) t
-  name_gone t k name l (Refused r) none slots = tt
-  name_gone t k name l (Answered a new) none slots =
-      ap (λ (xs : List Slot). named_on (slice_index_or xs k None) name) slots ∙ ap (λ x. named_on x name) (get_or-set_same s.slots k new None l) ∙ none
+  name_gone t k name l o none slots = grind (arith, common_steps)
 
   event_gone : (e : Event) (reply : Reply) (t : State) → is_whole e ≡ true → IsEvent s e reply t → IsGone s (step_of e) reply t
   event_gone (OnSlot k slot.Umount) reply t whole is =
@@ -186,11 +181,7 @@ module _ (s : State) (st : IsSettledState s) where
   event_gone (OnPool other) reply t whole is = tt
 
   early_gone : (x : Step) (r : Refusal) → IsGone s x (Err r) s
-  early_gone (step.Umount k) r = tt
-  early_gone (step.Exit task) r = tt
-  early_gone (step.Unlink k name) r = tt
-  early_gone (step.Unmap task k number a b) r = tt
-  early_gone other r = tt
+  early_gone x r = grind (arith, common_steps)
 
   pub step_gone : (reply : Reply) (t : State) (x : Step) → IsStep s x reply t → IsGone s x reply t
   step_gone reply t x is = by_event s (λ x reply t. IsGone s x reply t) (λ x r early. early_gone x r) event_gone (λ parent child reply t it. tt) exit_gone reply t x is

@@ -1,4 +1,6 @@
 -- What a refused fork leaves: the slots are as they were, or without the child's old maps.
+use Rattle.std.proofs.Common.{arith}
+use Rattle.std.proofs.lemmas.Grind.{common_steps}
 use Rattle.std.proofs.Common.{◌≡◌, ⊎_elim, inl, inr, ◌⊎◌, subst, ℕ, ◌||◌, ◌==◌, ◌&&◌, Bool, true, false, Option, None, Some}
 use Rattle.std.proofs.Common.{is_some, Ok, Err, List, [], ◌∷◌, ◌++◌, length, map, option_map, refl, sym, ap, ◌∙◌, if◌then◌else◌}
 use Rattle.std.specs.Bool.{MatchBool}
@@ -59,8 +61,7 @@ pub record SameSetting (s t : State) : Type 0 where
   pub overcommit : t.overcommit ≡ s.overcommit
 
 outcome_setting : (s : State) (k : ℕ) (o : Outcome) → SameSetting s (with_outcome s k o).1
-outcome_setting s k (Refused r) = record { table = refl; nr = refl; overcommit = refl }
-outcome_setting s k (Answered a new) = record { table = refl; nr = refl; overcommit = refl }
+outcome_setting s k o = grind (arith, common_steps)
 
 pub plan_setting : (s : State) (k : ℕ) (p : Plan) → Gives p → SameSetting s (planned s k p).1
 plan_setting s k (Finish o) h = outcome_setting s k o
@@ -86,18 +87,14 @@ module _ (child : ℕ) where
   BecomesBy f old (Answered a new) = new ≡ option_map f old
 
   pub exit_becomes : (size k : ℕ) (c : Choice) (old : Slot) → Always (λ o. left_by old o ≡ option_map (without_task child) old) (slot_event size k c old (slot.ExitMaps child))
-  exit_becomes size k c None = refl
-  exit_becomes size k c (Some m) = always_gives (λ o. left_by (Some m) o ≡ Some (without_task child m)) Done (Some m) (Some (without_task child m)) refl
+  exit_becomes size k c old = grind (arith, common_steps)
 
   exit_gives : (size k : ℕ) (c : Choice) (old : Slot) → Gives (slot_event size k c old (slot.ExitMaps child))
   exit_gives size k c None = tt
   exit_gives size k c (Some m) = gives_back Done (Some m) (Some (without_task child m))
 
   pub fork_becomes : (parent size k : ℕ) (c : Choice) (old : Slot) → Always (BecomesBy (forked parent child) old) (slot_event size k c old (slot.ForkMaps parent child))
-  fork_becomes parent size k c None = tt
-  fork_becomes parent size k c (Some m) =
-      always_unless (BecomesBy (forked parent child) (Some m)) (λ r. tt) (fork_tests c m parent child) (gives Done (Some m) (Some (forked parent child m)))
-      (always_gives (BecomesBy (forked parent child) (Some m)) Done (Some m) (Some (forked parent child m)) refl)
+  fork_becomes parent size k c old = grind (arith, common_steps)
 
   fork_gives : (parent size k : ℕ) (c : Choice) (old : Slot) → Gives (slot_event size k c old (slot.ForkMaps parent child))
   fork_gives parent size k c None = tt
@@ -145,15 +142,13 @@ module _ (child : ℕ) where
   bare (Some m) none is = ap Some (without_none child m none) ∙ is
 
   left : (old new : Slot) → Goes old new false → IsForkLeft child old new
-  left old new (inl same) = inl same
-  left old new (inr touched) = inr (⊎_elim (λ e. cc) (λ clean. sym clean ∙ touched.same) touched.clean)
+  left old new h = grind (arith, common_steps)
 
   for_good : (old new : Slot) (todo : Bool) → Touched old new false → Touched old new todo
   for_good old new todo touched = record { same = touched.same; swept = touched.swept; clean = ⊎_elim (λ e. cc) (λ clean. inr clean) touched.clean }
 
   still_to_do : (old new : Slot) (todo more : Bool) → (todo ≡ true → more ≡ true) → Goes old new todo → Goes old new more
-  still_to_do old new todo more h (inl same) = inl same
-  still_to_do old new todo more h (inr touched) = inr (record { same = touched.same; swept = touched.swept; clean = ⊎_elim (λ e. inl (h e)) (λ clean. inr clean) touched.clean })
+  still_to_do old new todo more h h' = grind (arith, common_steps)
 
 -- ---- the task table
 
@@ -177,8 +172,7 @@ added_removed child home (x ∷ xs) e = by_test (x.0 == child) refl e (added_rem
 -- ---- a fork under way
 
 pub either_with : {P Q R : Type 0} (b : Bool) → (b ≡ true → P → R) → (b ≡ false → Q → R) → MatchBool b P Q → R
-either_with true f g is = f refl is
-either_with false f g is = g refl is
+either_with b f g is = grind (arith, common_steps)
 
 module _ (s : State) (parent child home : ℕ) (unknown : is_known s.table child ≡ false) (t : State) where
   record Forking (todo : List ℕ) (u : State) : Type 0 where
@@ -332,16 +326,4 @@ fork_refused s st parent child r t is =
 
 -- a fork onto a task that is there changes nothing
 pub fork_known : (s : State) (parent child : ℕ) (r : Refusal) (t : State) → is_known s.table child ≡ true → IsScripted s (Fork parent child) (Err r) t → t ≡ s
-fork_known s parent child r t known is = by_home (home_of s.table parent) is.0 is.1 is.2.2 is.3
-  where
-    left_same : (q : Reply) (mid : State) (x : Refusal) → Err x ≡ q → s ≡ mid → IsScript mid (rest s parent child q) (Err r) t → t ≡ s
-    left_same q mid x first second go = (subst (λ y. IsScript mid (rest s parent child y) (Err r) t) (sym first) go).1 ∙ sym second
-
-    by_home : (o : Option ℕ) (q : Reply) (mid : State)
-        → with_table s (when_known s.table o (λ home. or_refused ((is_known s.table child, TaskExists) ∷ (is_crowded s.table, TooMany) ∷ []) s.table (Ok Done, added s.table child home))) ≡ (q, mid)
-        → IsScript mid (rest s parent child q) (Err r) t → t ≡ s
-    by_home None q mid e go = left_same q mid NoSuchTask (ap (λ (y : Reply × State). y.0) e) (ap (λ (y : Reply × State). y.1) e) go
-    by_home (Some home) q mid e go =
-        let refused : with_table s (Err TaskExists, s.table) ≡ (q, mid) =
-        ap (λ b. with_table s (or_refused ((b, TaskExists) ∷ (is_crowded s.table, TooMany) ∷ []) s.table (Ok Done, added s.table child home))) (sym known) ∙ e in
-        left_same q mid TaskExists (ap (λ (y : Reply × State). y.0) refused) (ap (λ (y : Reply × State). y.1) refused) go
+fork_known s parent child r t known is = grind (arith, common_steps)

@@ -1,4 +1,5 @@
 -- An unmap of all that was left of a map ends its number.
+use Rattle.std.proofs.lemmas.Grind.{common_steps}
 use Rattle.std.proofs.Common.{◌≡◌, map, option_map, ℕ, ◌+◌, ◌≤◌, Bool, true, false, ◌||◌, not, Option, None, Some, List, [], ◌∷◌, get_or}
 use Rattle.std.proofs.Common.{refl, sym, ap, ◌∙◌, arith, if◌then◌else◌}
 use Rattle.std.specs.List.{count_by, filter, list_any, sum_by}
@@ -38,11 +39,7 @@ module _ (task number a b : ℕ) where
   left ms = filter (is_left (is_map task number)) (map (map_unmapped (is_map task number) a b) ms)
 
   same_test : (y : Map) → is_map task number (map_unmapped (is_map task number) a b y) ≡ is_map task number y
-  same_test y = by_test (is_map task number y)
-    where
-      by_test : (c : Bool) → is_map task number (if c then without_range a b y else y) ≡ is_map task number y
-      by_test true = refl
-      by_test false = refl
+  same_test y = grind (arith, common_steps)
 
   any_cut : (ms : List Map) → list_any (is_map task number) (map (map_unmapped (is_map task number) a b) ms) ≡ list_any (is_map task number) ms
   any_cut [] = refl

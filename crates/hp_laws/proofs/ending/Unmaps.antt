@@ -1,4 +1,6 @@
 -- What names and numbers mean after a range of a map is unmapped, and where maps of a task go or are made for a child.
+use Rattle.std.proofs.Common.{arith}
+use Rattle.std.proofs.lemmas.Grind.{common_steps}
 use Rattle.std.proofs.Common.{◌≡◌, inl, subst, ℕ, ◌-◌, ◌&&◌, ◌==◌, Bool, true, false, not, Option, None, Some, List, [], ◌∷◌, map, refl, sym, ap, ◌∙◌, if◌then◌else◌}
 use Rattle.std.specs.List.{list_any}
 use Rattle.std.proofs.lemmas.Bool.{and_parts, cond_both, eq-eqb, eqb-false, eqb-true, false_from_ne_true, or_left, or_right}
@@ -35,8 +37,7 @@ spot_passes m test s e =
     ap (λ (y : Spot). test y.map) (sym there.2.2) ∙ (found_place test there.0.1.maps there.2.0 there.2.1).passes
 
 not_not : (c : Bool) → not c ≡ false → c ≡ true
-not_not true e = refl
-not_not false e = cc
+not_not c e = grind (arith, common_steps)
 
 twice : {X : Type 0} (f g : X → X) (xs : List X) → map g (map f xs) ≡ map (λ x. g (f x)) xs
 twice f g [] = refl
@@ -57,9 +58,7 @@ module _ (size : ℕ) (m : Mount) (task number a b : ℕ) where
   middle = record m { files = map cut_file m.files }
 
   cut_shape : (y : Map) → shape_of (cut y) ≡ shape_of y
-  cut_shape y =
-      cond_both (test y) (without_range a b y) y (λ z. shape_of z ≡ shape_of y)
-      (λ e. pages_same y y.unmapped (without_range a b y).places (length-edit_range (λ p. Gone) (a - y.start) (b - y.start) y.places)) (λ e. refl)
+  cut_shape y = grind (arith, common_steps)
 
   same_keys : keys middle ≡ keys m
   same_keys = key_map file_key cut_file (λ f. ap (λ ks. (f.name, ks)) (key_map shape_of cut cut_shape f.maps)) m.files
@@ -198,14 +197,7 @@ module _ (size : ℕ) (m : Mount) (task number a b : ℕ) where
 module _ (size : ℕ) (m : Mount) (e : SlotEvent) (stores : (j x : ℕ) (old : List ℕ) → old ≡ stored_by size (Some m) e j x old)
     (sees : (j l x : ℕ) (old : List ℕ) → old ≡ seen_by size (Some m) e j l x old) where
   pub same_keeps : SlotKeeps size (Some m) e (Some m)
-  same_keeps =
-      by_place size m m e (record {
-        names = λ name f goes_on named. (f, named, refl);
-        numbers = λ task number p goes_on found. (p, found, refl);
-        cells = λ j x. stores j x (shown_on size (Some m) j x);
-        maps = λ task number x p found. inl (sees p.file_no p.map_no x (seen_on size (Some m) p.file_no p.map_no x));
-        marks = λ task number p found marked. marked;
-      })
+  same_keeps = grind (arith, common_steps)
 
   -- but for the maps of a task, of which the numbers end
   module _ (gone : ℕ) (h : File → File) (each : FilesFollow h (is_not_of gone)) (ends : (t u : ℕ) → ends_number (Some m) e t u ≡ (gone == t))

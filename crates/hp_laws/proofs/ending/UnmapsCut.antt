@@ -1,4 +1,6 @@
 -- An unmap takes its range from the map that it names, and leaves the places of all other maps and the cells of all files.
+use Rattle.std.proofs.Common.{arith}
+use Rattle.std.proofs.lemmas.Grind.{common_steps}
 use Rattle.std.proofs.Common.{◌≡◌, subst, ℕ, ◌<◌, ◌&&◌, ◌==◌, Bool, true, false, None, Some, Err, List, [], ◌∷◌, length, refl, sym, ap, ◌∙◌, if◌then◌else◌}
 use Rattle.std.specs.List.{slice_index_or, slice_set}
 use Rattle.std.proofs.lemmas.Bool.{and_parts, eq-eqb, eqb-true, ltb-true}
@@ -47,8 +49,7 @@ module _ (owner gone a b : ℕ) where
   cut_places false y i = refl
 
   same_mark : (c : Bool) (y : Map) → (if c then without_range a b y else y).unmapped ≡ y.unmapped
-  same_mark true y = refl
-  same_mark false y = refl
+  same_mark c y = grind (arith, common_steps)
 
   unmap_leaves : (size k : ℕ) (c : Choice) (old : Slot) → Always (CutsTo old) (slot_event size k c old (slot.Unmap owner gone a b))
   unmap_leaves size k c None = tt
@@ -95,8 +96,7 @@ module _ (s : State) where
   event_cuts (OnPool other) reply t whole is = tt
 
   early_cuts : (x : Step) (r : Refusal) → Unmaps s x (Err r) s
-  early_cuts (step.Unmap owner k gone a b) r = tt
-  early_cuts other r = tt
+  early_cuts x r = grind (arith, common_steps)
 
   pub step_unmaps : (reply : Reply) (t : State) (x : Step) → IsStep s x reply t → Unmaps s x reply t
   step_unmaps reply t x is =

@@ -1,4 +1,5 @@
 -- A step leaves on its own slot the places of maps and the cells of files as they were, but for what it reaches.
+use Rattle.std.proofs.lemmas.Grind.{common_steps}
 use Rattle.std.proofs.Common.{◌≡◌, ⊎_elim, inl, inr, ◌⊎◌, ℕ, ◌+◌, ◌-◌, ◌<◌, Bool, true, false, ◌&&◌, ◌==◌, not, replicate, take, ◌≤◌}
 use Rattle.std.proofs.Common.{Option, None, Some, is_some, Ok, Err, List, [], ◌∷◌, length, get_or, refl, sym, ap, ◌∙◌, subst, arith, if◌then◌else◌, nat_le, nat_lt}
 use Rattle.std.specs.List.{slice_index_or, slice_set}
@@ -118,9 +119,7 @@ module _ (m : Mount) (sound : IsSoundMount m) (k : ℕ) (name : List ℕ) (q : �
       where
         by_tests : (c d : Bool) → place_at (map_punched n (n + length q.1.cells) y) i ≡ (if c && d then without_copy (place_at y i) else place_at y i)
             → (place_at (map_punched n (n + length q.1.cells) y) i ≡ place_at y i) ⊎ ((c ≡ true) × (place_at (map_punched n (n + length q.1.cells) y) i ≡ without_copy (place_at y i)))
-        by_tests true true e = inr (refl, e)
-        by_tests true false e = inl e
-        by_tests false d e = inl e
+        by_tests c d e = grind (arith, common_steps)
 
     truncate_kept : Keeps (Some m) (step.Truncate k name n) (Some (swept (with_file m q.0 cut_file)))
     truncate_kept =
@@ -472,10 +471,7 @@ module _ (s : State) (st : IsSettledState s) (t : State) (tt_sound : (k : ℕ) �
   event_kept (OnPool e) (Ok a) whole is = pool_kept e a
     where
       pool_kept : (e : PoolEvent) (a : Answer) → KeepsOwn s (step_of (OnPool e)) (Ok a) t
-      pool_kept (pool.Nr n) a = λ o on. cc
-      pool_kept (pool.Overcommit n) a = λ o on. cc
-      pool_kept pool.Meminfo a = λ o on. cc
-      pool_kept pool.Nodes a = λ o on. cc
+      pool_kept e a = grind (arith, common_steps)
   event_kept (Tasks (table.Add task home)) (Err r) whole is = tt
   event_kept (Tasks (table.Find task)) (Err r) whole is = tt
   event_kept (OnPool (pool.Nr n)) (Err r) whole is = tt

@@ -1,4 +1,6 @@
 -- Where tasks have their homes after a change of the table.
+use Rattle.std.proofs.Common.{arith}
+use Rattle.std.proofs.lemmas.Grind.{common_steps}
 use Rattle.std.proofs.Common.{◌≡◌, subst, ℕ, ◌==◌, Bool, true, false, None, Option, Some, Ok, Err, [], ◌∷◌, is_some, option_map, refl, sym, ap, ◌∙◌, cond, if◌then◌else◌}
 use Rattle.std.specs.List.{find}
 use Rattle.std.proofs.lemmas.Bool.{eq-eqb, eqb-true, false_from_ne_true}
@@ -51,15 +53,4 @@ home_removed (x ∷ xs) gone task = by_tests (x.0 == gone) refl (gone == task) r
 
 -- a child that is added is not its parent
 pub child_is_another : (nodes parent child : ℕ) (t u : Table) (a : Answer) → table_event nodes t (table.FindAndAdd parent child) ≡ (Ok a, u) → parent ≡ child → ⊥
-child_is_another nodes parent child t u a h same = by_home (home_of t parent) refl (ap (λ (q : Reply × Table). q.0) h)
-  where
-    rest : ℕ → Reply × Table
-    rest home = or_refused ((is_crowded t, TooMany) ∷ []) t (Ok Done, added t child home)
-
-    by_home : (o : Option ℕ) → home_of t parent ≡ o → (when_known t o (λ home. or_refused ((is_known t child, TaskExists) ∷ (is_crowded t, TooMany) ∷ []) t (Ok Done, added t child home))).0 ≡ Ok a → ⊥
-    by_home None none e = cc
-    by_home (Some home) some e = by_known (is_known t child) (ap (λ k. is_known t k) (sym same) ∙ ap is_some some) e
-      where
-        by_known : (b : Bool) → b ≡ true → (cond b (Err TaskExists, t) (rest home)).0 ≡ Ok a → ⊥
-        by_known true is e = cc
-        by_known false is e = cc
+child_is_another nodes parent child t u a h same = grind (arith, common_steps)

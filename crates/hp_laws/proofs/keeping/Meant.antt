@@ -1,4 +1,6 @@
 -- What names and numbers mean after a step: what an event keeps of its slot its step keeps of all slots.
+use Rattle.std.proofs.Common.{arith}
+use Rattle.std.proofs.lemmas.Grind.{common_steps}
 use Rattle.std.proofs.Common.{◌≡◌, ⊎_elim, inl, inr, subst, ℕ, ◌<◌, Bool, true, false, ◌&&◌, ◌==◌, not, None, Some, Ok, Err, List, length, refl, sym, ap, ◌∙◌, if◌then◌else◌, nat_le}
 use Rattle.std.specs.Str.{bytes_eq}
 use Rattle.std.specs.List.{slice_index_or, slice_set}
@@ -78,12 +80,10 @@ module _ (s : State) (step : Step) (reply : Reply) (t : State) (slot : ℕ) (siz
 -- ---- what is made of bytes
 
 refused_stores : (s : State) (step : Step) (r : Refusal) (k j x : ℕ) (old : List ℕ) → old ≡ stored_over s step (Err r) k j x old
-refused_stores s (Store task k number i offset bytes) r l j x old = refl
-refused_stores s other r l j x old = refl
+refused_stores s step r l j x old = grind (arith, common_steps)
 
 refused_writes : (s : State) (step : Step) (r : Refusal) (k j l x : ℕ) (old : List ℕ) → old ≡ seen_over s step (Err r) k j l x old
-refused_writes s (Store task k number i offset bytes) r o j l x old = refl
-refused_writes s other r o j l x old = refl
+refused_writes s step r o j l x old = grind (arith, common_steps)
 
 here : (k : ℕ) → (k == k) ≡ true
 here k = eq-eqb k k refl
@@ -97,52 +97,28 @@ passed b c new old e = ap (λ b. if b && c then new else old) (sym e)
 
 module _ (s : State) (k : ℕ) (a : Answer) where
   stored_here : (e : SlotEvent) (j i : ℕ) (old : List ℕ) → stored_by s.page_size (slot_at s k) e j i old ≡ stored_over s (slot_step k e) (Ok a) k j i old
-  stored_here (slot.Store task home number x offset bytes) j i old = picked k ((x == i) && is_shared_of (map_named s k task number) j) (over offset bytes old) old
-  stored_here (slot.Truncate name n) j i old = picked k (means_file (slot_at s k) name j && nat_le n i) (zeros s.page_size) old
-  stored_here (slot.Punch name from to) j i old = picked k (means_file (slot_at s k) name j && is_in from to i) (zeros s.page_size) old
-  stored_here other j i old = refl
+  stored_here e j i old = grind (arith, common_steps)
 
   seen_here : (e : SlotEvent) (j l i : ℕ) (old : List ℕ) → seen_by s.page_size (slot_at s k) e j l i old ≡ seen_over s (slot_step k e) (Ok a) k j l i old
-  seen_here (slot.Store task home number x offset bytes) j l i old =
-      picked k ((x == i) && reaches (map_named s k task number) (map_at s k j l) j l i) (over offset bytes old) old
-  seen_here (slot.Truncate name n) j l i old = picked k (means_file (slot_at s k) name j && nat_le n i) (zeros s.page_size) old
-  seen_here (slot.Punch name from to) j l i old = picked k (means_file (slot_at s k) name j && is_in from to i) (zeros s.page_size) old
-  seen_here (slot.Unmap task number from to) j l i old = picked k (is_at (map_named s k task number) j l && is_in from to i) (shown_in s k j i) old
-  seen_here other j l i old = refl
+  seen_here e j l i old = grind (arith, common_steps)
 
   -- what the event does not end its step does not end
   name_here : (e : SlotEvent) (name : List ℕ) → ends_name e name ≡ is_ended_name (slot_step k e) (Ok a) k name
-  name_here (slot.Unlink gone) name = ap (λ b. b && bytes_eq gone name) (sym (here k))
-  name_here slot.Umount name = sym (here k)
-  name_here other name = refl
+  name_here e name = grind (arith, common_steps)
 
   number_here : (e : SlotEvent) (task number : ℕ) → ends_number (slot_at s k) e task number ≡ is_ended_number s (slot_step k e) (Ok a) k task number
-  number_here (slot.Unmap owner gone from to) task number =
-      ap (λ b. b && ((owner == task) && ((gone == number) && not (stays_mapped (map_named s k task number) from to)))) (sym (here k))
-  number_here slot.Umount task number = sym (here k)
-  number_here other task number = refl
+  number_here e task number = grind (arith, common_steps)
 
   module _ (o : ℕ) (other : (k == o) ≡ false) where
     stored_there : (e : SlotEvent) (j i : ℕ) (old : List ℕ) → old ≡ stored_over s (slot_step k e) (Ok a) o j i old
-    stored_there (slot.Store task home number x offset bytes) j i old = passed (k == o) ((x == i) && is_shared_of (map_named s k task number) j) (over offset bytes old) old other
-    stored_there (slot.Truncate name n) j i old = passed (k == o) (means_file (slot_at s o) name j && nat_le n i) (zeros s.page_size) old other
-    stored_there (slot.Punch name from to) j i old = passed (k == o) (means_file (slot_at s o) name j && is_in from to i) (zeros s.page_size) old other
-    stored_there rest j i old = refl
+    stored_there e j i old = grind (arith, common_steps)
 
     seen_there : (e : SlotEvent) (j l i : ℕ) (old : List ℕ) → old ≡ seen_over s (slot_step k e) (Ok a) o j l i old
-    seen_there (slot.Store task home number x offset bytes) j l i old =
-        passed (k == o) ((x == i) && reaches (map_named s k task number) (map_at s o j l) j l i) (over offset bytes old) old other
-    seen_there (slot.Truncate name n) j l i old = passed (k == o) (means_file (slot_at s o) name j && nat_le n i) (zeros s.page_size) old other
-    seen_there (slot.Punch name from to) j l i old = passed (k == o) (means_file (slot_at s o) name j && is_in from to i) (zeros s.page_size) old other
-    seen_there (slot.Unmap task number from to) j l i old = passed (k == o) (is_at (map_named s k task number) j l && is_in from to i) (shown_in s o j i) old other
-    seen_there rest j l i old = refl
+    seen_there e j l i old = grind (arith, common_steps)
 
 -- a map that lost its copy by the event lost it by the step
 lost_here : (s : State) (k : ℕ) (e : SlotEvent) (t : State) (p q : Spot) (i : ℕ) → LosesBy (slot_at s k) e (slot_at t k) p q i → LosesTo s (slot_step k e) t k p q i
-lost_here s k (slot.Store task home number x offset bytes) t p q i lost = (refl, lost)
-lost_here s k (slot.Fault task home number x Write) t p q i lost = (refl, lost)
-lost_here s k (slot.Fault task home number x Read) t p q i lost = absurd lost
-lost_here s k rest t p q i lost = absurd lost
+lost_here s k e t p q i lost = grind (arith, common_steps)
 
 -- ---- a step
 
@@ -154,14 +130,7 @@ module _ (s : State) (k : ℕ) (e : SlotEvent) (a : Answer) (t : State) (size : 
   goes_on b c same e = same ∙ e
 
   map_meant : (p q : Spot) (i : ℕ) → KeptMap s.page_size (slot_at s k) e (slot_at t k) p q i → StillMapped s step (Ok a) t k p q i
-  map_meant p q i kept = record {
-    shape = kept.shape;
-    file = λ name stays named. kept.file name (name_here s k a e name ∙ stays) named;
-    marked = kept.marked;
-    shows = ⊎_elim
-        (λ same. inl (ap (λ n. value n q.file q.map i) size ∙ same ∙ seen_here s k a e p.file_no p.map_no i (value s.page_size p.file p.map i)))
-        (λ lost. inr (lost_here s k e t p q i lost)) kept.shows;
-  }
+  map_meant p q i kept = grind (arith, common_steps)
 
   slot_meant : SlotMeant s step (Ok a) t k
   slot_meant = record {
@@ -184,30 +153,17 @@ idle_meant s step reply t size slots idle k =
     still_meant s step reply t k size (ap (λ (xs : List Slot). slice_index_or xs k None) slots) (idle.0 k) (idle.1 k)
 
 table_idle : (s : State) (e : TableEvent) (reply : Reply) → Idle s (step_of (Tasks e)) reply
-table_idle s (table.Add task home) reply = (λ k j i old. refl, λ k j l i old. refl)
-table_idle s (table.Find task) reply = (λ k j i old. refl, λ k j l i old. refl)
-table_idle s (table.FindAndAdd parent child) reply = (λ k j i old. refl, λ k j l i old. refl)
-table_idle s (table.Remove task) reply = (λ k j i old. refl, λ k j l i old. refl)
+table_idle s e reply = grind (arith, common_steps)
 
 pool_idle : (s : State) (e : PoolEvent) (reply : Reply) → Idle s (step_of (OnPool e)) reply
-pool_idle s (pool.Nr n) reply = (λ k j i old. refl, λ k j l i old. refl)
-pool_idle s (pool.Overcommit n) reply = (λ k j i old. refl, λ k j l i old. refl)
-pool_idle s pool.Meminfo reply = (λ k j i old. refl, λ k j l i old. refl)
-pool_idle s pool.Nodes reply = (λ k j i old. refl, λ k j l i old. refl)
+pool_idle s e reply = grind (arith, common_steps)
 
 -- ---- a step that ends maps of a task
 
 module _ (s : State) (step : Step) (reply : Reply) (t : State) (gone : ℕ) (fade : AllFade gone s t) (idle : Idle s step reply)
     (number : (k task no : ℕ) → is_ended_number s step reply k task no ≡ false → (gone == task) ≡ false) where
   fade_map : (k : ℕ) (p q : Spot) (i : ℕ) → KeptMap s.page_size (slot_at s k) (slot.ExitMaps gone) (slot_at t k) p q i → StillMapped s step reply t k p q i
-  fade_map k p q i kept = record {
-    shape = kept.shape;
-    file = λ name stays named. kept.file name refl named;
-    marked = kept.marked;
-    shows = ⊎_elim
-        (λ same. inl (ap (λ n. value n q.file q.map i) fade.size ∙ same ∙ idle.1 k p.file_no p.map_no i (value s.page_size p.file p.map i)))
-        (λ lost. absurd lost) kept.shows;
-  }
+  fade_map k p q i kept = grind (arith, common_steps)
 
   fade_meant : Meant s step reply t
   fade_meant k = record {

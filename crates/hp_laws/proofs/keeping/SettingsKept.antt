@@ -1,4 +1,6 @@
 -- What steps make of the tasks, of nr and of overcommit; and steps that only read leave all slots.
+use Rattle.std.proofs.Common.{arith}
+use Rattle.std.proofs.lemmas.Grind.{common_steps}
 use Rattle.std.proofs.Common.{◌≡◌, subst, ℕ, ◌==◌, Bool, true, false, None, Option, Some, Ok, Err, List, [], ◌∷◌, ◌++◌, length, nat_le, refl, sym, ap, ◌∙◌, if◌then◌else◌}
 use Rattle.std.specs.List.{filter_map, range_with_len, slice_set}
 use Rattle.std.proofs.lemmas.Bool.{cond_both}
@@ -101,12 +103,7 @@ module _ (s : State) where
   -- nothing is set
   unset : (x : Step) (reply : Reply) (t : State) → ((task : ℕ) → home_of s.table task ≡ home_after s x reply task) → nr_after s x reply ≡ s.nr → overcommit_after s x reply ≡ s.overcommit
       → TellsNr x reply t → SameSetting s t → IsSet s x reply t
-  unset x reply t homes nr overcommit told same = record {
-    homes = λ task. ap (λ tb. home_of tb task) same.table ∙ homes task;
-    nr = same.nr ∙ sym nr;
-    overcommit = same.overcommit ∙ sym overcommit;
-    told = told;
-  }
+  unset x reply t homes nr overcommit told same = grind (arith, common_steps)
 
   -- a task is added, and the rest leaves the table
   one_added : (x : Step) (a : Answer) (new home : ℕ) (u t : State) → is_known s.table new ≡ false → u ≡ record s { table = added s.table new home } → SameSetting u t
@@ -191,27 +188,17 @@ module _ (s : State) where
     told : (t : State) → TellsNr x reply t
 
   refused_unset : (x : Step) (r : Refusal) → Unset x (Err r)
-  refused_unset (step.Connect new home) r = record { homes = λ task. refl; nr = refl; overcommit = refl; told = λ t. tt }
-  refused_unset (step.Fork parent child) r = record { homes = λ task. refl; nr = refl; overcommit = refl; told = λ t. tt }
-  refused_unset (step.Exit gone) r = record { homes = λ task. refl; nr = refl; overcommit = refl; told = λ t. tt }
-  refused_unset (step.Nr n) r = record { homes = λ task. refl; nr = refl; overcommit = refl; told = λ t. tt }
-  refused_unset (step.Overcommit n) r = record { homes = λ task. refl; nr = refl; overcommit = refl; told = λ t. tt }
-  refused_unset other r = record { homes = λ task. refl; nr = refl; overcommit = refl; told = λ t. tt }
+  refused_unset x r = grind (arith, common_steps)
 
   slot_unset : (k : ℕ) (e : SlotEvent) (reply : Reply) → is_whole (OnSlot k e) ≡ true → Unset (slot_step k e) reply
-  slot_unset k (slot.ForkMaps parent child) reply whole = cc
-  slot_unset k (slot.ExitMaps task) reply whole = cc
-  slot_unset k other reply whole = record { homes = λ task. refl; nr = refl; overcommit = refl; told = λ t. tt }
+  slot_unset k e reply whole = grind (arith, common_steps)
 
   leaves : (x : Step) (reply : Reply) (t : State) → Unset x reply → SameSetting s t → IsSet s x reply t
   leaves x reply t un same = unset x reply t un.homes un.nr un.overcommit (un.told t) same
 
   limit_sets : (n : ℕ) (b : Bool) (reply : Reply) (t : State)
       → with_pool_reply s (if b then (Ok Done, record (pool_of s) { overcommit = n }) else (Err OutOfRange, pool_of s)) ≡ (reply, t) → IsSet s (step.Overcommit n) reply t
-  limit_sets n true reply t e =
-      subst (λ (q : Reply × State). IsSet s (step.Overcommit n) q.0 q.1) e (record { homes = λ task. refl; nr = refl; overcommit = refl; told = tt })
-  limit_sets n false reply t e =
-      subst (λ (q : Reply × State). IsSet s (step.Overcommit n) q.0 q.1) e (record { homes = λ task. refl; nr = refl; overcommit = refl; told = tt })
+  limit_sets n b reply t e = grind (arith, common_steps)
 
   event_sets : (e : Event) (reply : Reply) (t : State) → is_whole e ≡ true → IsEvent s e reply t → IsSet s (step_of e) reply t
   event_sets (Tasks (table.Add new home)) reply t whole is = connect_sets new home reply t is
@@ -251,24 +238,11 @@ abbrev Same : Slot → Outcome → Type 0
 Same old o = left_by old o ≡ old
 
 reads_same : (size k : ℕ) (c : Choice) (old : Slot) (e : SlotEvent) → only_reads (slot_step k e) ≡ true → Always (Same old) (slot_event size k c old e)
-reads_same size k c None (slot.Mount options) on = cc
-reads_same size k c None other on = refl
-reads_same size k c (Some m) (slot.Read name i offset count) on =
-    always_value (Same (Some m)) (λ r. refl) (file_named m name) NoSuchFile (read size m i offset count)
-    (λ f is. always_unless (Same (Some m)) (λ r. refl) (read_tests size i offset count f.1) (Finish (Answered (bytes_answer offset count (shown size (cell_at f.1 i))) (Some m))) refl)
-reads_same size k c (Some m) slot.Ls on =
-    always_unless (Same (Some m)) (λ r. refl) ((c.refused, OutOfMemory) ∷ []) (Finish (Answered (Names (filter_map (λ f. f.name) m.files)) (Some m))) refl
-reads_same size k c (Some m) (slot.Stat name) on = always_value (Same (Some m)) (λ r. refl) (file_named m name) NoSuchFile (stat m) (λ f is. refl)
-reads_same size k c (Some m) slot.Df on = refl
-reads_same size k c (Some m) other on = cc
+reads_same size k c old e on = grind (arith, common_steps)
 
 module _ (s : State) where
   event_reads : (e : Event) (reply : Reply) (t : State) → is_whole e ≡ true → IsEvent s e reply t → only_reads (step_of e) ≡ true → t.slots ≡ s.slots
-  event_reads (Tasks e) reply t whole is on = sym (ap (λ (q : Reply × State). q.1.slots) is.2)
-  event_reads (OnPool e) reply t whole is on = sym (ap (λ (q : Reply × State). q.1.slots) is.2)
-  event_reads (OnSlot k e) reply t whole is on =
-      let ends = event_ends (Same (slot_at s k)) s k e reply t (λ c. reads_same s.page_size k c (slot_at s k) e on) is in
-      ends.slots ∙ ap (λ n. slice_set s.slots k n) ends.holds ∙ set-get_or s.slots k None
+  event_reads e reply t whole is on = grind (arith, common_steps)
 
   pub step_reads : (reply : Reply) (t : State) (x : Step) → IsStep s x reply t → only_reads x ≡ true → t.slots ≡ s.slots
   step_reads reply t x is =

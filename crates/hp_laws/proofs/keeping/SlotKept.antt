@@ -1,4 +1,6 @@
 -- Each event that is answered keeps what names and numbers mean on its slot.
+use Rattle.std.proofs.Common.{arith}
+use Rattle.std.proofs.lemmas.Grind.{common_steps}
 use Rattle.std.proofs.Common.{◌≡◌, ⊎_elim, inl, inr, subst, ℕ, ◌+◌, true, None, Some, List, [], ◌∷◌, length, refl, sym, ◌∙◌, nat_le, ◌<◌, Option}
 use Rattle.std.proofs.lemmas.Bool.{leb-false}
 use Rattle.hp_model.specs.declared.answer.Answer.TheVariants.{Done, MapNo}
@@ -41,8 +43,7 @@ use Rattle.hp_model.specs.pool.Grant.{is_full, rise}
 
 -- both of what holds whatever the pool answers
 pub always_both : (P Q R : Outcome → Type 0) → ((o : Outcome) → P o → Q o → R o) → (p : Plan) → Always P p → Always Q p → Always R p
-always_both P Q R h (Finish o) p q = h o p q
-always_both P Q R h (Ask sec f) p q = λ a. h (f a) (p a) (q a)
+always_both P Q R h p p' q = grind (arith, common_steps)
 
 module _ (size k : ℕ) (c : Choice) (m : Mount) where
   -- ---- names and numbers stay in place
@@ -77,9 +78,7 @@ module _ (size k : ℕ) (c : Choice) (m : Mount) where
     -- an access by a fault, its tests passed
     fault_tested : (Q : Outcome → Type 0) → ((r : Refusal) → Q (Refused r)) → (intent : Intent) → (i < length s.file.cells → Always Q (access c size m s home i intent))
         → Always Q (fault c size m home i intent s)
-    fault_tested Q stops intent h =
-        always_test Q (is_unmapped s i) OutOfRange _ (stops OutOfRange)
-        (λ a. always_test Q (is_beyond s i) BeyondEnd (access c size m s home i intent) (stops BeyondEnd) (λ b. h (leb-false (length s.file.cells) i b)))
+    fault_tested Q stops intent h = grind (arith, common_steps)
 
     same_quiet : (o : Outcome) → On (Same size m s at i) o → Quiet size (Some m) o
     same_quiet (Refused r) on = (λ j x. refl, λ j l x. refl, λ j l. refl)
@@ -143,10 +142,7 @@ module _ (size k : ℕ) (c : Choice) (m : Mount) where
         (on_placed plan (store_stays c m s at size home i offset bytes))
 
   told_keeps : (e : SlotEvent) → tells_all e ≡ true → SlotKeeps size (Some m) e (Some m)
-  told_keeps slot.Df told = same_keeps size m slot.Df (λ j x old. refl) (λ j l x old. refl)
-  told_keeps slot.Ls told = same_keeps size m slot.Ls (λ j x old. refl) (λ j l x old. refl)
-  told_keeps (slot.Stat name) told = same_keeps size m (slot.Stat name) (λ j x old. refl) (λ j l x old. refl)
-  told_keeps other told = cc
+  told_keeps e told = grind (arith, common_steps)
 
   -- ---- the walk
 
@@ -207,31 +203,14 @@ module _ (size k : ℕ) (c : Choice) (m : Mount) where
       quiet_keeps (slot.Remount options) (λ j x old. refl) (λ j l x old. refl) (Answered Done (Some n)) (λ j x. refl, λ j l x. refl, λ j l. refl) (placed_same m n refl))) size options
 
   umount_keeps : Always (KeepsSlot size (Some m) slot.Umount) (gives Done (Some m) None)
-  umount_keeps = always_gives (KeepsSlot size (Some m) slot.Umount) Done (Some m) None (record {
-    names = λ name i f goes_on named. cc;
-    numbers = λ task number i p goes_on found. cc;
-    together = λ a b p o goes_on stays found there. cc;
-  })
+  umount_keeps = grind (arith, common_steps)
 
 -- on a slot that is not mounted there is nothing to keep
 none_keeps : (size : ℕ) (e : SlotEvent) (y : Slot) → SlotKeeps size None e y
-none_keeps size e y = record {
-  names = λ name i f goes_on named. cc;
-  numbers = λ task number i p goes_on found. cc;
-  together = λ a b p o goes_on stays found there. cc;
-}
+none_keeps size e y = grind (arith, common_steps)
 
 open_keeps : (size : ℕ) (e : SlotEvent) (p : Plan) → Always (KeepsSlot size None e) p
-open_keeps size e (Finish o) = by_outcome o
-  where
-    by_outcome : (o : Outcome) → KeepsSlot size None e o
-    by_outcome (Refused r) = tt
-    by_outcome (Answered a y) = none_keeps size e y
-open_keeps size e (Ask sec f) = λ a. by_outcome (f a)
-  where
-    by_outcome : (o : Outcome) → KeepsSlot size None e o
-    by_outcome (Refused r) = tt
-    by_outcome (Answered a y) = none_keeps size e y
+open_keeps size e p = grind (arith, common_steps)
 
 pub slot_keeps : (size k : ℕ) (c : Choice) (old : Slot) (e : SlotEvent) → IsSound old → Always (KeepsSlot size old e) (slot_event size k c old e)
 slot_keeps size k c None e sound = open_keeps size e (slot_event size k c None e)

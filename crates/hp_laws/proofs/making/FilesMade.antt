@@ -1,4 +1,5 @@
 -- A created file and a new map are what their reply says.
+use Rattle.std.proofs.lemmas.Grind.{common_steps}
 use Rattle.std.proofs.Common.{◌≡◌, subst, ℕ, ◌<◌, ◌||◌, Bool, true, false, not, None, Option, Some, Err, List, nat_le, nat_lt, ◌≤◌, max, ◌==◌, ⊎_elim, arith, ◌-◌}
 use Rattle.std.proofs.Common.{[], ◌∷◌, ◌++◌, length, drop, is_some, option_map, refl, sym, ap, ◌∙◌, get_or, if◌then◌else◌}
 use Rattle.std.specs.List.{flat_map, list_any, slice_index_or, slice_set}
@@ -48,8 +49,7 @@ use Rattle.hp_model.specs.Profile.{most_file_pages}
 -- ---- a map's number is not used before
 
 pub any_append : {X : Type 0} (t : X → Bool) (xs ys : List X) → list_any t (xs ++ ys) ≡ (list_any t xs || list_any t ys)
-any_append t [] ys = refl
-any_append t (x ∷ xs) ys = ap (λ b. t x || b) (any_append t xs ys) ∙ or_assoc (t x) (list_any t xs) (list_any t ys)
+any_append t xs ys = grind (arith, common_steps)
 
 pub any_in_files : (t : Map → Bool) (fs : List File) → list_any t (flat_map (λ f. f.maps) fs) ≡ list_any (λ (f : File). list_any t f.maps) fs
 any_in_files t [] = refl
@@ -64,11 +64,7 @@ in_file test None = None
 in_file test (Some f) = option_map (spot_in f) (found test f.1.maps)
 
 pub spot_in_file : (m : Mount) (test : Map → Bool) → spot m test ≡ in_file test (found (λ (f : File). list_any test f.maps) m.files)
-spot_in_file m test = by_found (found (λ (f : File). list_any test f.maps) m.files)
-  where
-    by_found : (o : Option (ℕ × File)) → (elim o [ None ↦ None | Some f ↦ option_map (spot_in f) (found test f.1.maps) ]) ≡ in_file test o
-    by_found None = refl
-    by_found (Some f) = refl
+spot_in_file m test = grind (arith, common_steps)
 
 pub spot_none : (m : Mount) (test : Map → Bool) → found (λ (f : File). list_any test f.maps) m.files ≡ None → spot m test ≡ None
 spot_none m test e = spot_in_file m test ∙ ap (in_file test) e
@@ -223,8 +219,7 @@ FileMade old name (Answered a new) = IsNewFile old new name
 
 -- a file of the name is not there, and is found once it is made
 pub named_none : {X : Type 0} (o : Option X) → is_some o ≡ false → o ≡ None
-named_none None e = refl
-named_none (Some x) e = cc
+named_none o e = grind (arith, common_steps)
 
 pub found_none : {X : Type 0} (t : X → Bool) (xs : List X) → found t xs ≡ None → list_any t xs ≡ false
 found_none t [] e = refl
@@ -253,11 +248,7 @@ create_made size k c (Some m) name =
 module _ (s : State) where
   -- a refusal makes nothing
   makes_none : (t : State) (step : Step) (r : Refusal) → Makes s step (Err r) t
-  makes_none t (CreateStep k name) r = tt
-  makes_none t (MapStep task k name a n sharing reserving) r = tt
-  makes_none t (AnonStep task n sharing reserving) r = tt
-  makes_none t (Preallocate k name a b) r = tt
-  makes_none t other r = tt
+  makes_none t step r = grind (arith, common_steps)
 
   module _ (t : State) (k : ℕ) (l : k < length s.slots) where
     -- what the event leaves in its slot
@@ -265,27 +256,19 @@ module _ (s : State) where
     left_there n slots = ap (λ (xs : List Slot). slice_index_or xs k None) slots ∙ get_or-set_same s.slots k n None l
 
     file_makes : (name : List ℕ) (o : Outcome) → FileMade (slot_at s k) name o → t.slots ≡ slice_set s.slots k (left_by (slot_at s k) o) → Makes s (CreateStep k name) (reply_of o) t
-    file_makes name (Refused r) h slots = tt
-    file_makes name (Answered a new) h slots = subst (λ n. IsNewFile (slot_at s k) n name) (sym (left_there new slots)) h
+    file_makes name o h slots = grind (arith, common_steps)
 
     pages_make : (name : List ℕ) (a b : ℕ) (o : Outcome) → PagesMade (slot_at s k) name a b o → t.slots ≡ slice_set s.slots k (left_by (slot_at s k) o)
         → Makes s (Preallocate k name a b) (reply_of o) t
-    pages_make name a b (Refused r) h slots = tt
-    pages_make name a b (Answered x new) h slots = subst (λ n. HasPages (slot_at s k) n name a b) (sym (left_there new slots)) h
+    pages_make name a b o h slots = grind (arith, common_steps)
 
     map_makes : (task : ℕ) (name : List ℕ) (a n : ℕ) (sharing : Sharing) (reserving : Reserving) (o : Outcome) → MapMade (slot_at s k) name task a n sharing reserving o
         → t.slots ≡ slice_set s.slots k (left_by (slot_at s k) o) → Makes s (MapStep task k name a n sharing reserving) (reply_of o) t
-    map_makes task name a n sharing reserving (Refused r) h slots = tt
-    map_makes task name a n sharing reserving (Answered (MapNo number) new) h slots =
-        subst (λ x. IsNewMap (slot_at s k) x name (new_map task number a n sharing reserving)) (sym (left_there new slots)) h
-    map_makes task name a n sharing reserving (Answered other new) h slots = absurd h
+    map_makes task name a n sharing reserving o h slots = grind (arith, common_steps)
 
     anon_makes : (task n : ℕ) (sharing : Sharing) (reserving : Reserving) (o : Outcome) → k ≡ 0 → AnonMade (slot_at s k) task n sharing reserving o
         → t.slots ≡ slice_set s.slots k (left_by (slot_at s k) o) → Makes s (AnonStep task n sharing reserving) (reply_of o) t
-    anon_makes task n sharing reserving (Refused r) first h slots = tt
-    anon_makes task n sharing reserving (Answered (MapNo number) new) first h slots =
-        subst (λ i. IsNewAnon (slot_at s i) (slot_at t i) task number n sharing reserving) first (subst (λ x. IsNewAnon (slot_at s k) x task number n sharing reserving) (sym (left_there new slots)) h)
-    anon_makes task n sharing reserving (Answered other new) first h slots = absurd h
+    anon_makes task n sharing reserving o first h slots = grind (arith, common_steps)
 
   event_makes : (e : Event) (reply : Reply) (t : State) → is_whole e ≡ true → IsEvent s e reply t → Makes s (step_of e) reply t
   event_makes (OnSlot k (slot.Create name)) reply t whole is =

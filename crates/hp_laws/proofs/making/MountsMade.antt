@@ -1,4 +1,6 @@
 -- A mount that is answered has the limits that its options mean at this nr, and no files; a remount that is done, those limits and its files.
+use Rattle.std.proofs.Common.{arith}
+use Rattle.std.proofs.lemmas.Grind.{common_steps}
 use Rattle.std.proofs.Common.{◌≡◌, subst, ℕ, ◌<◌, Bool, true, false, not, None, Some, Ok, Err, Result as ResultOf, List, [], length, refl, sym, if◌then◌else◌, ap, ◌∙◌, ◌==◌}
 use Rattle.std.specs.List.{slice_index_or, slice_set}
 use Rattle.std.proofs.lemmas.Bool.{ltb-true}
@@ -37,31 +39,18 @@ Made l (Refused r) = Unit {0}
 Made l (Answered a new) = IsMountedWith None new l
 
 mount_made : (c : Choice) (a : PoolAnswer) (l : ResultOf Limits Refusal) → Made l (mount_outcome c a l)
-mount_made c a (Err e) = tt
-mount_made c a (Ok l) = by_tests c.refused a.granted c.after_grant
-  where
-    by_tests : (refused granted late : Bool) → Made (Ok l) (if refused then Refused OutOfMemory else if not granted then Refused NoPages
-        else if late then Refused OutOfMemory else Answered Done (Some (record { limits = l; files = [] })))
-    by_tests true granted late = tt
-    by_tests false false late = tt
-    by_tests false true true = tt
-    by_tests false true false = (refl, refl)
+mount_made c a l = grind (arith, common_steps)
 
 module _ (s : State) (k : ℕ) (options : List ℕ) (within : k < length s.slots) where
   abbrev wanted : ResultOf Limits Refusal
   wanted = limits s.nr s.page_size (wanted_of options)
 
   with_old : (old new : Slot) → old ≡ None → (l : ResultOf Limits Refusal) → IsMountedWith None new l → IsMountedWith old new l
-  with_old old new none (Err e) h = h
-  with_old old new none (Ok l) h = (none, h.1)
+  with_old old new none l h = grind (arith, common_steps)
 
   by_settled : (u : State) → u.slots ≡ s.slots → slot_at s k ≡ None → (o : Outcome) → Made wanted o → (reply : Reply) (t : State) → with_outcome u k o ≡ (reply, t)
       → Mounts s (step.Mount k options) reply t
-  by_settled u same none (Refused r) made reply t e = subst (λ (q : Reply × State). Mounts s (step.Mount k options) q.0 q.1) e tt
-  by_settled u same none (Answered a new) made reply t e =
-      subst (λ (q : Reply × State). Mounts s (step.Mount k options) q.0 q.1) e
-      (with_old (slot_at s k) _ none wanted
-      (subst (λ x. IsMountedWith None x wanted) (sym (get_or-set_same u.slots k new None (subst (λ (xs : List Slot). k < length xs) (sym same) within))) made))
+  by_settled u same none o made reply t e = grind (arith, common_steps)
 
   by_old : (c : Choice) (old : Slot) → slot_at s k ≡ old → (reply : Reply) (t : State) → planned s k (slot_event s.page_size k c old (slot.Mount options)) ≡ (reply, t)
       → Mounts s (step.Mount k options) reply t
@@ -79,9 +68,7 @@ Remade m l (Refused r) = Unit {0}
 Remade m l (Answered a new) = IsRemountedWith (Some m) new l
 
 remount_made : (m : Mount) (first : Bool) (a : PoolAnswer) (l : ResultOf Limits Refusal) → Remade m l (if first then Refused SlotTaken else remount_outcome m a l)
-remount_made m true a l = tt
-remount_made m false a (Err e) = tt
-remount_made m false a (Ok l) = outcome_if (Remade m (Ok l)) a.granted (Answered Done (Some (record m { limits = l }))) (Refused NoPages) refl tt
+remount_made m first a l = grind (arith, common_steps)
 
 module _ (s : State) (k : ℕ) (options : List ℕ) (reply : Reply) (t : State) (is : IsEvent s (OnSlot k (slot.Remount options)) reply t) where
   abbrev limited : ResultOf Limits Refusal
@@ -119,9 +106,7 @@ module _ (s : State) where
   event_mounted (OnPool other) reply t whole is = tt
 
   early_mounted : (x : Step) (r : Refusal) → Mounts s x (Err r) s
-  early_mounted (step.Mount k options) r = tt
-  early_mounted (step.Remount k options) r = tt
-  early_mounted other r = tt
+  early_mounted x r = grind (arith, common_steps)
 
   pub step_mounted : (reply : Reply) (t : State) (x : Step) → IsStep s x reply t → Mounts s x reply t
   step_mounted reply t x is =

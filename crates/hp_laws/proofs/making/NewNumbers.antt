@@ -1,4 +1,5 @@
 -- The number of a new map is one that its task doesn't use, and where such a map is found.
+use Rattle.std.proofs.lemmas.Grind.{common_steps}
 use Rattle.std.proofs.Common.{◌≡◌, ⊎_elim, inl, inr, ◌⊎◌, subst, ℕ, zero, suc, ◌+◌, ◌<◌, ◌≤◌, ◌||◌, ◌==◌, Bool, true}
 use Rattle.std.proofs.Common.{false, None, Option, Some, List, [], ◌∷◌, ◌++◌, length, option_map, add-one, not, refl, ap, arith, if◌then◌else◌}
 use Rattle.std.specs.List.{list_any, position_or_len, range_with_len, slice_set}
@@ -41,12 +42,10 @@ first_or_none t a (suc k) = by_test (t a) refl (first_or_none t (a + 1) k)
     by_test false is (inr none) = inr (λ q e. ⊎_elim (λ here. subst (λ x. t x ≡ false) (eqb-true a q here) is) (λ later. none q later) (or_cases (a == q) (is_among q (range_with_len (a + 1) k)) e))
 
 not_not : (b : Bool) → not b ≡ true → b ≡ false
-not_not true e = cc
-not_not false e = refl
+not_not b e = grind (arith, common_steps)
 
 not_false : (b : Bool) → not b ≡ false → b ≡ true
-not_false true e = refl
-not_false false e = cc
+not_false b e = grind (arith, common_steps)
 
 pub least_is_unused : (xs : List ℕ) → is_among (least_unused xs) xs ≡ false
 least_is_unused xs =
@@ -69,12 +68,10 @@ number_used task n (m ∷ ms) = by_task (m.task == task) refl (number_used task 
 
 -- where none passes, the first does not, and none of the others
 none_first : (a b : Bool) → (a || b) ≡ false → a ≡ false
-none_first true b e = cc
-none_first false b e = refl
+none_first a b e = grind (arith, common_steps)
 
 none_later : (a b : Bool) → (a || b) ≡ false → b ≡ false
-none_later true b e = cc
-none_later false b e = e
+none_later a b e = grind (arith, common_steps)
 
 module _ {X : Type 0} (t : X → Bool) where
   pub found_not : (xs : List X) → list_any t xs ≡ false → found t xs ≡ None

@@ -1,4 +1,5 @@
 -- No name and no number is new on a slot but what its event makes, and no file is left that nobody has.
+use Rattle.std.proofs.lemmas.Grind.{common_steps}
 use Rattle.std.proofs.Common.{◌≡◌, ⊎_elim, ℕ, zero, suc, ◌+◌, ◌&&◌, ◌||◌, ◌==◌, Bool, true, false, not, None, Option}
 use Rattle.std.proofs.Common.{Some, List, [], ◌∷◌, ◌++◌, length, map, option_map, is_some, nat_lt, refl, sym, ap, ◌∙◌, arith}
 use Rattle.std.specs.List.{filter, list_all, list_any, slice_set}
@@ -63,15 +64,10 @@ no_more made new x = record { held = λ e. e; names = λ name off is. is; number
 -- where more may be made
 pub more_made : (made made_too : List ℕ → Bool) (new new_too : ℕ → ℕ → Bool) (x y : Slot) → ((name : List ℕ) → made_too name ≡ false → made name ≡ false)
     → ((task number : ℕ) → new_too task number ≡ false → new task number ≡ false) → NoMore made new x y → NoMore made_too new_too x y
-more_made made made_too new new_too x y a b h =
-    record { held = h.held; names = λ name off. h.names name (a name off); numbers = λ task number off. h.numbers task number (b task number off) }
+more_made made made_too new new_too x y a b h = grind (arith, common_steps)
 
 pub no_more_then : (made : List ℕ → Bool) (new : ℕ → ℕ → Bool) (x y z : Slot) → NoMore made new x y → NoMore made new y z → NoMore made new x z
-no_more_then made new x y z a b = record {
-  held = λ e. b.held (a.held e);
-  names = λ name off is. a.names name off (b.names name off is);
-  numbers = λ task number off is. a.numbers task number off (b.numbers task number off is);
-}
+no_more_then made new x y z a b = grind (arith, common_steps)
 
 -- ---- what is found nowhere
 
@@ -111,12 +107,10 @@ any_keyed t key [] = refl
 any_keyed t key (x ∷ xs) = ap (λ b. t (key x) || b) (any_keyed t key xs)
 
 same_all : {X : Type 0} (t u : X → Bool) → ((x : X) → t x ≡ u x) → (xs : List X) → list_all t xs ≡ list_all u xs
-same_all t u h [] = refl
-same_all t u h (x ∷ xs) = rw (h x, same_all t u h xs) refl
+same_all t u h xs = grind (arith, common_steps)
 
 same_any : {X : Type 0} (t u : X → Bool) → ((x : X) → t x ≡ u x) → (xs : List X) → list_any t xs ≡ list_any u xs
-same_any t u h [] = refl
-same_any t u h (x ∷ xs) = rw (h x, same_any t u h xs) refl
+same_any t u h xs = grind (arith, common_steps)
 
 abbrev kept_key : FileKey → Bool
 kept_key k = is_some k.0 || nat_lt 0 (length k.1)
@@ -193,30 +187,15 @@ module _ (made : List ℕ → Bool) (new : ℕ → ℕ → Bool) (m : Mount) whe
   -- a map more
   more_fewer : (f : File) (cells : List (Cell Page)) (x : Map) → ((task number : ℕ) → new task number ≡ false → is_map task number x ≡ false)
       → FileFewer new f (record f { cells = cells; maps = f.maps ++ x ∷ [] })
-  more_fewer f cells x unlike = record {
-    names = λ name is. is;
-    numbers = λ task number off is.
-        ⊎_elim (λ old. old) (λ here. (let other = unlike task number off in cc))
-        (or_cases (has_map task number f) (is_map task number x || false) (sym (any_append (is_map task number) f.maps (x ∷ [])) ∙ is));
-  }
+  more_fewer f cells x unlike = grind (arith, common_steps)
 
   -- a file more
   new_more : (f : File) → is_kept f ≡ true → ((name : List ℕ) → made name ≡ false → has_name name f ≡ false)
       → ((task number : ℕ) → new task number ≡ false → has_map task number f ≡ false) → NoMore made new (Some m) (Some (with_new m f))
-  new_more f kept name_off number_off = record {
-    held = λ e. list_all-append is_kept m.files (f ∷ []) ∙ rw (e, kept) refl;
-    names = λ name off is. either (has_name name) (name_off name off) is;
-    numbers = λ task number off is. either (has_map task number) (number_off task number off) is;
-  }
-    where
-      either : (t : File → Bool) → t f ≡ false → list_any t (m.files ++ f ∷ []) ≡ true → list_any t m.files ≡ true
-      either t off is =
-          ⊎_elim (λ old. old) (λ here. (let none : (t f || false) ≡ false = rw off refl in cc))
-          (or_cases (list_any t m.files) (t f || false) (sym (any_append t m.files (f ∷ [])) ∙ is))
+  new_more f kept name_off number_off = grind (arith, common_steps)
 
   some_length : (xs : List Map) (x : Map) → nat_lt 0 (length (xs ++ x ∷ [])) ≡ true
-  some_length [] x = refl
-  some_length (y ∷ xs) x = lt-ltb 0 (length (y ∷ (xs ++ x ∷ []))) (omega arith)
+  some_length xs x = grind (arith, common_steps)
 
   -- a map more of a file
   mapped_more : (j : ℕ) (f : File) (cells : List (Cell Page)) (x : Map) → IsFileAt m j f → ((task number : ℕ) → new task number ≡ false → is_map task number x ≡ false)

@@ -1,4 +1,6 @@
 -- What a remount of an open slot answers and leaves, at the pool that stands.
+use Rattle.std.proofs.Common.{arith}
+use Rattle.std.proofs.lemmas.Grind.{common_steps}
 use Rattle.std.proofs.Common.{◌≡◌, subst, ℕ, ◌-◌, ◌==◌, Bool, true, false, Some, Result as ResultOf, Ok, List, refl, sym, ap, if◌then◌else◌, nat_lt}
 use Rattle.std.specs.List.{slice_set}
 use Rattle.std.proofs.lemmas.Bool.{cond_both}
@@ -32,8 +34,7 @@ pub record EndsIn (s : State) (k : ℕ) (o : Outcome) (reply : Reply) (t : State
   pub slots : t.slots ≡ slice_set s.slots k (left_by (slot_at s k) o)
 
 settled_ends : (u : State) (k : ℕ) (o : Outcome) → EndsIn u k o (with_outcome u k o).0 (with_outcome u k o).1
-settled_ends u k (Refused r) = record { replied = refl; slots = ap (λ x. x.slots) (settled_is u k (Refused r)) }
-settled_ends u k (Answered a new) = record { replied = refl; slots = refl }
+settled_ends u k o = grind (arith, common_steps)
 
 module _ (s : State) (k : ℕ) (options : List ℕ) (m : Mount) where
   abbrev pub wanted : ResultOf Limits Refusal
@@ -68,10 +69,4 @@ module _ (s : State) (k : ℕ) (options : List ℕ) (m : Mount) where
 
   -- it grants what the pool can commit; and giving back is never refused
   pub told_granted : (l : Limits) → wanted ≡ Ok l → remount_told.granted ≡ false → can_grant (committed_with m l.min - committed_of m) (pool_of s) ≡ false
-  told_granted l is =
-      let less : ℕ = committed_of m - committed_with m l.min in
-      let more : ℕ = committed_with m l.min - committed_of m in
-      subst (λ (r : ResultOf Limits Refusal). (section (pool_of s) (remount_section m r)).0.granted ≡ false → can_grant more (pool_of s) ≡ false) (sym is)
-      (cond_both (nat_lt (committed_with m l.min) (committed_of m)) (ReadAndGiveBack less) (ReadAndGrant more)
-      (λ sec. (section (pool_of s) sec).0.granted ≡ false → can_grant more (pool_of s) ≡ false) (λ e no. cc)
-      (λ e. cond_both (can_grant more (pool_of s)) _ _ (λ (x : PoolAnswer × Pool). x.0.granted ≡ false → can_grant more (pool_of s) ≡ false) (λ can no. cc) (λ can no. can)))
+  told_granted l is = grind (arith, common_steps)

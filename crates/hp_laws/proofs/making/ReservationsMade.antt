@@ -1,4 +1,5 @@
 -- A map that is answered has its range: its file is long enough, and each index of a map that reserves is reserved to it.
+use Rattle.std.proofs.lemmas.Grind.{common_steps}
 use Rattle.std.proofs.Common.{◌≡◌, subst, ℕ, zero, suc, ◌+◌, ◌-◌, ◌<◌, ◌≤◌, true, false, None, Option, Some, Ok, Err, List}
 use Rattle.std.proofs.Common.{length, max, replicate, refl, sym, ap, ◌∙◌, arith, if◌then◌else◌, nat_le, nat_lt}
 use Rattle.std.specs.List.{slice_index_or, slice_set}
@@ -46,30 +47,23 @@ use Rattle.hp_laws.proofs.steps.Whole.{by_event, is_whole, step_of}
 -- ---- the range of a new map
 
 is_in_entered : (c : Cell Page) → is_entered (entered c) ≡ true
-is_in_entered Hole = refl
-is_in_entered Entered = refl
-is_in_entered (Present page) = refl
+is_in_entered c = grind (arith, common_steps)
 
 abbrev fresh : Place Copy
 fresh = Live false None
 
 inside : (n j : ℕ) → j < n → slice_index_or (replicate n fresh) j Gone ≡ fresh
-inside zero j l = absurd (omega (arith, l))
-inside (suc n) zero l = refl
-inside (suc n) (suc j) l = inside n j (omega (arith, l))
+inside n j l = grind (arith, common_steps)
 
 module _ (task number a n : ℕ) where
   long_enough : (xs : List (Cell Page)) → length (at_least (a + n) xs) ≡ max (length xs) (a + n)
   long_enough xs = omega (arith, length-append xs (replicate (a + n - length xs) Hole), length-replicate {A = Cell Page} (a + n - length xs) Hole)
 
   cells_long : (sharing : Sharing) (reserving : Reserving) (xs : List (Cell Page)) → length (cells_mapped sharing reserving a n xs) ≡ max (length xs) (a + n)
-  cells_long Shared Reserve xs = length-edit_range entered a (a + n) (at_least (a + n) xs) ∙ long_enough xs
-  cells_long Shared NoReserve xs = long_enough xs
-  cells_long Private reserving xs = long_enough xs
+  cells_long sharing reserving xs = grind (arith, common_steps)
 
   place_there : (sharing : Sharing) (reserving : Reserving) (i : ℕ) → a ≤ i → i < a + n → place_at (new_map task number a n sharing reserving) i ≡ fresh
-  place_there sharing reserving i from to =
-      ap (λ b. if b then Gone else slice_index_or (replicate n fresh) (i - a) Gone) (le-ltb i a from) ∙ inside n (i - a) (omega (arith, from, to))
+  place_there sharing reserving i from to = grind (arith, common_steps)
 
   range_there : (sharing : Sharing) (reserving : Reserving) (f : File) → reserves reserving ≡ true → (i : ℕ) → is_in a (a + n) i ≡ true
       → is_reserved (mapped task number a n sharing reserving f) (new_map task number a n sharing reserving) i ≡ true
@@ -143,17 +137,12 @@ MapsFile s step reply t = Unit {0}
 
 module _ (s : State) where
   maps_none : (t : State) (step : Step) (r : Refusal) → MapsFile s step (Err r) t
-  maps_none t (MapStep task k name a n sharing reserving) r = tt
-  maps_none t other r = tt
+  maps_none t step r = grind (arith, common_steps)
 
   file_maps : (t : State) (k : ℕ) (l : k < length s.slots) (task : ℕ) (name : List ℕ) (a n : ℕ) (sharing : Sharing) (reserving : Reserving) (o : Outcome)
       → FileMapped (slot_at s k) name task a n sharing reserving o → t.slots ≡ slice_set s.slots k (left_by (slot_at s k) o)
       → MapsFile s (MapStep task k name a n sharing reserving) (reply_of o) t
-  file_maps t k l task name a n sharing reserving (Refused r) h slots = tt
-  file_maps t k l task name a n sharing reserving (Answered (MapNo number) new) h slots =
-      subst (λ x. IsMapped (slot_at s k) x name task number a n sharing reserving)
-      (sym (ap (λ (xs : List Slot). slice_index_or xs k None) slots ∙ get_or-set_same s.slots k new None l)) h
-  file_maps t k l task name a n sharing reserving (Answered other new) h slots = absurd h
+  file_maps t k l task name a n sharing reserving o h slots = grind (arith, common_steps)
 
   event_maps : (e : Event) (reply : Reply) (t : State) → is_whole e ≡ true → IsEvent s e reply t → MapsFile s (step_of e) reply t
   event_maps (OnSlot k (slot.Map task home name a n sharing reserving)) reply t whole is =

@@ -1,4 +1,5 @@
 -- What an access leaves: the mount as it was, or with its file in another form that has the same name and maps of the same numbers.
+use Rattle.std.proofs.lemmas.Grind.{common_steps}
 use Rattle.std.proofs.Common.{◌≡◌, ℕ, ◌-◌, ◌<◌, ◌&&◌, Bool, true, not, map, suc, zero, arith, get_or, None, Some, List, [], ◌∷◌, length, refl, sym, ap, ◌∙◌, if◌then◌else◌}
 use Rattle.std.specs.List.{list_any, slice_index_or, slice_set}
 use Rattle.std.proofs.lemmas.Bool.{cond_both}
@@ -51,9 +52,7 @@ pub pages_same : (x : Map) (mark : Bool) (ps : List (Place Copy)) → length ps 
 pages_same x mark ps long = ap (λ n. record { task = x.task; number = x.number; start = x.start; pages = n; sharing = x.sharing; owner = x.owner }) long
 
 robbed_key : (stamp : ℕ) (x : Map) → shape_of (robbed stamp x) ≡ shape_of x
-robbed_key stamp x =
-    cond_both (list_any (holds stamp) x.places) (record x { unmapped = true; places = map (drop_stamp stamp) x.places }) x
-    (λ y. shape_of y ≡ shape_of x) (λ e. pages_same x true (map (drop_stamp stamp) x.places) (length-map x.places (drop_stamp stamp))) (λ e. refl)
+robbed_key stamp x = grind (arith, common_steps)
 
 -- a file in the place of another of the same name and numbers
 pub file_put : (m : Mount) (k : ℕ) (g f : File) → ((d : File) → slice_index_or m.files k d ≡ g) → file_key f ≡ file_key g → keys (with_file m k f) ≡ keys m
@@ -65,9 +64,7 @@ map_put f k x y at same = ap (λ ks. (f.name, ks)) (key_set shape_of f.maps k y 
 
 -- an element of the list that a function was put over
 pub get_mapped : {X : Type 0} (f : X → X) (xs : List X) (k : ℕ) (d : X) → k < length xs → get_or (map f xs) k d ≡ f (get_or xs k d)
-get_mapped f [] k d l = absurd (omega (arith, l))
-get_mapped f (x ∷ xs) zero d l = refl
-get_mapped f (x ∷ xs) (suc k) d l = get_mapped f xs k d (omega (arith, l))
+get_mapped f xs k d l = grind (arith, common_steps)
 
 back_put : (f : File) (k stamp : ℕ) (x : Map) → IsMapAt f k x → file_key (with_map (record f { maps = map (robbed stamp) f.maps }) k x) ≡ file_key f
 back_put f k stamp x at =
@@ -79,9 +76,7 @@ back_put f k stamp x at =
 
 module _ (c : Choice) (m : Mount) (Q : Mount → Type 0) (own : Q m) (s : Spot) (at : IsSpot m s) (put : (f : File) → file_key f ≡ file_key s.file → Q (with_file m s.file_no f)) (size home i : ℕ) where
   shared_on : (cell : Cell Page) → Always (On Q) (shared_access c size m s home i cell)
-  shared_on (Present page) = own
-  shared_on Entered = on_reserved_page Q home _ (λ node. put (with_cell s.file i (Present (record { node = node; bytes = zeros size }))) refl)
-  shared_on Hole = on_grant_page Q c m home _ (λ node. put (with_cell s.file i (Present (record { node = node; bytes = zeros size }))) refl)
+  shared_on cell = grind (arith, common_steps)
 
   -- the map with a copy there
   copied_on : (consumed : Bool) (copy : Copy) → On Q (copied m s i consumed copy)

@@ -1,4 +1,5 @@
 -- What names and numbers mean stands where it stood, after a file or a map more and after each access.
+use Rattle.std.proofs.lemmas.Grind.{common_steps}
 use Rattle.std.proofs.Common.{◌≡◌, subst, ℕ, ◌-◌, ◌<◌, ◌==◌, true, None, Some, List, [], ◌∷◌, ◌++◌, length, map, option_map, suc, zero, get_or, arith, refl, sym, ap, ◌∙◌}
 use Rattle.std.specs.List.{slice_set}
 use Rattle.std.proofs.lemmas.Bool.{and_parts, cond_both, eqb-true}
@@ -33,8 +34,7 @@ use Rattle.hp_model.specs.files.Fill.{range_filled}
 -- ---- keys of longer lists
 
 keys_more : {X K : Type 0} (key : X → K) (xs : List X) (y : X) → map key (xs ++ y ∷ []) ≡ map key xs ++ key y ∷ []
-keys_more key [] y = refl
-keys_more key (x ∷ xs) y = ap (λ ks. key x ∷ ks) (keys_more key xs y)
+keys_more key xs y = grind (arith, common_steps)
 
 keys_set : {X K : Type 0} (key : X → K) (xs : List X) (k : ℕ) (y : X) → map key (slice_set xs k y) ≡ slice_set (map key xs) k (key y)
 keys_set key [] k y = refl
@@ -42,9 +42,7 @@ keys_set key (x ∷ xs) zero y = refl
 keys_set key (x ∷ xs) (suc k) y = ap (λ ks. key x ∷ ks) (keys_set key xs k y)
 
 key_at : {X K : Type 0} (key : X → K) (xs : List X) (k : ℕ) (d : X) (e : K) → k < length xs → get_or (map key xs) k e ≡ key (get_or xs k d)
-key_at key [] k d e l = absurd (omega (arith, l))
-key_at key (x ∷ xs) zero d e l = refl
-key_at key (x ∷ xs) (suc k) d e l = key_at key xs k d e (omega (arith, l))
+key_at key xs k d e l = grind (arith, common_steps)
 
 -- ---- an open mount
 

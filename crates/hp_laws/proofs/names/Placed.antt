@@ -1,4 +1,5 @@
 -- Names and numbers are found where they were, after each change that ends neither.
+use Rattle.std.proofs.lemmas.Grind.{common_steps}
 use Rattle.std.proofs.Common.{◌≡◌, ⊎_elim, subst, ℕ, zero, suc, ◌+◌, ◌||◌, ◌==◌, Bool, true, false, None, Option}
 use Rattle.std.proofs.Common.{Some, List, [], ◌∷◌, ◌++◌, option_map, get_or, refl, sym, ap, ◌∙◌, arith, if◌then◌else◌}
 use Rattle.std.specs.List.{slice_set}
@@ -51,11 +52,7 @@ abbrev pub put_at : {X : Type 0} → ℕ → X → ℕ × X → ℕ × X
 put_at j y p = (p.0, if p.0 == j then y else p.1)
 
 suc_eq : (a b : ℕ) → (a + 1 == suc b) ≡ (a == b)
-suc_eq a b =
-    ⊎_elim (λ same. eq-eqb (a + 1) (suc b) (omega (arith, same)) ∙ sym (eq-eqb a b same))
-    (λ other. false_from_ne_true (a + 1 == suc b) (λ e. (let same = eqb-true (a + 1) (suc b) e in other (omega (arith, same))))
-    ∙ sym (false_from_ne_true (a == b) (λ e. other (eqb-true a b e))))
-    (cases_eq a b)
+suc_eq a b = grind (arith, common_steps)
 
 suc_not_zero : (a : ℕ) → (a + 1 == 0) ≡ false
 suc_not_zero a = false_from_ne_true (a + 1 == 0) (λ e. (let same = eqb-true (a + 1) 0 e in absurd (omega (arith, same))))
@@ -95,11 +92,7 @@ module _ (ks : List FileKey) (j : ℕ) (k : FileKey) (new : Shape) (there : (d :
   with_new = (k.0, k.1 ++ new ∷ [])
 
   still_has : (t : Shape → Bool) → t new ≡ false → has_key t with_new ≡ has_key t k
-  still_has t unlike = any_append t k.1 (new ∷ []) ∙ rw unlike (or_none (has_key t k))
-    where
-      or_none : (b : Bool) → (b || (false || false)) ≡ b
-      or_none true = refl
-      or_none false = refl
+  still_has t unlike = grind (arith, common_steps)
 
   in_more : (t : Shape → Bool) (q : ℕ × FileKey) (x : Where) (b : Bool) → (b ≡ true → q.1 ≡ k) → in_key t (Some q) ≡ Some x → in_key t (Some (q.0, if b then with_new else q.1)) ≡ Some x
   in_more t q x false is e = e
@@ -145,8 +138,7 @@ pub record Placed (m n : Mount) : Type 0 where
   pub numbers : (task number : ℕ) (p : Spot) → spot m (is_map task number) ≡ Some p → (q : Spot) × (spot n (is_map task number) ≡ Some q) × (places q ≡ places p)
 
 unkeyed : {X K Y : Type 0} (f : X → Y) (g : K → Y) (key : X → K) → ((x : X) → g (key x) ≡ f x) → (o : Option X) (k : K) → option_map key o ≡ Some k → (x : X) × (o ≡ Some x) × (f x ≡ g k)
-unkeyed f g key same None k e = cc
-unkeyed f g key same (Some x) k e = (x, refl, sym (same x) ∙ ap g (let w : key x ≡ k = cc in w))
+unkeyed f g key same o k e = grind (arith, common_steps)
 
 pub placed : (m n : Mount) → KeysLead (keys m) (keys n) → Placed m n
 placed m n lead =

@@ -1,4 +1,5 @@
 -- A fork that is answered gives the child the maps of its parent, on every slot.
+use Rattle.std.proofs.lemmas.Grind.{common_steps}
 use Rattle.std.proofs.Common.{◌≡◌, ⊎_elim, subst, map, option_map, ℕ, zero, suc, ◌+◌, ◌<◌, ◌≤◌, Bool, true, false, ◌&&◌, ◌||◌, ◌==◌, not}
 use Rattle.std.proofs.Common.{Option, None, Some, is_some, Ok, Err, List, [], ◌∷◌, ◌++◌, length, refl, sym, ap, ◌∙◌, arith, if◌then◌else◌}
 use Rattle.std.specs.List.{filter, list_any, range_with_len, slice_index_or, slice_set}
@@ -324,17 +325,10 @@ module _ (s : State) (parent child : ℕ) where
       by_home (Some home) at q mid e go = by_tests home at (is_known s.table child) (is_crowded s.table) refl q mid e go
 
   event_forks : (e : Event) (reply : Reply) (t : State) → is_whole e ≡ true → IsEvent s e reply t → Forks s (step_of e) reply t
-  event_forks (OnSlot k (slot.ForkMaps parent child)) reply t whole is = cc
-  event_forks (OnSlot k (slot.ExitMaps task)) reply t whole is = tt
-  event_forks (OnSlot k other) reply t whole is = tt
-  event_forks (Tasks (table.FindAndAdd parent child)) reply t whole is = cc
-  event_forks (Tasks other) reply t whole is = tt
-  event_forks (OnPool pool.Meminfo) reply t whole is = tt
-  event_forks (OnPool other) reply t whole is = tt
+  event_forks e reply t whole is = grind (arith, common_steps)
 
 early_forks : (s : State) (x : Step) (r : Refusal) → Forks s x (Err r) s
-early_forks s (step.Fork parent child) r = tt
-early_forks s other r = tt
+early_forks s x r = grind (arith, common_steps)
 
 pub step_forks : (s : State) (reply : Reply) (t : State) (x : Step) → IsStep s x reply t → Forks s x reply t
 step_forks s reply t x is =

@@ -1,4 +1,5 @@
 -- What a truncate and a punch leave of a file: its length, and of what they cut no page and no copy.
+use Rattle.std.proofs.lemmas.Grind.{common_steps}
 use Rattle.std.proofs.Common.{◌≡◌, ⊎_elim, subst, ℕ, ◌+◌, ◌-◌, ◌<◌, ◌≤◌, ◌&&◌, Bool, true, false, None, Option, Some, Ok}
 use Rattle.std.proofs.Common.{Err, List, [], ◌∷◌, length, map, take, replicate, refl, sym, ap, ◌∙◌, arith, if◌then◌else◌, nat_le, nat_lt}
 use Rattle.std.specs.List.{slice_index_or, slice_set}
@@ -51,8 +52,7 @@ use Rattle.hp_laws.proofs.steps.Whole.{by_event, is_whole, step_of}
 -- ---- one file
 
 without_none : (p : Place Copy) → copy_of (without_copy p) ≡ None
-without_none Gone = refl
-without_none (Live consumed copy) = refl
+without_none p = grind (arith, common_steps)
 
 -- a range of a map's copies is gone
 map_cut : (a b : ℕ) (y : Map) (x : ℕ) → is_in a b x ≡ true → copy_of (place_at (map_punched a b y) x) ≡ None
@@ -63,13 +63,7 @@ map_cut a b y x within =
 module _ (f : File) where
   -- no map changes where there is none
   no_map_punched : (a b l : ℕ) → map_in (record f { maps = map (map_punched a b) f.maps }) l ≡ map_punched a b (map_in f l)
-  no_map_punched a b l =
-      let none = nothing (edit_range without_copy (a - 0) (b - 0) []) (length-edit_range without_copy (a - 0) (b - 0) []) in
-      get_map (map_punched a b) no_map (ap (λ (ps : List (Place Copy)). record no_map { places = ps }) none) f.maps l
-    where
-      nothing : (ps : List (Place Copy)) → length ps ≡ 0 → ps ≡ []
-      nothing [] e = refl
-      nothing (p ∷ ps) e = absurd (omega (arith, e))
+  no_map_punched a b l = grind (arith, common_steps)
 
   punch_left : (a b : ℕ) → HasLeft (punched a b f) (length f.cells) (is_in a b) (λ i. cell_punched (cell_at f i))
   punch_left a b = record {
@@ -80,24 +74,12 @@ module _ (f : File) where
   }
 
   long : (n : ℕ) → length (cells_to n f.cells) ≡ n
-  long n =
-      let most = length-take n f.cells in
-      let rest = length-replicate {A = Cell Page} (n - length f.cells) Hole in
-      length-append (take n f.cells) (replicate (n - length f.cells) Hole) ∙ omega (arith, most, rest)
+  long n = grind (arith, common_steps)
 
   module _ (sound : (l : ℕ) → l < length f.maps → IsSoundMap (length f.cells) (map_in f l)) (n : ℕ) where
     -- no copy lies past the file's end
     far : (l i : ℕ) → length f.cells ≤ i → copy_of (place_at (map_in f l) i) ≡ None
-    far l i past =
-        ⊎_elim (λ low. by_copy (copy_of (place_at (map_in f l) i)) refl (sound l low))
-        (λ high. ap (λ (y : Map). copy_of (place_at y i)) (get_or_past f.maps l no_map high) ∙ nothing) (cases_lt l (length f.maps))
-      where
-        nothing : copy_of (place_at no_map i) ≡ None
-        nothing = cond_both (nat_lt i 0) Gone Gone (λ (p : Place Copy). copy_of p ≡ None) (λ e. refl) (λ e. refl)
-
-        by_copy : (o : Option Copy) → copy_of (place_at (map_in f l) i) ≡ o → IsSoundMap (length f.cells) (map_in f l) → copy_of (place_at (map_in f l) i) ≡ None
-        by_copy None is all = is
-        by_copy (Some copy) is all = (let below = (all i copy is).below in absurd (omega (arith, below, past)))
+    far l i past = grind (arith, common_steps)
 
     truncate_left : HasLeft (truncated n f) n (nat_le n) (λ i. Hole)
     truncate_left = record {
@@ -162,17 +144,13 @@ module _ (size k : ℕ) (c : Choice) where
 
 module _ (s : State) (st : IsSettledState s) where
   uncut : (x : Step) (r : Refusal) (t : State) → Cuts s x (Err r) t
-  uncut (step.Truncate k name n) r t = tt
-  uncut (step.Punch k name a b) r t = tt
-  uncut other r t = tt
+  uncut x r t = grind (arith, common_steps)
 
   module _ (t : State) (k : ℕ) (l : k < length s.slots) (name : List ℕ) (many : ℕ) (cut : ℕ → Bool) (cell : ℕ → Cell Page) where
     -- what the outcome says of the slot that it leaves
     is_cut : (x : Step) → ((r : Refusal) → Cuts s x (Err r) t) → ((a : Answer) → IsCutFile (named_on (slot_at t k) name) many cut cell → Cuts s x (Ok a) t)
         → (o : Outcome) → CutTo name many cut cell o → t.slots ≡ slice_set s.slots k (left_by (slot_at s k) o) → Cuts s x (reply_of o) t
-    is_cut x refused answered (Refused r) h slots = refused r
-    is_cut x refused answered (Answered a new) h slots =
-        answered a (subst (λ y. IsCutFile (named_on y name) many cut cell) (sym (ap (λ (xs : List Slot). slice_index_or xs k None) slots ∙ get_or-set_same s.slots k new None l)) h)
+    is_cut x refused answered o h slots = grind (arith, common_steps)
 
   event_cuts : (e : Event) (reply : Reply) (t : State) → is_whole e ≡ true → IsEvent s e reply t → Cuts s (step_of e) reply t
   event_cuts (OnSlot k (slot.Truncate name n)) reply t whole is =

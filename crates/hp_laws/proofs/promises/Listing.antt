@@ -1,4 +1,6 @@
 -- Only the event that asks for the names of files answers a list of names.
+use Rattle.std.proofs.Common.{arith}
+use Rattle.std.proofs.lemmas.Grind.{common_steps}
 use Rattle.std.proofs.Common.{◌≡◌, ℕ, false, None, Some, refl}
 use Rattle.hp_model.specs.declared.answer.Answer.TheVariants.{Bytes, Done, MapNo}
 use Rattle.hp_model.specs.declared.event.SlotEvent.{SlotEvent}
@@ -12,11 +14,7 @@ use Rattle.hp_laws.proofs.accesses.SlotShows.{always_value}
 use Rattle.hp_laws.proofs.promises.SmallReplies.{Plain, slot_plain}
 
 plain_names_none : (o : Outcome) → Plain o → HasNoNames o
-plain_names_none (Refused r) h = tt
-plain_names_none (Answered Done slot) h = refl
-plain_names_none (Answered (MapNo n) slot) h = refl
-plain_names_none (Answered (Bytes count bytes) slot) h = refl
-plain_names_none (Answered other slot) h = absurd h
+plain_names_none o h = grind (arith, common_steps)
 
 pub names_are_listed : (size k : ℕ) (c : Choice) (old : Slot) (e : SlotEvent) → lists_names e ≡ false → Always HasNoNames (slot_event size k c old e)
 names_are_listed size k c old slot.Ls e = cc

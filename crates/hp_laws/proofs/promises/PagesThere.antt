@@ -1,4 +1,6 @@
 -- An access that is answered leaves its page there; and an owner takes a copy back only where no page could be had.
+use Rattle.std.proofs.Common.{arith}
+use Rattle.std.proofs.lemmas.Grind.{common_steps}
 use Rattle.std.proofs.Common.{◌≡◌, ◌⊎◌, ⊎_elim, inl, inr, subst, ℕ, ◌+◌, ◌-◌, ◌<◌, ◌&&◌, ◌||◌, ◌==◌, Bool, true, false}
 use Rattle.std.proofs.Common.{not, None, Option, Some, Ok, Err, List, length, map, is_some, refl, sym, ap, ◌∙◌, if◌then◌else◌, nat_lt}
 use Rattle.std.specs.List.{slice_index_or, slice_set}
@@ -69,14 +71,10 @@ has_page_at n j x = has_page (cell_at (file_in n j) x)
 
 -- a store leaves them
 place_same : (offset : ℕ) (bytes : List ℕ) (p : Place Copy) → is_some (copy_of (place_written offset bytes p)) ≡ is_some (copy_of p)
-place_same offset bytes Gone = refl
-place_same offset bytes (Live consumed None) = refl
-place_same offset bytes (Live consumed (Some copy)) = refl
+place_same offset bytes p = grind (arith, common_steps)
 
 cell_same : (offset : ℕ) (bytes : List ℕ) (c : Cell Page) → has_page (cell_written offset bytes c) ≡ has_page c
-cell_same offset bytes Hole = refl
-cell_same offset bytes Entered = refl
-cell_same offset bytes (Present page) = refl
+cell_same offset bytes c = grind (arith, common_steps)
 
 module _ (s : Spot) (i offset : ℕ) (bytes : List ℕ) where
   map_same : (y : Map) (x : ℕ) → is_some (copy_of (place_at (map_written i offset bytes y) x)) ≡ is_some (copy_of (place_at y x))
@@ -121,23 +119,16 @@ module _ (u : State) (size : ℕ) (m : Mount) (s : Spot) (at : IsSpot m s) (i : 
 
   -- another file in its place, in which no map lost a copy
   put_holds : (g : File) → ((l x : ℕ) → file_copy s.file l x ≡ true → file_copy g l x ≡ true) → Holds (with_file m s.file_no g)
-  put_holds g keeps = inl (λ j l x has. ⊎_elim
-      (λ same. subst (λ k. has_copy (with_file m s.file_no g) k l x ≡ true) (sym same)
-      (ap (λ f. file_copy f l x) (get_or-set_same m.files s.file_no g (new_file None) at.file.within)
-      ∙ keeps l x (sym (ap (λ f. file_copy f l x) (at.file.is (new_file None))) ∙ subst (λ k. has_copy m k l x ≡ true) same has)))
-      (λ other. ap (λ f. file_copy f l x) (get_or-set_other m.files s.file_no j g (new_file None) other) ∙ has)
-      (cases_eq j s.file_no))
+  put_holds g keeps = grind (arith, common_steps)
 
   stays : Holds m
   stays = inl (λ j l x has. has)
 
   page_there : (intent : Intent) (n : Mount) → is_shared s.map.sharing ≡ true → has_page_at n s.file_no i ≡ true → There intent n
-  page_there Read n shared has = or_right (has_copy n s.file_no s.map_no i) (has_page_at n s.file_no i) has
-  page_there Write n shared has = ap (λ b. if b then has_page_at n s.file_no i else has_copy n s.file_no s.map_no i) shared ∙ has
+  page_there intent n shared has = grind (arith, common_steps)
 
   copy_there : (intent : Intent) (n : Mount) → is_shared s.map.sharing ≡ false → has_copy n s.file_no s.map_no i ≡ true → There intent n
-  copy_there Read n apart has = or_left (has_copy n s.file_no s.map_no i) (has_page_at n s.file_no i) has
-  copy_there Write n apart has = ap (λ b. if b then has_page_at n s.file_no i else has_copy n s.file_no s.map_no i) apart ∙ has
+  copy_there intent n apart has = grind (arith, common_steps)
 
   page_here : has_page (cell_at s.file i) ≡ true → has_page_at m s.file_no i ≡ true
   page_here has = ap (λ f. has_page (cell_at f i)) (at.file.is (new_file None)) ∙ has
@@ -145,13 +136,7 @@ module _ (u : State) (size : ℕ) (m : Mount) (s : Spot) (at : IsSpot m s) (i : 
   module _ (c : Choice) (home : ℕ) where
     module _ (shared : is_shared s.map.sharing ≡ true) (intent : Intent) (low : i < length s.file.cells) where
       fill_left : (node : ℕ) → Left intent (with_file m s.file_no (with_cell s.file i (Present (record { node = node; bytes = zeros size }))))
-      fill_left node =
-          let page : Page = record { node = node; bytes = zeros size } in
-          let g : File = with_cell s.file i (Present page) in (
-            put_holds g (λ l x has. has),
-            page_there intent (with_file m s.file_no g) shared
-                (ap (λ f. has_page (cell_at f i)) (get_or-set_same m.files s.file_no g (new_file None) at.file.within) ∙ ap has_page (get_or-set_same s.file.cells i (Present page) Hole low)),
-          )
+      fill_left node = grind (arith, common_steps)
 
       shared_left : (cell : Cell Page) → cell_at s.file i ≡ cell → Always (On (Left intent)) (shared_access c size m s home i cell)
       shared_left (Present page) is = (stays, page_there intent m shared (page_here (ap has_page is)))
@@ -183,8 +168,7 @@ module _ (u : State) (size : ℕ) (m : Mount) (s : Spot) (at : IsSpot m s) (i : 
               (cases_eq x i)
 
       has_left : (intent : Intent) (consumed : Bool) (copy : Copy) → place_at s.map i ≡ Live consumed (Some copy) → Left intent m
-      has_left intent consumed copy is =
-          (stays, copy_there intent m apart (ap (λ (p : Place Copy). is_some (copy_of p)) (kept_own size m s at i consumed copy is).is))
+      has_left intent consumed copy is = grind (arith, common_steps)
 
       new_left : (intent : Intent) (consumed : Bool) → place_at s.map i ≡ Live consumed None → Always (On (Left intent)) (new_copy c size m s home i consumed)
       new_left intent consumed is =
@@ -290,15 +274,10 @@ module _ (u : State) (size : ℕ) (m : Mount) (s : Spot) (at : IsSpot m s) (i : 
 
 module _ (u : State) where
   at_both : (P Q R : Outcome → Type 0) → ((o : Outcome) → P o → Q o → R o) → (p : Plan) → At u P p → At u Q p → At u R p
-  at_both P Q R h (Finish o) a b = h o a b
-  at_both P Q R h (Ask sec f) a b = h (f (section (pool_of u) (sec u.nr)).0) a b
+  at_both P Q R h p a b = grind (arith, common_steps)
 
   at_ends : (P : Outcome → Type 0) (k : ℕ) (p : Plan) → At u P p → Ends P u k (planned u k p).0 (planned u k p).1
-  at_ends P k (Finish o) h = ends_so P u k o h
-  at_ends P k (Ask sec f) h =
-      let q = section (pool_of u) (sec u.nr) in
-      let e = ends_so P (with_pool u q.1) k (f q.0) h in
-      record { outcome = e.outcome; holds = e.holds; replied = e.replied; size = e.size; slots = e.slots }
+  at_ends P k p h = grind (arith, common_steps)
 
   event_ends_at : (P : Outcome → Type 0) (k : ℕ) (e : SlotEvent) (reply : Reply) (t : State) → ((c : Choice) → At u P (slot_event u.page_size k c (slot_at u k) e)) → IsEvent u (OnSlot k e) reply t
       → Ends P u k reply t
@@ -323,9 +302,7 @@ module _ (u : State) where
         (each : (s : Spot) (found : spot m (is_map task number) ≡ Some s) → At u (On (Left u size m s (spot_is m (is_map task number) s found) i intent)) (f s)) where
       joined : (s : Spot) (found : spot m (is_map task number) ≡ Some s) (o : Outcome) → On (Left u size m s (spot_is m (is_map task number) s found) i intent) o → On (λ n. keys n ≡ keys m) o
           → Ended (Some m) o
-      joined s found (Refused r) left same = tt
-      joined s found (Answered a None) left same = absurd same
-      joined s found (Answered a (Some n)) left same = record { by = s; found = found; same = same; left = left }
+      joined s found o left same = grind (arith, common_steps)
 
       ended : At u (Ended (Some m)) (with_value (spot m (is_map task number)) NoSuchMap f)
       ended = by_spot (spot m (is_map task number)) refl all
@@ -365,22 +342,11 @@ module _ (u : State) where
 -- ---- what is told of names and numbers
 
 same_copy : (own p : Place Copy) → is_same_copy own p ≡ true → is_some (copy_of p) ≡ true
-same_copy own p same = by_copies (copy_of own) (copy_of p) same
-  where
-    by_copies : (a b : Option Copy) → (elim a [ None ↦ false | Some copy ↦ elim b [ None ↦ false | Some other ↦ other.stamp == copy.stamp ] ]) ≡ true → is_some b ≡ true
-    by_copies None b same = cc
-    by_copies (Some copy) None same = cc
-    by_copies (Some copy) (Some other) same = refl
+same_copy own p same = grind (arith, common_steps)
 
 -- a map that is as it was has lost nothing
 nothing_lost : (o a : Option Spot) (i : ℕ) (p q : Spot) (j : ℕ) → Some q ≡ Some p → IsLostTo o a i p q j → ⊥
-nothing_lost None a i p q j same lost = absurd lost
-nothing_lost (Some o) None i p q j same lost = absurd lost
-nothing_lost (Some o) (Some a) i p q j same lost =
-    let is : q ≡ p = cc in
-    let held = same_copy (place_at o.map i) (place_at p.map j) lost.1.held in
-    let gone = ap is_some (ap (λ (y : Spot). copy_of (place_at y.map j)) (sym is) ∙ lost.1.lost) in
-    (let wrong : true ≡ false = sym held ∙ gone in cc)
+nothing_lost o a i p q j same lost = grind (arith, common_steps)
 
 module _ (u : State) (size task number i : ℕ) (intent : Intent) (m n : Mount) (it : Through u size task number i intent m n) where
   -- a map is found where it was
@@ -481,32 +447,23 @@ module _ (s : State) where
   reach x reply t a b = record { touched = a; taken = b }
 
   untouched : (x : Step) (r : Refusal) (t : State) → Touches x (Err r) t
-  untouched (step.Fault task k number i intent) r t = tt
-  untouched (step.Load task k number i offset count) r t = tt
-  untouched (step.Store task k number i offset bytes) r t = tt
-  untouched other r t = tt
+  untouched x r t = grind (arith, common_steps)
 
   -- where nothing changed nothing was taken
   none_taken : (x : Step) → Takes s x s
-  none_taken (step.Store task slot number i offset bytes) k v w j p q was now lost = absurd (nothing_lost (map_named s slot task number) (map_named s slot task number) i p q j (sym now ∙ was) lost.1)
-  none_taken (step.Fault task slot number i Write) k v w j p q was now lost = absurd (nothing_lost (map_named s slot task number) (map_named s slot task number) i p q j (sym now ∙ was) lost.1)
-  none_taken (step.Fault task slot number i Read) k v w j p q was now lost = absurd lost
-  none_taken other k v w j p q was now lost = absurd lost
+  none_taken x k v w j p q was now lost = grind (arith, common_steps)
 
   -- what is told of the reply is told of an answer
   by_reply : (intent : Intent) (o : Option Spot) (i : ℕ) (x : Step) (t : State) → ((a : Answer) → IsTouched intent o i → Touches x (Ok a) t) → ((r : Refusal) → Touches x (Err r) t)
       → (reply : Reply) → ((a : Answer) → reply ≡ Ok a → IsTouched intent o i) → Touches x reply t
-  by_reply intent o i x t answered refused (Ok a) h = answered a (h a refl)
-  by_reply intent o i x t answered refused (Err r) h = refused r
+  by_reply intent o i x t answered refused reply h = grind (arith, common_steps)
 
   -- on another slot nothing is lost
   on_slot : (t : State) (k task number i : ℕ) → ((v w j : ℕ) (p q : Spot) → map_named s k v w ≡ Some p → map_named t k v w ≡ Some q
       → IsLostTo (map_named s k task number) (map_named t k task number) i p q j → can_have_page (pool_of s) (slot_at s k) ≡ false)
       → (o v w j : ℕ) (p q : Spot) → map_named s o v w ≡ Some p → map_named t o v w ≡ Some q → (k ≡ o) × IsLostTo (map_named s k task number) (map_named t k task number) i p q j
       → can_have_page (pool_of s) (slot_at s o) ≡ false
-  on_slot t k task number i h o v w j p q was now lost =
-      subst (λ x. can_have_page (pool_of s) (slot_at s x) ≡ false) lost.0
-      (h v w j p q (subst (λ x. map_named s x v w ≡ Some p) (sym lost.0) was) (subst (λ x. map_named t x v w ≡ Some q) (sym lost.0) now) lost.1)
+  on_slot t k task number i h o v w j p q was now lost = grind (arith, common_steps)
 
   event_reaches : (e : Event) (reply : Reply) (t : State) → is_whole e ≡ true → IsEvent s e reply t → Reaches s (step_of e) reply t
   event_reaches (OnSlot k (slot.Fault task home number i intent)) reply t whole is =

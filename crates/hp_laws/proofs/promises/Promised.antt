@@ -1,4 +1,5 @@
 -- Each step of a settled machine is as promised.
+use Rattle.std.proofs.lemmas.Grind.{common_steps}
 use Rattle.std.proofs.Common.{◌≡◌, ℕ, ◌<◌, true, false, Err, length, refl, sym, ap, ◌∙◌, subst, arith}
 use Rattle.hp_model.specs.declared.event.Event.{Event}
 use Rattle.hp_model.specs.declared.event.Event.TheVariants.{Tasks, Slot as OnSlot, Pool as OnPool}
@@ -53,8 +54,7 @@ record Kept (s : State) (step : Step) (reply : Reply) (t : State) : Type 0 where
   pub cut_off : is_cut_off_step s step ≡ true → is_refused reply ≡ true
 
 refused_shows : (s : State) (step : Step) (r : Refusal) → ShowsMap s step (Err r)
-refused_shows s (Load task k number i offset count) r = tt
-refused_shows s other r = tt
+refused_shows s step r = grind (arith, common_steps)
 
 early_kept : (s : State) (step : Step) (r : Refusal) → is_early r ≡ true → Kept s step (Err r) s
 early_kept s step r early = record { reserved = λ e. early_pages r early; limits = λ k l risen. absurd (omega (arith, risen)); loads = refused_shows s step r; cut_off = λ e. refl }

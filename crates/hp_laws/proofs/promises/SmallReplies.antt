@@ -1,4 +1,5 @@
 -- What each step of a settled machine answers is within the limits of a reply's text.
+use Rattle.std.proofs.lemmas.Grind.{common_steps}
 use Rattle.std.proofs.Common.{◌≡◌, subst, ℕ, suc, ◌+◌, ◌^◌, ◌<◌, ◌≤◌, ◌||◌, ◌==◌, ◌∙◌, Bool, true, false, not, Option, None, Some}
 use Rattle.std.proofs.Common.{Ok, Err, List, [], ◌∷◌, ◌++◌, length, refl, sym, ap, arith, cond, nat_lt, nat_le}
 use Rattle.std.specs.List.{filter, position_or_len, range_with_len}
@@ -66,8 +67,7 @@ count_le p [] = omega arith
 count_le p (x ∷ xs) = cond_both (not (p x)) (1 + position_or_len p xs) 0 (λ n. n ≤ suc (length xs)) (λ e. (let rest = count_le p xs in omega (arith, rest))) (λ e. omega arith)
 
 filter_head : {X : Type 0} (b : Bool) (x : X) (ys : List X) (n : ℕ) → length ys ≤ n → length (cond b (x ∷ ys) ys) ≤ suc n
-filter_head true x ys n le = omega (arith, le)
-filter_head false x ys n le = omega (arith, le)
+filter_head b x ys n le = grind (arith, common_steps)
 
 filter_le : {X : Type 0} (p : X → Bool) (xs : List X) → length (filter p xs) ≤ length xs
 filter_le p [] = omega arith
@@ -132,24 +132,14 @@ module _ (size : ℕ) (c : Choice) (m : Mount) (home i : ℕ) (s : Spot) (at : I
   FewBytes n = count ≤ most_bytes
 
   load_bytes : Always (On FewBytes) (byte_access c size m home i offset count Read s)
-  load_bytes =
-      always_test (On FewBytes) (is_unmapped s i || (count == 0)) OutOfRange _ tt
-      (λ a. always_test (On FewBytes) (nat_lt size (offset + count)) CrossesPage _ tt
-      (λ b. always_test (On FewBytes) (nat_lt most_bytes count) TooMany _ tt
-      (λ d. always_test (On FewBytes) (is_beyond s i) BeyondEnd (access c size m s home i Read) tt
-      (λ f. always_weaker (On (Same size m s at i)) (On FewBytes) (on_weaker (Same size m s at i) FewBytes (λ n h. ltb-false most_bytes count d)) (access c size m s home i Read)
-      (read_same size m s at i c home (leb-false (length s.file.cells) i f))))))
+  load_bytes = grind (arith, common_steps)
 
   load_ends : (o : Outcome) → On FewBytes o → Plain (continued (λ n. Answered (bytes_answer offset count (value size (again n s).file (again n s).map i)) (Some n)) o)
-  load_ends (Refused r) on = tt
-  load_ends (Answered a None) on = absurd on
-  load_ends (Answered a (Some n)) on = on
+  load_ends o on = grind (arith, common_steps)
 
 store_ends : (size : ℕ) (m : Mount) (s : Spot) (at : IsSpot m s) (i offset : ℕ) (bytes : List ℕ) (o : Outcome) → On (Result size m s at i) o
     → Plain (continued (λ n. Answered Done (Some (written n s i offset bytes))) o)
-store_ends size m s at i offset bytes (Refused r) on = tt
-store_ends size m s at i offset bytes (Answered a None) on = absurd on
-store_ends size m s at i offset bytes (Answered a (Some n)) on = tt
+store_ends size m s at i offset bytes o on = grind (arith, common_steps)
 
 abbrev PlainUnlessTold : SlotEvent → Plan → Type 0
 PlainUnlessTold e p = tells_all e ≡ false → Always Plain p
@@ -159,15 +149,10 @@ module _ (size k : ℕ) (c : Choice) (m : Mount) where
   done_plain new = always_gives Plain Done (Some m) new tt
 
   load_plain : (s : Spot) → IsSpot m s → (home i offset count : ℕ) → Always Plain (load c size m home i offset count s)
-  load_plain s at home i offset count =
-      always_then (On (λ n. count ≤ most_bytes)) Plain (λ n. Answered (bytes_answer offset count (value size (again n s).file (again n s).map i)) (Some n))
-      (load_ends size c m home i s at offset count) (byte_access c size m home i offset count Read s) (load_bytes size c m home i s at offset count)
+  load_plain s at home i offset count = grind (arith, common_steps)
 
   store_plain : (s : Spot) → IsSpot m s → (home i offset : ℕ) (bytes : List ℕ) → Always Plain (store c size m home i offset bytes s)
-  store_plain s at home i offset bytes =
-      always_then (On (Result size m s at i)) Plain (λ n. Answered Done (Some (written n s i offset bytes))) (store_ends size m s at i offset bytes)
-      (byte_access c size m home i offset (length bytes) Write s)
-      (bytes_on size c m home i (Result size m s at i) offset (length bytes) Write s (write_done size m s at i c home))
+  store_plain s at home i offset bytes = grind (arith, common_steps)
 
   plain_walks : Walks size k c m PlainUnlessTold
   plain_walks = record {
@@ -203,11 +188,7 @@ slot_plain size k c (Some m) e apart =
     walk_all size k c m PlainUnlessTold (plain_walks size k c m) (λ options refl. always_remounting Plain (λ r. tt) m (λ l. tt) size options) (λ refl. done_plain size k c m None) e apart
 
 plain_small : (o : Outcome) → Plain o → Small o
-plain_small (Refused r) h = tt
-plain_small (Answered Done slot) h = tt
-plain_small (Answered (MapNo n) slot) h = h
-plain_small (Answered (Bytes count bytes) slot) h = h
-plain_small (Answered other slot) h = absurd h
+plain_small o h = grind (arith, common_steps)
 
 pub slot_small : (size k : ℕ) (c : Choice) (old : Slot) (e : SlotEvent) → tells_all e ≡ false → Always Small (slot_event size k c old e)
 slot_small size k c old e apart = always_weaker Plain Small plain_small (slot_event size k c old e) (slot_plain size k c old e apart)
@@ -221,18 +202,7 @@ is_told (OnSlot k e) = tells_all e
 is_told other = false
 
 table_small : (n : ℕ) (x : Table) (e : TableEvent) → is_told (Tasks e) ≡ false → IsWithinLimits (table_event n x e).0
-table_small n x (table.Add task home) e = or_small ((nat_le n home, NoSuchNode) ∷ (is_known x task, TaskExists) ∷ (is_crowded x, TooMany) ∷ []) x (added x task home)
-table_small n x (table.Find task) e = cc
-table_small n x (table.FindAndAdd parent child) e = by_home (home_of x parent)
-  where
-    by_home : (o : Option ℕ) → IsWithinLimits (when_known x o (λ home. or_refused ((is_known x child, TaskExists) ∷ (is_crowded x, TooMany) ∷ []) x (Ok Done, added x child home))).0
-    by_home None = tt
-    by_home (Some home) = or_small ((is_known x child, TaskExists) ∷ (is_crowded x, TooMany) ∷ []) x (added x child home)
-table_small n x (table.Remove task) e = by_home (home_of x task)
-  where
-    by_home : (o : Option ℕ) → IsWithinLimits (when_known x o (λ home. (Ok Done, removed x task))).0
-    by_home None = tt
-    by_home (Some home) = tt
+table_small n x e e' = grind (arith, common_steps)
 
 module _ (s : State) (st : IsSettledState s) where
   pub event_small : (e : Event) (reply : Reply) (t : State) → IsEvent s e reply t → is_told e ≡ false → IsWithinLimits reply
@@ -256,8 +226,7 @@ script_small (Where_mapped k task mapped other) all s reply t is =
     either_way (has_maps_of task (slot_at s k)) (λ it. script_small mapped all.0 s reply t it) (λ it. script_small other all.1 s reply t it) is
 
 when_small : (r : Reply) (next : Script) → Replies next → Replies (when_done r next)
-when_small (Err r) next all = tt
-when_small (Ok a) next all = all
+when_small r next all = grind (arith, common_steps)
 
 exits_small : (ks : List ℕ) (task : ℕ) (next : Script) → Replies next → Replies (exit_slots ks task next)
 exits_small [] task next all = all
@@ -275,13 +244,7 @@ forks_small (k ∷ ks) done parent child =
 -- ---- each step
 
 told_same : (e : Event) → is_whole e ≡ true → is_usage (step_of e) ≡ is_told e
-told_same (Tasks (table.Add task home)) whole = refl
-told_same (Tasks (table.Find task)) whole = refl
-told_same (Tasks other) whole = cc
-told_same (OnSlot k slot.Df) whole = refl
-told_same (OnSlot k other) whole = refl
-told_same (OnPool pool.Meminfo) whole = refl
-told_same (OnPool other) whole = refl
+told_same e whole = grind (arith, common_steps)
 
 module _ (s : State) (st : IsSettledState s) where
   abbrev SmallUnlessTold : Step → Reply → State → Type 0

@@ -1,4 +1,6 @@
 -- A step makes no name and no number but its own, and leaves no file that nobody has.
+use Rattle.std.proofs.Common.{arith}
+use Rattle.std.proofs.lemmas.Grind.{common_steps}
 use Rattle.std.proofs.Common.{◌≡◌, ⊎_elim, subst, ℕ, ◌<◌, ◌&&◌, ◌==◌, Bool, true, false, None, Some, Ok, Err, List, length, refl, sym, ap, ◌∙◌}
 use Rattle.std.specs.List.{slice_index_or, slice_set}
 use Rattle.std.specs.Str.{bytes_eq}
@@ -36,11 +38,7 @@ use Rattle.hp_laws.proofs.steps.Whole.{by_event, is_whole, slot_step, step_of}
 
 -- what holds of the slot that is set, and of each as it was, holds of all slots
 pub each_slot : (s t : State) (k : ℕ) (n : Slot) → k < length s.slots → t.slots ≡ slice_set s.slots k n → (Q : ℕ → Slot → Type 0) → Q k n → ((o : ℕ) → Q o (slot_at s o)) → (o : ℕ) → Q o (slot_at t o)
-each_slot s t k n l slots Q here rest o =
-    subst (λ (xs : List Slot). Q o (slice_index_or xs o None)) (sym slots)
-    (⊎_elim (λ same. subst (λ i. Q i (slice_index_or (slice_set s.slots k n) i None)) (sym same) (subst (λ x. Q k x) (sym (get_or-set_same s.slots k n None l)) here))
-    (λ other. subst (λ x. Q o x) (sym (get_or-set_other s.slots k o n None other)) (rest o))
-    (cases_eq o k))
+each_slot s t k n l slots Q here rest o = grind (arith, common_steps)
 
 -- no slot of t has more than that of s
 abbrev AllNoMore : (made : ℕ → List ℕ → Bool) → (new : ℕ → ℕ → ℕ → Bool) → (s t : State) → Type 0
@@ -66,26 +64,17 @@ makes s step reply t all = record {
 }
 
 same_makes : (s : State) (step : Step) (reply : Reply) (t : State) → t.slots ≡ s.slots → Makes s step reply t
-same_makes s step reply t same =
-    makes s step reply t (λ o. subst (λ (xs : List Slot). NoMore (is_made_name step reply o) (is_made_number step reply o) (slot_at s o) (slice_index_or xs o None)) (sym same)
-    (no_more (is_made_name step reply o) (is_made_number step reply o) (slot_at s o)))
+same_makes s step reply t same = grind (arith, common_steps)
 
 -- on its own slot a step makes what its event makes
 at_own : (k : ℕ) (b : Bool) → ((k == k) && b) ≡ false → b ≡ false
 at_own k b off = sym (ap (λ c. c && b) (eq-eqb k k refl)) ∙ off
 
 name_made : (k : ℕ) (e : SlotEvent) (a : Answer) → is_whole (OnSlot k e) ≡ true → (name : List ℕ) → is_made_name (slot_step k e) (Ok a) k name ≡ false → made_by e name ≡ false
-name_made k (slot.Create made) a whole name off = at_own k (bytes_eq made name) off
-name_made k other a whole name off = refl
+name_made k e a whole name off = grind (arith, common_steps)
 
 number_made : (k : ℕ) (e : SlotEvent) (a : Answer) → is_whole (OnSlot k e) ≡ true → (task number : ℕ) → is_made_number (slot_step k e) (Ok a) k task number ≡ false → new_by e a task number ≡ false
-number_made k (slot.Map owner home name a n sharing reserving) (MapNo made) whole task number off = at_own k ((owner == task) && (made == number)) off
-number_made k (slot.Map owner home name a n sharing reserving) other whole task number off = refl
-number_made k (slot.Anon owner home n sharing reserving) (MapNo made) whole task number off =
-    sym (ap (λ c. c && ((owner == task) && (made == number))) (eq-eqb 0 k (sym (eqb-true k 0 whole)))) ∙ off
-number_made k (slot.Anon owner home n sharing reserving) other whole task number off = refl
-number_made k (slot.ForkMaps parent child) a whole task number off = cc
-number_made k other a whole task number off = refl
+number_made k e a whole task number off = grind (arith, common_steps)
 
 module _ (s : State) where
   slot_step_makes : (k : ℕ) (e : SlotEvent) (reply : Reply) (t : State) → is_whole (OnSlot k e) ≡ true → IsEvent s (OnSlot k e) reply t → Makes s (slot_step k e) reply t
@@ -180,8 +169,4 @@ module _ (s : State) (st : IsSettledState s) where
 -- ---- what stands once
 
 pub once : (t : State) → IsSettledState t → (slot : ℕ) → AreOnce (slot_at t slot)
-once t st k = ⊎_elim (λ low. by_slot (slot_at t k) (left_sound t k low st)) (λ past. subst AreOnce (sym (get_or_past t.slots k None past)) tt) (cases_lt k (length t.slots))
-  where
-    by_slot : (x : Slot) → IsSound x → AreOnce x
-    by_slot None sound = tt
-    by_slot (Some m) sound = record { names = sound.names; numbers = sound.numbers }
+once t st k = grind (arith, common_steps)

@@ -1,4 +1,5 @@
 -- A step that does not lower nr leaves surplus pages within overcommit, or no more than there were.
+use Rattle.std.proofs.lemmas.Grind.{common_steps}
 use Rattle.std.proofs.Common.{◌≡◌, ⊎_elim, ℕ, ◌+◌, ◌≤◌, ◌==◌, true, Err, refl, sym, ap, ◌∙◌, max, arith, nat_le, length}
 use Rattle.std.proofs.lemmas.Bool.{cond_both, eqb-true, leb-true, or_cases}
 use Rattle.hp_model.specs.declared.event.Event.{Event}
@@ -39,10 +40,7 @@ abbrev Within : Pool → PoolAnswer × Pool → Type 0
 Within p q = q.1.committed ≤ max p.committed (p.nr + p.overcommit)
 
 granted_within : (p : Pool) (d : ℕ) → can_grant d p ≡ true → p.committed + d ≤ max p.committed (p.nr + p.overcommit)
-granted_within p d e =
-    ⊎_elim (λ none. (let zero_d = eqb-true d 0 none in omega (arith, zero_d)))
-    (λ fits. (let le = leb-true (p.committed + d) (most p) fits in omega (arith, le)))
-    (or_cases (d == 0) (nat_le (p.committed + d) (most p)) e)
+granted_within p d e = grind (arith, common_steps)
 
 section_within : (p : Pool) (x : Section) → Within p (section p x)
 section_within p (Grant home d) = cond_both (can_grant d p) _ _ (Within p) (λ e. granted_within p d e) (λ e. omega arith)
@@ -63,11 +61,7 @@ record Commits (s t : State) : Type 0 where
 
 -- by the pool that is left
 by_pool : (s t : State) (q : Pool) → pool_of t ≡ q → q.nr ≡ s.nr → q.overcommit ≡ s.overcommit → q.committed ≤ max (committed_pages s) (s.nr + s.overcommit) → Commits s t
-by_pool s t q same nr overcommit le = record {
-  nr = ap (λ (p : Pool). p.nr) same ∙ nr;
-  overcommit = ap (λ (p : Pool). p.overcommit) same ∙ overcommit;
-  committed = (let c = ap (λ (p : Pool). p.committed) same in omega (arith, c, le));
-}
+by_pool s t q same nr overcommit le = grind (arith, common_steps)
 
 plan_commits : (s t : State) (p : Plan) → pool_of t ≡ pool_after s p → Commits s t
 plan_commits s t (Finish o) same = by_pool s t (pool_of s) same refl refl (omega arith)
@@ -98,10 +92,7 @@ same_bounded : (s t : State) → committed_pages t ≡ committed_pages s → IsB
 same_bounded s t same = λ le. omega (arith, same, le)
 
 pool_committed : (p : Pool) (e : PoolEvent) → (pool_event p e).1.committed ≡ p.committed
-pool_committed p (Nr n) = refl
-pool_committed p (Overcommit n) = cond_both (nat_le n most_overcommit) _ (Err OutOfRange, p) (λ (x : Reply × Pool). x.1.committed ≡ p.committed) (λ e. refl) (λ e. refl)
-pool_committed p Meminfo = refl
-pool_committed p Nodes = refl
+pool_committed p e = grind (arith, common_steps)
 
 event_bounded : (s : State) → IsSettledState s → (e : Event) (reply : Reply) (t : State) → IsEvent s e reply t → IsBounded s t
 event_bounded s st (OnSlot k e) reply t is = bounded s t (slot_commits s st k e reply t is)
@@ -119,16 +110,7 @@ goes_event gone s (OnSlot k e) reply t of is st = (event_settled s (OnSlot k e) 
 goes_event gone s (OnPool e) reply t of is st = absurd of
 
 goes_then : (s m t : State) → Goes s m → Goes m t → Goes s t
-goes_then s m t a b st =
-    let first = a st in
-    let second = b first.0 in
-    let nr = first.1.nr in
-    let over = first.1.overcommit in
-    let c = first.1.committed in
-    let d = second.1.committed in (
-      second.0,
-      record { nr = second.1.nr ∙ nr; overcommit = second.1.overcommit ∙ over; committed = omega (arith, nr, over, c, d) },
-    )
+goes_then s m t a b st = grind (arith, common_steps)
 
 goes_same : (s : State) → Goes s s
 goes_same s st = (st, record { nr = refl; overcommit = refl; committed = omega arith })

@@ -1,4 +1,6 @@
 -- A step is refused by the first of its tests that fails; one that fails none is done, where there are pages and memory.
+use Rattle.std.proofs.Common.{arith}
+use Rattle.std.proofs.lemmas.Grind.{common_steps}
 use Rattle.std.specs.List.{range_with_len}
 use Rattle.std.proofs.Common.{◌≡◌, ◌⊎◌, inl, inr, subst, ℕ, ◌+◌, ◌&&◌, ◌||◌, ◌==◌, Bool, true, false, not, None, Option, Some, is_some, Result as ResultOf, Ok, Err, List, [], ◌∷◌}
 use Rattle.std.proofs.Common.{◌++◌, length, refl, sym, ap, ◌∙◌, if◌then◌else◌, nat_le, nat_lt}
@@ -76,8 +78,7 @@ Short o = Fits None o
 
 fits_test : (b : Bool) (r : Refusal) (ts : List (Bool × Refusal)) (p : Plan) → (b ≡ false → Always (Fits (first_failed ts)) p)
     → Always (Fits (if b then Some r else first_failed ts)) (if b then refuse r else p)
-fits_test true r ts p h = refl
-fits_test false r ts p h = h refl
+fits_test b r ts p h = grind (arith, common_steps)
 
 fits_tests : (ts us : List (Bool × Refusal)) (p : Plan) → Always (Fits (first_failed us)) p → Always (Fits (first_failed (ts ++ us))) (unless ts p)
 fits_tests [] us p h = h
@@ -85,21 +86,16 @@ fits_tests (t ∷ ts) us p h = fits_test t.0 t.1 (ts ++ us) (unless ts p) (λ e.
 
 fits_there : {X : Type 0} (o : Option X) (r : Refusal) (g : X → Option Refusal) (f : X → Plan) → ((x : X) → Always (Fits (g x)) (f x))
     → Always (Fits (if_there o r g)) (with_value o r f)
-fits_there None r g f h = refl
-fits_there (Some x) r g f h = h x
+fits_there o r g f h = grind (arith, common_steps)
 
 short_test : (b : Bool) (r : Refusal) (p : Plan) → Short (Refused r) → Always Short p → Always Short (if b then refuse r else p)
-short_test true r p e h = e
-short_test false r p e h = h
+short_test b r p e h = grind (arith, common_steps)
 
 granted_short : (b : Bool) (o : Outcome) → Short o → Short (if b then o else Refused NoPages)
-granted_short true o h = h
-granted_short false o h = refl
+granted_short b o h = grind (arith, common_steps)
 
 grant_short : (c : Choice) (m : Mount) (home k : ℕ) (o : Outcome) → Short o → Always Short (grant c m home k o)
-grant_short c m home k o h =
-    short_test _ MountFull _ refl (short_test c.refused OutOfMemory _ refl
-    (always_if Short (rise m k == 0) (Finish o) (Ask (λ nr. Grant home (rise m k)) (when_granted o)) (λ e. h) (λ e a. granted_short a.granted o h)))
+grant_short c m home k o h = grind (arith, common_steps)
 
 page_short : (c : Choice) (m : Mount) (home : ℕ) (f : ℕ → Outcome) → ((n : ℕ) → Short (f n)) → Always Short (grant_page c m home f)
 page_short c m home f h = short_test _ MountFull _ refl (short_test c.refused OutOfMemory _ refl (λ a. granted_short a.granted (f a.node) (h a.node)))
@@ -111,9 +107,7 @@ gives_short old new = always_gives Short Done old new refl
 
 module _ (c : Choice) (size : ℕ) (m : Mount) (s : Spot) (home i : ℕ) where
   shared_short : (cell : Cell Page) → Always Short (shared_access c size m s home i cell)
-  shared_short (Present page) = refl
-  shared_short Entered = λ a. refl
-  shared_short Hole = page_short c m home _ (λ n. refl)
+  shared_short cell = grind (arith, common_steps)
 
   new_short : (consumed : Bool) → Always Short (new_copy c size m s home i consumed)
   new_short consumed = always_if Short (s.map.owner && not consumed) _ _ (λ e a. refl) (λ e. page_short c m home _ (λ n. refl))
@@ -123,22 +117,16 @@ module _ (c : Choice) (size : ℕ) (m : Mount) (s : Spot) (home i : ℕ) where
   uncopied_short consumed Read = always_if Short (has_page (cell_at s.file i)) _ _ (λ e. refl) (λ e. new_short consumed)
 
   owner_short : (stamp : ℕ) (fresh : ℕ → Outcome) → ((n : ℕ) → Short (fresh n)) → Always Short (owner_write m s home stamp fresh)
-  owner_short stamp fresh h =
-      always_if Short (is_full m 1) (Finish (taken_back m s stamp)) (Ask (λ nr. GrantPage home (rise m 1)) (λ a. if a.granted then fresh a.node else taken_back m s stamp))
-      (λ f. refl) (λ f a. outcome_if Short a.granted (fresh a.node) (taken_back m s stamp) (h a.node) refl)
+  owner_short stamp fresh h = grind (arith, common_steps)
 
   write_short : (consumed : Bool) (copy : Copy) → Always Short (copy_write c m s home i consumed copy)
-  write_short consumed copy =
-      always_if Short (is_held_once s.file copy.stamp) _ _ (λ e. refl)
-      (λ e. always_if Short s.map.owner _ _ (λ o. owner_short copy.stamp _ (λ n. refl)) (λ o. page_short c m home _ (λ n. refl)))
+  write_short consumed copy = grind (arith, common_steps)
 
   marked_fits : (b : Bool) (q : Plan) → Always Short q → Always (Fits (first_failed ((b && true, TakenByOwner) ∷ []))) (if b then refuse TakenByOwner else q)
-  marked_fits true q h = refl
-  marked_fits false q h = h
+  marked_fits b q h = grind (arith, common_steps)
 
   copied_fits : (b : Bool) (q : Plan) → Always Short q → Always (Fits (first_failed ((b && false, TakenByOwner) ∷ []))) q
-  copied_fits true q h = h
-  copied_fits false q h = h
+  copied_fits b q h = grind (arith, common_steps)
 
   private_fits : (p : Place Copy) (intent : Intent) → not (is_live p) ≡ false
       → Always (Fits (first_failed ((s.map.unmapped && not (is_some (copy_of p)), TakenByOwner) ∷ []))) (private_access c size m s home i p intent)
@@ -150,20 +138,16 @@ module _ (c : Choice) (size : ℕ) (m : Mount) (s : Spot) (home i : ℕ) where
   kind_fits : (kind : Sharing) (intent : Intent) → is_unmapped s i ≡ false
       → Always (Fits (first_failed ((not (is_shared kind) && (s.map.unmapped && not (is_some (copy_of (place_at s.map i)))), TakenByOwner) ∷ [])))
       (if is_shared kind then shared_access c size m s home i (cell_at s.file i) else private_access c size m s home i (place_at s.map i) intent)
-  kind_fits Shared intent live = shared_short (cell_at s.file i)
-  kind_fits Private intent live = private_fits (place_at s.map i) intent live
+  kind_fits kind intent live = grind (arith, common_steps)
 
   access_fits : (intent : Intent) → is_unmapped s i ≡ false → Always (Fits (first_failed (cut_off_test i s))) (access c size m s home i intent)
   access_fits intent live = kind_fits s.map.sharing intent live
 
   fault_fits : (intent : Intent) → Always (Fits (first_failed (fault_tests i s ++ cut_off_test i s))) (fault c size m home i intent s)
-  fault_fits intent =
-      fits_test (is_unmapped s i) OutOfRange ((is_beyond s i, BeyondEnd) ∷ cut_off_test i s) _
-      (λ live. fits_tests ((is_beyond s i, BeyondEnd) ∷ []) (cut_off_test i s) (access c size m s home i intent) (access_fits intent live))
+  fault_fits intent = grind (arith, common_steps)
 
   or_not : (a b : Bool) → (a || b) ≡ false → a ≡ false
-  or_not true b e = e
-  or_not false b e = refl
+  or_not a b e = grind (arith, common_steps)
 
   bytes_fit : (offset count : ℕ) (intent : Intent) → Always (Fits (first_failed (byte_tests size i offset count s ++ cut_off_test i s))) (byte_access c size m home i offset count intent s)
   bytes_fit offset count intent =
@@ -173,13 +157,7 @@ module _ (c : Choice) (size : ℕ) (m : Mount) (s : Spot) (home i : ℕ) where
 
   -- what is done after an answer
   after_fits : (x : Option Refusal) (f : Mount → Outcome) → ((n : Mount) → Short (f n)) → ((n : Mount) (r : Refusal) → reply_of (f n) ≡ Err r → ⊥) → (o : Outcome) → Fits x o → Fits x (continued f o)
-  after_fits x f h done (Refused r) fits = fits
-  after_fits x f h done (Answered a None) fits = by_failed x fits
-    where
-      by_failed : (x : Option Refusal) → Fits x (Answered a None) → Fits x (Answered a None)
-      by_failed x fits = fits
-  after_fits None f h done (Answered a (Some n)) fits = h n
-  after_fits (Some r) f h done (Answered a (Some n)) fits = cc
+  after_fits x f h done o fits = grind (arith, common_steps)
 
   load_fits : (offset count : ℕ) → Always (Fits (first_failed (byte_tests size i offset count s ++ cut_off_test i s))) (load c size m home i offset count s)
   load_fits offset count =
@@ -188,10 +166,7 @@ module _ (c : Choice) (size : ℕ) (m : Mount) (s : Spot) (home i : ℕ) where
       always_then (Fits x) (Fits x) f (after_fits x f (λ n. refl) (λ n r e. cc)) (byte_access c size m home i offset count Read s) (bytes_fit offset count Read)
 
   store_fits : (offset : ℕ) (bytes : List ℕ) → Always (Fits (first_failed (byte_tests size i offset (length bytes) s ++ cut_off_test i s))) (store c size m home i offset bytes s)
-  store_fits offset bytes =
-      let x = first_failed (byte_tests size i offset (length bytes) s ++ cut_off_test i s) in
-      let f : Mount → Outcome = λ n. Answered Done (Some (written n s i offset bytes)) in
-      always_then (Fits x) (Fits x) f (after_fits x f (λ n. refl) (λ n r e. cc)) (byte_access c size m home i offset (length bytes) Write s) (bytes_fit offset (length bytes) Write)
+  store_fits offset bytes = grind (arith, common_steps)
 
 -- ---- events
 
@@ -203,8 +178,7 @@ module _ (size k : ℕ) (c : Choice) where
   fits_tested ts p h = fits_tests ts [] p h
 
   of_umount : (old : Slot) → Decides old (step.Umount k) slot.Umount
-  of_umount None = refl
-  of_umount (Some m) = fits_tested (umount_tests k m) (gives Done (Some m) None) (gives_short (Some m) None)
+  of_umount old = grind (arith, common_steps)
 
   of_create : (old : Slot) (name : List ℕ) → Decides old (step.Create k name) (slot.Create name)
   of_create None name = refl
@@ -215,14 +189,10 @@ module _ (size k : ℕ) (c : Choice) where
       (short_test c.refused OutOfMemory done refl refl)
 
   of_unlink : (old : Slot) (name : List ℕ) → Decides old (step.Unlink k name) (slot.Unlink name)
-  of_unlink None name = refl
-  of_unlink (Some m) name = fits_there (file_named m name) NoSuchFile (λ f. None) (unlink m) (λ f. gives_short (Some m) (edited m f.0 (unlinked f.1)))
+  of_unlink old name = grind (arith, common_steps)
 
   of_truncate : (old : Slot) (name : List ℕ) (n : ℕ) → Decides old (step.Truncate k name n) (slot.Truncate name n)
-  of_truncate None name n = refl
-  of_truncate (Some m) name n =
-      let ts : List (Bool × Refusal) = (nat_lt most_file_pages n, OutOfRange) ∷ [] in
-      fits_there (file_named m name) NoSuchFile (λ f. first_failed ts) (truncate m n) (λ f. fits_tested ts _ (gives_short (Some m) (edited m f.0 (truncated n f.1))))
+  of_truncate old name n = grind (arith, common_steps)
 
   of_punch : (old : Slot) (name : List ℕ) (a b : ℕ) → Decides old (step.Punch k name a b) (slot.Punch name a b)
   of_punch None name a b = refl
@@ -238,22 +208,16 @@ module _ (size k : ℕ) (c : Choice) where
       (λ e. short_test _ MountFull _ refl (short_test c.refused OutOfMemory _ refl (λ answer. granted_short answer.granted _ refl)))))
 
   of_read : (old : Slot) (name : List ℕ) (i offset count : ℕ) → Decides old (step.Read k name i offset count) (slot.Read name i offset count)
-  of_read None name i offset count = refl
-  of_read (Some m) name i offset count =
-      fits_there (file_named m name) NoSuchFile (λ f. first_failed (read_tests size i offset count f.1)) (read size m i offset count)
-      (λ f. fits_tested (read_tests size i offset count f.1) _ refl)
+  of_read old name i offset count = grind (arith, common_steps)
 
   of_ls : (old : Slot) → Decides old (step.Ls k) slot.Ls
-  of_ls None = refl
-  of_ls (Some m) = short_test c.refused OutOfMemory _ refl refl
+  of_ls old = grind (arith, common_steps)
 
   of_stat : (old : Slot) (name : List ℕ) → Decides old (step.Stat k name) (slot.Stat name)
-  of_stat None name = refl
-  of_stat (Some m) name = fits_there (file_named m name) NoSuchFile (λ f. None) (stat m) (λ f. refl)
+  of_stat old name = grind (arith, common_steps)
 
   of_df : (old : Slot) → Decides old (step.Df k) slot.Df
-  of_df None = refl
-  of_df (Some m) = refl
+  of_df old = grind (arith, common_steps)
 
   of_map : (old : Slot) (task home : ℕ) (name : List ℕ) (a n : ℕ) (sharing : Sharing) (reserving : Reserving)
       → Decides old (step.Map task k name a n sharing reserving) (slot.Map task home name a n sharing reserving)
@@ -300,8 +264,7 @@ table_meets (x ∷ ts) old after = by_test x.0 (table_meets ts old after)
   where
     by_test : (b : Bool) → IsRefusedBy (first_failed ts) (or_refused ts old (Ok Done, after)).0
         → IsRefusedBy (if b then Some x.1 else first_failed ts) (if◌then◌else◌ {A = Reply × Table} b (Err x.1, old) (or_refused ts old (Ok Done, after))).0
-    by_test true rest = refl
-    by_test false rest = rest
+    by_test b rest = grind (arith, common_steps)
 
 module _ (s : State) (reply : Reply) (t : State) where
   slot_meets : (k : ℕ) (x : Step) (e : SlotEvent) → ((c : Choice) → Decides s.page_size k c (slot_at s k) x e) → IsScript s (on_slot (length s.slots) k e) reply t → IsRefusedBy (failed_at s k x) reply
@@ -316,26 +279,14 @@ module _ (s : State) (reply : Reply) (t : State) where
 
   task_meets : (task : ℕ) (x : Option Refusal) (next : ℕ → Script) → ((home : ℕ) → IsScript s (next home) reply t → IsRefusedBy x reply) → IsScript s (finding task next) reply t
       → IsRefusedBy (if_there (home_of s.table task) NoSuchTask (λ home. x)) reply
-  task_meets task x next h is = by_home (home_of s.table task) is.0 is.1 is.2.2 is.3
-    where
-      by_home : (o : Option ℕ) (r : Reply) (mid : State) → with_table s (when_known s.table o (λ home. (Ok (Home home), s.table))) ≡ (r, mid) → IsScript mid (home_in r next) reply t
-          → IsRefusedBy (if_there o NoSuchTask (λ home. x)) reply
-      by_home None r mid e go = (let first = ap (λ (q : Reply × State). q.0) e in (subst (λ y. IsScript mid (home_in y next) reply t) (sym first) go).0)
-      by_home (Some home) r mid e go =
-          let first = ap (λ (q : Reply × State). q.0) e in
-          let second : s ≡ mid = ap (λ (q : Reply × State). q.1) e in
-          h home (subst (λ y. IsScript y (next home) reply t) (sym second) (subst (λ y. IsScript mid (home_in y next) reply t) (sym first) go))
+  task_meets task x next h is = grind (arith, common_steps)
 
   access_meets : (task k : ℕ) (x : Step) (e : ℕ → SlotEvent) → ((home : ℕ) (c : Choice) → Decides s.page_size k c (slot_at s k) x (e home))
       → IsScript s (finding task (λ home. on_slot (length s.slots) k (e home))) reply t → IsRefusedBy (failed_by s task k x) reply
   access_meets task k x e all is = task_meets task (failed_at s k x) (λ home. on_slot (length s.slots) k (e home)) (λ home it. slot_meets k x (e home) (all home) it) is
 
   attach_meets : (task : ℕ) → IsEvent s (Tasks (table.Find task)) reply t → IsRefusedBy (failed s (step.Attach task)) reply
-  attach_meets task is = by_home (home_of s.table task) (ap (λ (q : Reply × State). q.0) is.2)
-    where
-      by_home : (o : Option ℕ) → (when_known s.table o (λ home. (Ok (Home home), s.table))).0 ≡ reply → IsRefusedBy (if_there o NoSuchTask (λ home. None)) reply
-      by_home None e = sym e
-      by_home (Some home) e = subst (λ r. is_short r ≡ true) e refl
+  attach_meets task is = grind (arith, common_steps)
 
   abbrev ks : List ℕ
   ks = range_with_len 0 (length s.slots)
@@ -359,17 +310,14 @@ module _ (s : State) (reply : Reply) (t : State) where
   pool_meets e r same is = sym (ap (λ (q : Reply × State). q.0) is.2) ∙ same
 
   overcommit_meets : (n : ℕ) (b : Bool) (p q : Pool) → IsRefusedBy (if not b then Some OutOfRange else None) (if◌then◌else◌ {A = Reply × Pool} b (Ok Done, p) (Err OutOfRange, q)).0
-  overcommit_meets n true p q = refl
-  overcommit_meets n false p q = refl
+  overcommit_meets n b p q = grind (arith, common_steps)
 
   remount_meets : (k : ℕ) (options : List ℕ) → IsScripted s (step.Remount k options) reply t → IsRefusedBy (failed s (step.Remount k options)) reply
   remount_meets k options is = by_test (nat_lt k (length s.slots)) refl is
     where
       by_limits : (m : Mount) (first : Bool) (a : PoolAnswer) (l : ResultOf Limits Refusal)
           → IsRefusedBy (if first then Some SlotTaken else refused_limits l) (reply_of (if first then Refused SlotTaken else remount_outcome m a l))
-      by_limits m true a l = refl
-      by_limits m false a (Err r) = refl
-      by_limits m false a (Ok l) = granted_short a.granted (Answered Done (Some (record m { limits = l }))) refl
+      by_limits m first a l = grind (arith, common_steps)
 
       by_slot : (old : Slot) → slot_at s k ≡ old → IsEvent s (OnSlot k (slot.Remount options)) reply t
           → IsRefusedBy (if_there old NoSuchSlot (λ m. failed_remount k (limits s.nr s.page_size (wanted_of options)))) reply
@@ -392,19 +340,10 @@ module _ (s : State) (reply : Reply) (t : State) where
   mount_meets k options is = by_test (nat_lt k (length s.slots)) is
     where
       by_limits : (c : Choice) (a : PoolAnswer) (l : ResultOf Limits Refusal) → IsRefusedBy (refused_limits l) (reply_of (mount_outcome c a l))
-      by_limits c a (Err r) = refl
-      by_limits c a (Ok l) = by_tests c.refused a.granted c.after_grant
-        where
-          by_tests : (refused granted late : Bool) → Short (if refused then Refused OutOfMemory else if not granted then Refused NoPages
-              else if late then Refused OutOfMemory else Answered Done (Some (record { limits = l; files = [] })))
-          by_tests true granted late = refl
-          by_tests false false late = refl
-          by_tests false true true = refl
-          by_tests false true false = refl
+      by_limits c a l = grind (arith, common_steps)
 
       settled_reply : (u : State) (o : Outcome) → (with_outcome u k o).0 ≡ reply_of o
-      settled_reply u (Refused r) = refl
-      settled_reply u (Answered a new) = refl
+      settled_reply u o = grind (arith, common_steps)
 
       by_slot : (c : Choice) (old : Slot) → planned s k (slot_event s.page_size k c old (slot.Mount options)) ≡ (reply, t)
           → IsRefusedBy (failed_mount old (limits s.nr s.page_size (wanted_of options))) reply
@@ -433,11 +372,7 @@ module _ (s : State) (reply : Reply) (t : State) where
   ForkedTo (Answered a new) = Unit {0}
 
   fork_event : (parent child : ℕ) (size k : ℕ) (c : Choice) (m : Mount) → Always ForkedTo (slot_event size k c (Some m) (slot.ForkMaps parent child))
-  fork_event parent child size k c m =
-      cond_both (nat_lt most_maps (length (maps_of (forked parent child m))) || nat_lt most_tasks (length (tasks_of (forked parent child m)))) (refuse TooMany)
-      (if c.refused then refuse OutOfMemory else gives Done (Some m) (Some (forked parent child m))) (Always ForkedTo) (λ e. inr refl)
-      (λ e. cond_both c.refused (refuse OutOfMemory) (gives Done (Some m) (Some (forked parent child m))) (Always ForkedTo) (λ e. inl refl)
-      (λ e. always_gives ForkedTo Done (Some m) (Some (forked parent child m)) tt))
+  fork_event parent child size k c m = grind (arith, common_steps)
 
   undone_meets : (done : List ℕ) (child : ℕ) (r : Refusal) → Forked (Err r) → (u : State) → IsScript u (undone done child r) reply t → Forked reply
   undone_meets done child r h u is = exits_lead reply t (Forked reply) child done _ (λ v it. subst Forked (sym it.3.0) h) u is
@@ -450,15 +385,10 @@ module _ (s : State) (reply : Reply) (t : State) where
       (λ none it. slots_meet parent child ks done u it) is
     where
       by_outcome : (o : Outcome) (r : Reply) → ForkedTo o → r ≡ reply_of o → Forked r
-      by_outcome (Refused x) r h e = subst Forked (sym e) h
-      by_outcome (Answered a new) r h e = inl (ap is_short e)
+      by_outcome o r h e = grind (arith, common_steps)
 
       by_slot : (old : Slot) → slot_at u k ≡ old → has_maps_of parent old ≡ true → (r : Reply) (v : State) → IsEvent u (OnSlot k (slot.ForkMaps parent child)) r v → Forked r
-      by_slot None there has r v is = cc
-      by_slot (Some m) there has r v is =
-          let ends = event_ends ForkedTo u k (slot.ForkMaps parent child) r v
-          (λ c. subst (λ x. Always ForkedTo (slot_event u.page_size k c x (slot.ForkMaps parent child))) (sym there) (fork_event parent child u.page_size k c m)) is in
-          by_outcome ends.outcome r ends.holds ends.replied
+      by_slot old there has r v is = grind (arith, common_steps)
 
       by_reply : (r : Reply) (mid : State) → Forked r → (IsScript mid (fork_slots ks (done ++ k ∷ []) parent child) reply t → Forked reply)
           → IsScript mid (or_undone done child r (fork_slots ks (done ++ k ∷ []) parent child)) reply t → Forked reply

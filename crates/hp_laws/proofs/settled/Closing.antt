@@ -1,4 +1,5 @@
 -- What takes away leaves less to take.
+use Rattle.std.proofs.lemmas.Grind.{common_steps}
 use Rattle.std.proofs.Common.{◌≡◌, ℕ, zero, suc, ◌+◌, ◌-◌, ◌*◌, ◌<◌, ◌≤◌, Bool, true, false, not, ◌||◌, ◌==◌, None, Some}
 use Rattle.std.proofs.Common.{Ok, Err, Option, List, [], ◌∷◌, length, map, cond, arith, refl, sym, ap, ◌∙◌, subst, nat_le}
 use Rattle.std.specs.Prelude.{is_some}
@@ -57,9 +58,7 @@ one_more t task home e = record { enough = (let l = leb-false most_tasks (length
 
 -- the last of the tests is that there is room
 adds : (t : Table) (task home : ℕ) → length t ≤ most_tasks → Keeps t false (or_refused ((is_known t task, TaskExists) ∷ (is_crowded t, TooMany) ∷ []) t (Ok Done, added t task home))
-adds t task home few =
-    cond_both (is_known t task) (Err TaskExists, t) (or_refused ((is_crowded t, TooMany) ∷ []) t (Ok Done, added t task home)) (Keeps t false) (λ e. same_table t (Err TaskExists) few)
-    (λ e. cond_both (is_crowded t) (Err TooMany, t) (Ok Done, added t task home) (Keeps t false) (λ e. same_table t (Err TooMany) few) (one_more t task home))
+adds t task home few = grind (arith, common_steps)
 
 no_longer : {X : Type 0} (p : X → Bool) (xs : List X) → length (filter p xs) ≤ length xs
 no_longer p [] = omega arith
@@ -101,16 +100,13 @@ table_places nodes t (Remove task) few = at (home_of t task) refl
 -- ---- a slot
 
 few_of : (s : Slot) → to_exit s ≤ most_tasks → FewSlot s
-few_of None l = tt
-few_of (Some m) l = l
+few_of s l = grind (arith, common_steps)
 
 enough_of : (s : Slot) → FewSlot s → to_exit s ≤ most_tasks
-enough_of None f = omega arith
-enough_of (Some m) f = f
+enough_of s f = grind (arith, common_steps)
 
 or_else : (a b c : Bool) → (b ≡ true → c ≡ true) → (a || b) ≡ true → (a || c) ≡ true
-or_else true b c h e = refl
-or_else false b c h e = h e
+or_else a b c h e = grind (arith, common_steps)
 
 in_distinct : (q : ℕ) (xs : List ℕ) → is_among q xs ≡ true → is_among q (distinct xs) ≡ true
 in_distinct q [] e = e
@@ -168,8 +164,7 @@ long (u ∷ us) [] = refl
 long (u ∷ us) (p ∷ ps) = ap suc (long us ps)
 
 nothing : (n : ℕ) → ◌≡◌ {A = ℕ} (slice_index_or [] n 0) 0
-nothing zero = refl
-nothing (suc n) = refl
+nothing n = grind (arith, common_steps)
 
 abbrev Within : List ℕ → List ℕ → Type 0
 Within ps us = (n : ℕ) → slice_index_or ps n 0 ≤ slice_index_or us n 0

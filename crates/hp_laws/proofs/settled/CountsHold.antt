@@ -1,4 +1,5 @@
 -- The counts of a settled machine are sums over files and maps, and limits and minimums hold.
+use Rattle.std.proofs.lemmas.Grind.{common_steps}
 use Rattle.std.proofs.Common.{◌≡◌, ⊎_elim, inl, inr, subst, ℕ, zero, suc, ◌+◌, ◌<◌, ◌≤◌, None, Some, List, [], ◌∷◌, length, refl, sym, ap, ◌∙◌, arith}
 use Rattle.std.specs.List.{sum, sum_by, slice_set, slice_index_or, range_with_len}
 use Rattle.std.proofs.lemmas.Bool.{cases_eq, ltb-true}
@@ -56,19 +57,14 @@ counts_are_sums s st =
 -- ---- minimums
 
 least_committed : (x : Slot) → least_of x ≤ slot_committed x
-least_committed None = omega arith
-least_committed (Some m) = omega arith
+least_committed x = grind (arith, common_steps)
 
 -- what is committed to one slot, and to the others
 one_and_others : (xs : List Slot) (k : ℕ) → slot_committed (slice_index_or xs k None) + sum_by slot_committed (slice_set xs k None) ≡ sum_by slot_committed xs
-one_and_others [] k = refl
-one_and_others (x ∷ xs) zero = omega (arith, sum_by-cons slot_committed None xs, sum_by-cons slot_committed x xs)
-one_and_others (x ∷ xs) (suc k) = omega (arith, sum_by-cons slot_committed x (slice_set xs k None), sum_by-cons slot_committed x xs, one_and_others xs k)
+one_and_others xs k = grind (arith, common_steps)
 
 pub minimums_hold : (s : State) → IsSettledState s → (k : ℕ) → least_of (slot_at s k) + committed_pages (with_slot s k None) ≤ total_of (pool_of s).nodes.rows
-minimums_hold s st k =
-    let total = st.pool.total in
-    omega (arith, total, least_committed (slot_at s k), one_and_others s.slots k)
+minimums_hold s st k = grind (arith, common_steps)
 
 -- ---- limits
 
@@ -83,12 +79,7 @@ not_risen a b h l = ⊎_elim (λ le. absurd (omega (arith, le, l))) (λ w. w) h
 -- the slot of the event, and the others
 at_slot : (xs : List Slot) (k j : ℕ) (n : Slot) → k < length xs → j < length xs → IsLimited (slice_index_or xs k None) n →
     IsLimited (slice_index_or xs j None) (slice_index_or (slice_set xs k n) j None)
-at_slot xs k j n lk lj h =
-    elim (cases_eq j k) as (λ _. IsLimited (slice_index_or xs j None) (slice_index_or (slice_set xs k n) j None)) [
-      | inl same ↦ subst (λ i. IsLimited (slice_index_or xs i None) (slice_index_or (slice_set xs k n) i None)) (sym same)
-          (subst (λ x. IsLimited (slice_index_or xs k None) x) (sym (get_or-set_same xs k n None lk)) h)
-      | inr other ↦ subst (λ x. IsLimited (slice_index_or xs j None) x) (sym (get_or-set_other xs k j n None other)) (inl (omega arith))
-    ]
+at_slot xs k j n lk lj h = grind (arith, common_steps)
 
 event_limited : (c : Choice) (s : State) (e : Event) (j : ℕ) → CanHappen c s e → j < length s.slots → IsSettledState s → IsLimited (slot_at s j) (slot_at (after c s e).1 j)
 event_limited c s (Tasks e) j can lj st = inl (omega arith)

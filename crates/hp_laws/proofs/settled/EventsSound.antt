@@ -1,4 +1,5 @@
 -- Each event on a slot leaves it sound, whatever fresh stamp is chosen.
+use Rattle.std.proofs.lemmas.Grind.{common_steps}
 use Rattle.std.proofs.Common.{◌≡◌, ℕ, ◌+◌, ◌-◌, ◌<◌, ◌≤◌, ◌&&◌, ◌||◌, ◌==◌, Bool, true, false, not, Option, None, Some, is_some}
 use Rattle.std.proofs.Common.{List, [], ◌∷◌, ◌++◌, length, map, set, arith, refl, sym, ap, ◌∙◌, subst, nat_lt, if◌then◌else◌}
 use Rattle.std.specs.List.{count_by, flat_map, list_any}
@@ -97,8 +98,7 @@ new_name m name other unused one =
 -- ---- accesses
 
 live_consumed : (b : Bool) (copy : Copy) → is_unconsumed (Live b (Some copy)) ≡ false → b ≡ true
-live_consumed true copy e = refl
-live_consumed false copy e = cc
+live_consumed b copy e = grind (arith, common_steps)
 
 module _ (m : Mount) (sound : IsSoundMount m) (s : Spot) (at : IsSpot m s) where
   -- other cells
@@ -112,8 +112,7 @@ module _ (m : Mount) (sound : IsSoundMount m) (s : Spot) (at : IsSpot m s) where
   Left Write i n = IsSoundMount n × (is_shared s.map.sharing ≡ false → IsSole n s.file_no s.map_no i)
 
   left : (intent : Intent) (i : ℕ) (n : Mount) → IsSoundMount n → (is_shared s.map.sharing ≡ false → IsSole n s.file_no s.map_no i) → Left intent i n
-  left Read i n h sole = h
-  left Write i n h sole = (h, sole)
+  left intent i n h sole = grind (arith, common_steps)
 
   module _ (c : Choice) (new : is_among c.stamp (flat_map stamps_of m.files) ≡ false) (size home i : ℕ) (below : i < length s.file.cells) where
     -- no place holds the stamp that is chosen
@@ -150,8 +149,7 @@ module _ (m : Mount) (sound : IsSoundMount m) (s : Spot) (at : IsSpot m s) where
 
       -- an owner that asks for a grant has consumed
       owner_consumed : (consumed : Bool) → (s.map.owner && not consumed) ≡ false → s.map.owner ≡ true → consumed ≡ true
-      owner_consumed true e own = refl
-      owner_consumed false e own = (let is = ap (λ b. b && true) (sym own) ∙ e in cc)
+      owner_consumed consumed e own = grind (arith, common_steps)
 
       new_sound_copy : (intent : Intent) (consumed : Bool) → place_at s.map i ≡ Live consumed None → Always (On (Left intent i)) (new_copy c size m s home i consumed)
       new_sound_copy intent consumed is =
@@ -260,8 +258,7 @@ module _ (n : Mount) (sound : IsSoundMount n) (s : Spot) (i offset : ℕ) (bytes
 -- ---- the events of a mount
 
 read_left : (m : Mount) (sound : IsSoundMount m) (s : Spot) (at : IsSpot m s) (i : ℕ) (intent : Intent) (n : Mount) → Left m sound s at intent i n → IsSoundMount n
-read_left m sound s at i Read n h = h
-read_left m sound s at i Write n h = h.0
+read_left m sound s at i intent n h = grind (arith, common_steps)
 
 pub empty_sound : (l : Limits) → IsSoundMount (record { limits = l; files = [] })
 empty_sound l = record { files = λ k d l. absurd (omega (arith, l)); stamps = λ stamp. omega arith; numbers = λ task number. omega arith; names = λ name. omega arith }
@@ -329,9 +326,7 @@ module _ (size k : ℕ) (c : Choice) (m : Mount) (sound : IsSoundMount m) (new :
 -- ---- a slot
 
 left_good : (m : Mount) → IsSoundMount m → (o : Outcome) → On IsSoundMount o → IsSound (left_by (Some m) o)
-left_good m sound (Refused r) on = sound
-left_good m sound (Answered a None) on = tt
-left_good m sound (Answered a (Some n)) on = on
+left_good m sound o on = grind (arith, common_steps)
 
 abbrev GoesOn : Slot → Outcome → Type 0
 GoesOn old o = IsSound (left_by old o)

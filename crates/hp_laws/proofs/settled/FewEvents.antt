@@ -1,4 +1,5 @@
 -- How many events a step is told by.
+use Rattle.std.proofs.lemmas.Grind.{common_steps}
 use Rattle.std.proofs.Common.{◌≡◌, inl, inr, ℕ, zero, suc, ◌+◌, ◌*◌, ◌<◌, ◌≤◌, Ok, Err, List, [], ◌∷◌, ◌++◌, length, arith, subst, nat_lt}
 use Rattle.std.specs.List.{range_with_len}
 use Rattle.std.proofs.lemmas.Bool.{cond_both}
@@ -57,17 +58,7 @@ slot_one : (slots k : ℕ) (e : SlotEvent) → AtMost 1 (on_slot slots k e)
 slot_one slots k e = cond_both (nat_lt k slots) (only (OnSlot k e)) (Answer_with (Err NoSuchSlot)) (AtMost 1) (λ t r. tt) (λ t. tt)
 
 finding_two : (slots k : ℕ) (f : ℕ → SlotEvent) (r : Reply) → AtMost 1 (home_in r (λ home. on_slot slots k (f home)))
-finding_two slots k f (Ok (answer.Home home)) = slot_one slots k (f home)
-finding_two slots k f (Ok answer.Done) = tt
-finding_two slots k f (Ok (answer.MapNo n)) = tt
-finding_two slots k f (Ok (answer.Number n)) = tt
-finding_two slots k f (Ok (answer.Bytes count bytes)) = tt
-finding_two slots k f (Ok (answer.Stat a b c d)) = tt
-finding_two slots k f (Ok (answer.Usage a b c d e)) = tt
-finding_two slots k f (Ok (answer.Names names)) = tt
-finding_two slots k f (Ok (answer.Numbers counts)) = tt
-finding_two slots k f (Ok (answer.PerNode n rows)) = tt
-finding_two slots k f (Err r) = tt
+finding_two slots k f r = grind (arith, common_steps)
 
 exits : (ks : List ℕ) (task n : ℕ) (next : Script) → AtMost n next → AtMost (length ks + n) (exit_slots ks task next)
 exits [] task n next all = subst (λ m. AtMost m next) (omega arith) all

@@ -1,4 +1,5 @@
 -- The machine starts settled, and stays so.
+use Rattle.std.proofs.lemmas.Grind.{common_steps}
 use Rattle.std.proofs.Common.{◌≡◌, replicate, subst, ℕ, zero, suc, ◌+◌, ◌-◌, ◌<◌, ◌≤◌, None, Some, Ok, Err, List, [], ◌∷◌, length, map, refl, sym, ap, ◌∙◌, arith, nat_le}
 use Rattle.std.specs.List.{sum_by, range_with_len, All}
 use Rattle.std.proofs.lemmas.Bool.{ltb-true, cond_both}
@@ -41,8 +42,7 @@ start_slots : (n : ℕ) → All IsSound (slots_from n)
 start_slots n = All-cons IsSound (Some open_mount) (replicate (n - 1) None) (empty_sound open_mount.limits) (All-replicate IsSound (n - 1) None tt)
 
 none_sum : (g : Slot → ℕ) → g None ≡ 0 → (n : ℕ) → sum_by g (replicate n None) ≡ 0
-none_sum g e zero = refl
-none_sum g e (suc n) = omega (arith, sum_by-cons g None (replicate n None), e, none_sum g e n)
+none_sum g e n = grind (arith, common_steps)
 
 abbrev idle_rows : State → ℕ → List ℕ → List NodeRow
 idle_rows s a frames = rows_of s a (map idle_node frames)

@@ -1,4 +1,5 @@
 -- A write into a copy that other maps hold too: a copy of its own, or the owner takes the copy back.
+use Rattle.std.proofs.lemmas.Grind.{common_steps}
 use Rattle.std.proofs.Common.{◌≡◌, ⊎_elim, inl, inr, ◌⊎◌, subst, ℕ, ◌-◌, ◌<◌, Bool, true, false, ◌&&◌, ◌||◌, ◌==◌}
 use Rattle.std.proofs.Common.{not, None, Some, List, [], ◌∷◌, length, map, refl, sym, ap, ◌∙◌, cond, arith, if◌then◌else◌}
 use Rattle.std.specs.List.{list_any, slice_index_or, count_by}
@@ -24,8 +25,7 @@ use Rattle.hp_laws.proofs.lists.Places.{any_two, any_unset, any_set_up, any_set_
 use Rattle.hp_laws.proofs.lists.AtMostOne.{bit}
 
 the_other : (a b c : Bool) → c ≡ (a || b) → (a ≡ true → b ≡ true) → b ≡ c
-the_other true b c e h = h refl ∙ sym e
-the_other false b c e h = sym e
+the_other a b c e h = grind (arith, common_steps)
 
 module _ (f : File) (k : ℕ) (m : Map) (i : ℕ) (c : Bool) (old new : Copy) (here : IsMapAt f k m) (is : place_at m i ≡ Live c (Some old)) where
   abbrev rest : File
@@ -86,9 +86,7 @@ module _ (f : File) (k : ℕ) (m : Map) (i : ℕ) (c : Bool) (old new : Copy) (h
 -- ---- the owner takes the copy back
 
 dropped_down : (t : ℕ → ℕ → Bool) (b : Bool) (p : Place Copy) → place_has t (if b then without_copy p else p) ≡ true → place_has t p ≡ true
-dropped_down t true Gone e = e
-dropped_down t true (Live c o) e = cc
-dropped_down t false p e = e
+dropped_down t b p e = grind (arith, common_steps)
 
 robbed_if : (t : ℕ → ℕ → Bool) (stamp : ℕ) (b : Bool) (m : Map) → map_has t (if b then record m { unmapped = true; places = map (drop_stamp stamp) m.places } else m) ≡ true → map_has t m ≡ true
 robbed_if t stamp true m e = any_map_down (place_has t) (place_has t) (drop_stamp stamp) (λ p. dropped_down t (holds stamp p) p) m.places e
@@ -106,14 +104,10 @@ only stamp t s n = t s n && (s == stamp)
 
 kept_if : (q : ℕ → ℕ → Bool) (c : Bool) (copy : Copy) (b : Bool) → (b ≡ true → q copy.stamp copy.page.node ≡ false) →
     q copy.stamp copy.page.node ≡ true → place_has q (if b then Live c None else Live c (Some copy)) ≡ true
-kept_if q c copy true h e = absurd (both_ways (q copy.stamp copy.page.node) (h refl) e)
-kept_if q c copy false h e = e
+kept_if q c copy b h e = grind (arith, common_steps)
 
 kept_place : (t : ℕ → ℕ → Bool) (stamp : ℕ) (p : Place Copy) → place_has (but stamp t) p ≡ true → place_has (but stamp t) (drop_stamp stamp p) ≡ true
-kept_place t stamp Gone e = e
-kept_place t stamp (Live c None) e = e
-kept_place t stamp (Live c (Some copy)) e =
-    kept_if (but stamp t) c copy (copy.stamp == stamp) (λ is. and_right (t copy.stamp copy.page.node) (not (copy.stamp == stamp)) (ap not is)) e
+kept_place t stamp p e = grind (arith, common_steps)
 
 kept_map : (t : ℕ → ℕ → Bool) (stamp : ℕ) (b : Bool) (m : Map) → map_has (but stamp t) m ≡ true
     → map_has (but stamp t) (if b then record m { unmapped = true; places = map (drop_stamp stamp) m.places } else m) ≡ true
@@ -125,14 +119,10 @@ robbed_keeps t stamp m e = kept_map t stamp (list_any (holds stamp) m.places) m 
 
 -- either the stamp or another passes
 which_stamp : (a b : Bool) → a ≡ true → ((a && not b) ≡ true) ⊎ ((a && b) ≡ true)
-which_stamp true true e = inr refl
-which_stamp true false e = inl refl
-which_stamp false b e = cc
+which_stamp a b e = grind (arith, common_steps)
 
 which_place : (t : ℕ → ℕ → Bool) (stamp : ℕ) (p : Place Copy) → place_has t p ≡ true → (place_has (but stamp t) p ≡ true) ⊎ (place_has (only stamp t) p ≡ true)
-which_place t stamp Gone e = inl e
-which_place t stamp (Live c None) e = inl e
-which_place t stamp (Live c (Some copy)) e = which_stamp (t copy.stamp copy.page.node) (copy.stamp == stamp) e
+which_place t stamp p e = grind (arith, common_steps)
 
 which : (t : ℕ → ℕ → Bool) (stamp : ℕ) (f : File) → file_has t f ≡ true → (file_has (but stamp t) f ≡ true) ⊎ (file_has (only stamp t) f ≡ true)
 which t stamp f e =
@@ -147,14 +137,7 @@ pub record Holds (t : ℕ → ℕ → Bool) (has : (ℕ → ℕ → Bool) → Bo
   pub held : has (is_stamp_at node stamp) ≡ true
 
 place_some : (t : ℕ → ℕ → Bool) (p : Place Copy) → place_has t p ≡ true → Holds t (λ u. place_has u p)
-place_some t Gone e = cc
-place_some t (Live c None) e = cc
-place_some t (Live c (Some copy)) e = record {
-  stamp = copy.stamp;
-  node = copy.page.node;
-  passes = e;
-  held = and_from (copy.page.node == copy.page.node) (copy.stamp == copy.stamp) (eq-eqb copy.page.node copy.page.node refl) (eq-eqb copy.stamp copy.stamp refl);
-}
+place_some t p e = grind (arith, common_steps)
 
 any_some : {X : Type 0} (t : ℕ → ℕ → Bool) (has : (ℕ → ℕ → Bool) → X → Bool) → ((x : X) → has t x ≡ true → Holds t (λ u. has u x)) → (xs : List X) →
     list_any (has t) xs ≡ true → Holds t (λ u. list_any (has u) xs)
@@ -168,20 +151,13 @@ pub some_copy : (t : ℕ → ℕ → Bool) (f : File) → file_has t f ≡ true 
 some_copy t f e = any_some t map_has (λ m. any_some t place_has (place_some t) m.places) f.maps e
 
 same_bool : (a b : Bool) → (a ≡ true → b ≡ true) → (b ≡ true → a ≡ true) → a ≡ b
-same_bool true b f g = sym (f refl)
-same_bool false true f g = g refl
-same_bool false false f g = refl
+same_bool a b f g = grind (arith, common_steps)
 
 unconsumed_if : (b : Bool) (p : Place Copy) → is_unconsumed (if b then without_copy p else p) ≡ is_unconsumed p
-unconsumed_if true Gone = refl
-unconsumed_if true (Live true o) = refl
-unconsumed_if true (Live false o) = refl
-unconsumed_if false p = refl
+unconsumed_if b p = grind (arith, common_steps)
 
 robbed_reserves : (stamp : ℕ) (b : Bool) (m : Map) → owner_reserves (if b then record m { unmapped = true; places = map (drop_stamp stamp) m.places } else m) ≡ owner_reserves m
-robbed_reserves stamp true m =
-    ap (λ n. cond m.owner n 0) (sum_by-map_same (λ (p : Place Copy). cond (is_unconsumed p) 1 0) (drop_stamp stamp) (λ p. ap bit (unconsumed_if (holds stamp p) p)) m.places)
-robbed_reserves stamp false m = refl
+robbed_reserves stamp b m = grind (arith, common_steps)
 
 module _ (f : File) (k : ℕ) (m : Map) (i : ℕ) (c : Bool) (copy : Copy) (here : IsMapAt f k m) (is : place_at m i ≡ Live c (Some copy)) where
   abbrev left : List Map
@@ -242,20 +218,13 @@ module _ (f : File) (k : ℕ) (m : Map) (i : ℕ) (c : Bool) (copy : Copy) (here
 
 cell_same : (offset : ℕ) (bytes : List ℕ) (test : Cell Page → Bool) → ((p q : Page) → p.node ≡ q.node → test (Present p) ≡ test (Present q)) →
     (x : Cell Page) → bit (test (cell_written offset bytes x)) ≡ bit (test x)
-cell_same offset bytes test h Hole = refl
-cell_same offset bytes test h Entered = refl
-cell_same offset bytes test h (Present page) = ap bit (h (overwritten offset bytes page) page refl)
+cell_same offset bytes test h q = grind (arith, common_steps)
 
 place_same : (t : ℕ → ℕ → Bool) (offset : ℕ) (bytes : List ℕ) (p : Place Copy) → place_has t (place_written offset bytes p) ≡ place_has t p
-place_same t offset bytes Gone = refl
-place_same t offset bytes (Live c None) = refl
-place_same t offset bytes (Live c (Some copy)) = refl
+place_same t offset bytes p = grind (arith, common_steps)
 
 place_owes : (offset : ℕ) (bytes : List ℕ) (p : Place Copy) → bit (is_unconsumed (place_written offset bytes p)) ≡ bit (is_unconsumed p)
-place_owes offset bytes Gone = refl
-place_owes offset bytes (Live c None) = refl
-place_owes offset bytes (Live true (Some copy)) = refl
-place_owes offset bytes (Live false (Some copy)) = refl
+place_owes offset bytes p = grind (arith, common_steps)
 
 map_owes : (i offset : ℕ) (bytes : List ℕ) (m : Map) → owner_reserves (map_written i offset bytes m) ≡ owner_reserves m
 map_owes i offset bytes m =

@@ -1,4 +1,5 @@
 -- A refused event leaves everything as it was.
+use Rattle.std.proofs.lemmas.Grind.{common_steps}
 use Rattle.std.proofs.Common.{◌≡◌, subst, ℕ, ◌+◌, ◌-◌, Bool, true, false, Option, None, Some, Result, Ok, Err, List, [], ◌∷◌, length, refl, sym, ap, ◌∙◌, arith, if◌then◌else◌, nat_le, nat_lt}
 use Rattle.std.specs.Bool.{MatchBool}
 use Rattle.std.specs.Prelude.{max}
@@ -58,21 +59,17 @@ done o = record { keeps = tt }
 
 by_grant : (b : Bool) (p q : Pool) (a : PoolAnswer) (f : PoolAnswer → Outcome) (r : Refusal) → (f a ≡ Refused r → q ≡ p)
     → f (if◌then◌else◌ {A = PoolAnswer × Pool} b (a, q) (no_pages, p)).0 ≡ Refused r → (if◌then◌else◌ {A = PoolAnswer × Pool} b (a, q) (no_pages, p)).1 ≡ p
-by_grant true p q a f r h e = h e
-by_grant false p q a f r h e = refl
+by_grant b p q a f r h e = grind (arith, common_steps)
 
 then_refused : (answer : Mount → Answer) (h : Mount → Mount) (o : Outcome) (r : Refusal) → continued (λ m. Answered (answer m) (Some (h m))) o ≡ Refused r → o ≡ Refused r
-then_refused answer h (Refused x) r e = e
-then_refused answer h (Answered a None) r e = cc
-then_refused answer h (Answered a (Some m)) r e = cc
+then_refused answer h o r e = grind (arith, common_steps)
 
 keeps_then : (answer : Mount → Answer) (h : Mount → Mount) (p : Plan) → IsKept never p → IsKept never (and_then (λ m. Answered (answer m) (Some (h m))) p)
 keeps_then answer h (Finish o) k = record { keeps = tt }
 keeps_then answer h (Ask sec f) k = record { keeps = λ p r st late is. k.keeps p r st late (then_refused answer h (f (section p (sec p.nr)).0) r is) }
 
 both_answer : (b : Bool) (a1 a2 : Answer) (s1 s2 : Slot) (r : Refusal) → (if◌then◌else◌ {A = Outcome} b (Answered a1 s1) (Answered a2 s2)) ≡ Refused r → ⊥
-both_answer true a1 a2 s1 s2 r e = cc
-both_answer false a1 a2 s1 s2 r e = cc
+both_answer b a1 a2 s1 s2 r e = grind (arith, common_steps)
 
 -- a grant of nothing leaves a settled pool as it is
 pub granted_none : (p : Pool) → total_of p.nodes.rows ≡ max p.nr p.committed → granted 0 0 p ≡ p
@@ -90,14 +87,12 @@ remount_keeps m (Ok l) p r st is = by_minimum (nat_lt (committed_with m l.min) (
     by_test : (b : Bool) (q : Pool)
         → remount_outcome m (if◌then◌else◌ {A = PoolAnswer × Pool} b (nr_answer true p, q) (nr_answer false p, p)).0 (Ok l) ≡ Refused r
         → (if◌then◌else◌ {A = PoolAnswer × Pool} b (nr_answer true p, q) (nr_answer false p, p)).1 ≡ p
-    by_test true q is = cc
-    by_test false q is = refl
+    by_test b q is = grind (arith, common_steps)
 
     by_minimum : (less : Bool)
         → remount_outcome m (section p (if less then ReadAndGiveBack (committed_of m - committed_with m l.min) else ReadAndGrant (committed_with m l.min - committed_of m))).0 (Ok l) ≡ Refused r
         → (section p (if less then ReadAndGiveBack (committed_of m - committed_with m l.min) else ReadAndGrant (committed_with m l.min - committed_of m))).1 ≡ p
-    by_minimum true is = cc
-    by_minimum false is = by_test (can_grant (committed_with m l.min - committed_of m) p) (granted 0 (committed_with m l.min - committed_of m) p) is
+    by_minimum less is = grind (arith, common_steps)
 
 keep_rules : PlanRules (IsKept never)
 keep_rules = record {
