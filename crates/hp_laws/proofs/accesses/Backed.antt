@@ -1,39 +1,24 @@
 -- An access whose page is kept for it is never refused for want of a huge page.
 use Rattle.std.proofs.Common.{arith}
 use Rattle.std.proofs.lemmas.Grind.{common_steps}
-use Rattle.std.proofs.Common.{false, ◌≡◌, ⊎_elim, ◌||◌, ◌&&◌, ◌==◌, ℕ, ◌+◌, true, not, Option, None, Some, is_some, List, length, refl, nat_lt}
-use Rattle.std.proofs.lemmas.Bool.{or_cases, and_parts, not-true}
+use Rattle.std.proofs.Common.{◌≡◌, ℕ, true, Option, None, Some, List, length, refl}
 use Rattle.hp_model.specs.declared.answer.Answer.TheVariants.{Done}
 use Rattle.hp_model.specs.declared.event.SlotEvent.TheVariants as slot
-use Rattle.hp_model.specs.declared.place.Place.{Place}
-use Rattle.hp_model.specs.declared.place.Place.TheVariants.{Gone, Live}
-use Rattle.hp_model.specs.declared.refusal.Refusal.TheVariants.{OutOfRange, CrossesPage, TooMany, BeyondEnd, NoSuchMap, TakenByOwner}
+use Rattle.hp_model.specs.declared.refusal.Refusal.TheVariants.{OutOfRange, BeyondEnd, NoSuchMap}
 use Rattle.hp_model.specs.declared.step.Intent.{Intent}
 use Rattle.hp_model.specs.declared.step.Intent.TheVariants.{Read, Write}
-use Rattle.hp_model.specs.files.Access.{uncopied_access, access, private_access, shared_access}
-use Rattle.hp_model.specs.files.File.{Mount, cell_at}
+use Rattle.hp_model.specs.files.Access.{access}
+use Rattle.hp_model.specs.files.File.{Mount}
 use Rattle.hp_laws.specs.Laws.{KeepsGoing}
-use Rattle.hp_model.specs.files.Mapping.{copy_of, is_map, is_shared, place_at}
-use Rattle.hp_model.specs.files.Page.{Copy}
-use Rattle.hp_model.specs.machine.Plan.{refuse, Slot, Outcome, Refused, Answered, Choice, continued, with_value}
-use Rattle.hp_model.specs.Profile.{most_bytes}
-use Rattle.hp_model.specs.machine.Promises.{is_cut_off, is_refused, spot_on, is_backed, owns_copy}
-use Rattle.hp_model.specs.files.Reserved.{is_reserved}
+use Rattle.hp_model.specs.files.Mapping.{is_map}
+use Rattle.hp_model.specs.machine.Plan.{Slot, Outcome, Answered, Choice, continued, with_value}
+use Rattle.hp_model.specs.machine.Promises.{is_cut_off, is_refused, spot_on, is_backed}
 use Rattle.hp_model.specs.machine.SlotEvent.{byte_access, bytes_answer, fault, is_beyond, is_unmapped, load, slot_event, store}
 use Rattle.hp_model.specs.files.Spot.{Spot, again, spot, written}
 use Rattle.hp_model.specs.files.Value.{value}
-use Rattle.hp_laws.proofs.steps.Outcomes.{reply_of, Always, always_if, always_test, always_then}
-use Rattle.hp_laws.proofs.accesses.Reserved.{reserved_access, copy_keeps}
+use Rattle.hp_laws.proofs.steps.Outcomes.{reply_of, Always, always_test, always_then}
 
 module _ (c : Choice) (size : ℕ) (m : Mount) (s : Spot) (home i : ℕ) where
-  reserved_goes : (intent : Intent) → is_reserved s.file s.map i ≡ true → Always KeepsGoing (access c size m s home i intent)
-  reserved_goes intent e = reserved_access c size m s home i intent e
-
-  copy_goes : (p : Place Copy) → s.map.owner ≡ true → is_some (copy_of p) ≡ true → Always KeepsGoing (private_access c size m s home i p Write)
-  copy_goes p owner has = grind (arith, common_steps)
-
-  owned_goes : owns_copy s.map i ≡ true → Always KeepsGoing (access c size m s home i Write)
-  owned_goes e = grind (arith, common_steps)
 
   access_goes : (intent : Intent) → is_backed intent (Some s) i ≡ true → Always KeepsGoing (access c size m s home i intent)
   access_goes intent e = grind (arith, common_steps)
@@ -86,11 +71,6 @@ still_stops : (f : Mount → Outcome) (o : Outcome) → Stops o → Stops (conti
 still_stops f o stops = grind (arith, common_steps)
 
 module _ (c : Choice) (size : ℕ) (m : Mount) (s : Spot) (home i : ℕ) where
-  private_stops : (p : Place Copy) (intent : Intent) → s.map.unmapped ≡ true → is_some (copy_of p) ≡ false → Always Stops (private_access c size m s home i p intent)
-  private_stops p intent marked none = grind (arith, common_steps)
-
-  access_stops : (intent : Intent) → is_cut_off (Some s) i ≡ true → Always Stops (access c size m s home i intent)
-  access_stops intent e = grind (arith, common_steps)
 
   bytes_stop : (offset count : ℕ) (intent : Intent) → is_cut_off (Some s) i ≡ true → Always Stops (byte_access c size m home i offset count intent s)
   bytes_stop offset count intent e = grind (arith, common_steps)

@@ -16,7 +16,7 @@ use Rattle.hp_model.specs.files.Mapping.{Map, copy_of, is_map, is_shared, is_unc
 use Rattle.hp_model.specs.files.MountCounts.{stamps_of}
 use Rattle.hp_model.specs.files.Page.{Copy}
 use Rattle.hp_model.specs.machine.SlotEvent.{has_name}
-use Rattle.hp_model.specs.machine.Sound.{HasCopy, IsCopyPlace, IsSoundFile, IsSoundMap, IsSoundMount, file_has, is_stamp, map_has, owns_stamp, place_has}
+use Rattle.hp_model.specs.machine.Sound.{HasCopy, IsCopyPlace, IsSoundFile, IsSoundMap, IsSoundMount, file_has, is_stamp, map_has, owns_stamp}
 use Rattle.hp_model.specs.files.Spot.{Spot}
 use Rattle.hp_laws.proofs.counts.Copies.{file_copy, file_has_stamp, file_there, has_stamp, live_of, map_copy, map_there}
 use Rattle.hp_laws.proofs.counts.FileMoves.{held_in, live_at, maps_count}
@@ -26,7 +26,7 @@ use Rattle.hp_laws.proofs.counts.MountMoves.{IsSpot}
 use Rattle.hp_laws.proofs.counts.MountsSound.{put_sound, set_count}
 use Rattle.hp_laws.proofs.lists.Places.{sum_by-map_same}
 use Rattle.hp_laws.proofs.accesses.Shown.{place_other, place_put}
-use Rattle.hp_laws.proofs.lists.AtMostOne.{bit, few, single, some_counted}
+use Rattle.hp_laws.proofs.lists.AtMostOne.{bit, few, single}
 
 -- the copy at a place of the mount
 abbrev pub HasAt : Mount → (j k i : ℕ) → Copy → Type 0

@@ -5,7 +5,6 @@ use Rattle.std.proofs.Common.{Option, None, Some, is_some, List, [], ◌∷◌, 
 use Rattle.std.specs.List.{slice_index_or, list_any}
 use Rattle.std.proofs.lemmas.Bool.{cases_eq, cond_both, eq-eqb, ltb-true, or_cases}
 use Rattle.std.proofs.lemmas.List.{get_or-set_same, get_or-set_other}
-use Rattle.std.proofs.lemmas.List.Folds.{list_any_at}
 use Rattle.hp_model.specs.declared.answer.Answer.TheVariants.{Done}
 use Rattle.hp_model.specs.declared.cell.Cell.{Cell}
 use Rattle.hp_model.specs.declared.cell.Cell.TheVariants.{Hole, Entered, Present}
@@ -28,12 +27,10 @@ use Rattle.hp_model.specs.machine.Plan.{Answered, Ask, Choice, Finish, Outcome}
 use Rattle.hp_model.specs.machine.Promises.{file_in, is_at, is_same_copy, map_in, no_map}
 use Rattle.hp_model.specs.machine.Sound.{IsSoundMount}
 use Rattle.hp_model.specs.pool.Grant.{is_full, rise}
-use Rattle.hp_laws.proofs.counts.Copies.{live_of}
-use Rattle.hp_laws.proofs.counts.FileMoves.{live_at}
 use Rattle.hp_laws.proofs.lists.Looks.{edit_here, edit_other, same_edit}
 use Rattle.hp_laws.proofs.counts.MountMoves.{IsSpot}
 use Rattle.hp_laws.proofs.steps.Outcomes.{Always, always_if, always_test, outcome_if}
-use Rattle.hp_laws.proofs.accesses.StoredMaps.{IsLostAt, at_index, back, dropped_at, edit_marks, held_copy, left, map_beside, map_left, mine, same_written, written_at, written_off}
+use Rattle.hp_laws.proofs.accesses.StoredMaps.{IsLostAt, at_index, back, edit_marks, left, map_beside, map_left, mine, same_written, written_at, written_off}
 use Rattle.hp_laws.proofs.accesses.Shown.{On, Own, Result, marked, on_grant_page, on_reserved_page, place_other, place_put}
 use Rattle.hp_laws.proofs.accesses.StoredFiles.{ready}
 
@@ -43,9 +40,6 @@ pub any_there : {X : Type 0} (t : X → Bool) (d : X) (xs : List X) → list_any
 any_there t d [] e = cc
 any_there t d (x ∷ xs) e =
     ⊎_elim (λ here. (0, omega arith, here)) (λ later. (let there = any_there t d xs later in (suc there.0, omega (arith, there.1), there.2))) (or_cases (t x) (list_any t xs) e)
-
-held_there : (stamp : ℕ) (y : Map) (x : ℕ) → holds stamp (place_at y x) ≡ true → list_any (holds stamp) y.places ≡ true
-held_there stamp y x e = grind (arith, common_steps)
 
 robbed_place : (stamp : ℕ) (y : Map) (x : ℕ) → place_at (robbed stamp y) x ≡ drop_stamp stamp (place_at y x)
 robbed_place stamp y x = grind (arith, common_steps)

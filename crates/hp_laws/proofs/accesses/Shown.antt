@@ -1,15 +1,15 @@
 -- What files and maps show after an access.
 use Rattle.std.proofs.lemmas.Grind.{common_steps}
-use Rattle.std.proofs.Common.{◌≡◌, inl, inr, ◌⊎◌, map, ℕ, ◌<◌, ◌-◌, Bool, true, false, ◌&&◌, not, Option, None, Some, List, length, set, refl, sym, ap, ◌∙◌, subst, arith, if◌then◌else◌, nat_lt}
+use Rattle.std.proofs.Common.{◌≡◌, inl, inr, ◌⊎◌, map, ℕ, ◌<◌, Bool, true, false, ◌&&◌, not, Option, None, Some, List, length, refl, sym, ap, ◌∙◌, subst, arith, if◌then◌else◌}
 use Rattle.std.specs.List.{slice_index_or}
-use Rattle.std.proofs.lemmas.Bool.{cases_eq, ltb-false}
-use Rattle.std.proofs.lemmas.List.{get_or-set_same, get_or-set_other}
+use Rattle.std.proofs.lemmas.Bool.{cases_eq}
+use Rattle.std.proofs.lemmas.List.{get_or-set_same}
 use Rattle.hp_model.specs.declared.answer.Answer.TheVariants.{Done}
 use Rattle.hp_model.specs.declared.cell.Cell.{Cell}
 use Rattle.hp_model.specs.declared.cell.Cell.TheVariants.{Hole, Entered, Present}
 use Rattle.hp_model.specs.declared.place.Place.{Place}
 use Rattle.hp_model.specs.declared.place.Place.TheVariants.{Gone, Live}
-use Rattle.hp_model.specs.declared.refusal.Refusal.TheVariants.{NoPages, MountFull, OutOfMemory, TakenByOwner}
+use Rattle.hp_model.specs.declared.refusal.Refusal.TheVariants.{TakenByOwner}
 use Rattle.hp_model.specs.declared.step.Intent.TheVariants.{Read, Write}
 use Rattle.hp_model.specs.files.Access.{shared_access, new_copy, uncopied_access, private_access, access}
 use Rattle.hp_model.specs.files.CopyWrite.{robbed, taken_back, is_held_once, owner_write, copy_write}
@@ -17,12 +17,12 @@ use Rattle.hp_model.specs.files.File.{File, Mount, cell_at, has_page, new_file, 
 use Rattle.hp_model.specs.pool.Grant.{is_full, rise}
 use Rattle.hp_model.specs.files.Mapping.{Map, copy_of, is_shared, place_at, with_place}
 use Rattle.hp_model.specs.files.Page.{Page, Copy, zeros}
-use Rattle.hp_model.specs.machine.Plan.{Outcome, Refused, Answered, Plan, Finish, Ask, Choice, continued, grant_page, reserved_page, when_granted}
+use Rattle.hp_model.specs.machine.Plan.{Outcome, Refused, Answered, Plan, Finish, Ask, Choice, continued, grant_page, reserved_page}
 use Rattle.hp_model.specs.declared.section.Section.TheVariants.{GrantPage}
 use Rattle.hp_model.specs.machine.Promises.{file_in, map_in, no_map}
 use Rattle.hp_model.specs.files.Spot.{Spot, again, copied}
 use Rattle.hp_model.specs.files.Value.{shown, value}
-use Rattle.hp_laws.proofs.counts.FileMoves.{IsMapAt, live_at}
+use Rattle.hp_laws.proofs.counts.FileMoves.{IsMapAt}
 use Rattle.hp_laws.proofs.lists.Looks.{same_put}
 use Rattle.hp_laws.proofs.counts.MountMoves.{IsSpot}
 use Rattle.hp_laws.proofs.steps.Outcomes.{Always, always_if, always_test, always_weaker}
@@ -60,8 +60,6 @@ pub not_below : (b : Bool) (x : Place Copy) (c : Bool) (o : Option Copy) → (if
 not_below b x c o e = grind (arith, common_steps)
 
 module _ (m : Map) (i : ℕ) (c : Bool) (o : Option Copy) (is : place_at m i ≡ Live c o) (p : Place Copy) where
-  from : nat_lt i m.start ≡ false
-  from = not_below (nat_lt i m.start) (slice_index_or m.places (i - m.start) Gone) c o is
 
   pub place_put : place_at (with_place m i p) i ≡ p
   place_put = grind (arith, common_steps)
@@ -91,9 +89,6 @@ abbrev pub On : (Mount → Type 0) → Outcome → Type 0
 On Q (Refused r) = Unit {0}
 On Q (Answered a None) = ⊥
 On Q (Answered a (Some n)) = Q n
-
-on_granted : (Q : Mount → Type 0) (b : Bool) (n : Mount) → Q n → On Q (if b then Answered Done (Some n) else Refused NoPages)
-on_granted Q b n h = grind (arith, common_steps)
 
 pub on_grant_page : (Q : Mount → Type 0) (c : Choice) (m : Mount) (home : ℕ) (n : ℕ → Mount) → ((node : ℕ) → Q (n node)) → Always (On Q) (grant_page c m home (λ node. Answered Done (Some (n node))))
 on_grant_page Q c m home n h = grind (arith, common_steps)

@@ -1,20 +1,19 @@
 -- What a slot's files show after a file or a map is made, a load and a store, and what a load answers.
 use Rattle.std.proofs.Common.{arith}
 use Rattle.std.proofs.lemmas.Grind.{common_steps}
-use Rattle.std.proofs.Common.{◌≡◌, ◌⊎◌, ℕ, zero, suc, ◌+◌, ◌<◌, Bool, true, false, ◌&&◌, ◌||◌, ◌==◌, not, Option, None, Some, ⊎_elim}
+use Rattle.std.proofs.Common.{◌≡◌, ◌⊎◌, ℕ, ◌+◌, ◌<◌, Bool, true, false, ◌&&◌, ◌==◌, not, Option, None, Some, ⊎_elim}
 use Rattle.std.proofs.Common.{Result as ResultOf, Ok, Err, List, [], ◌∷◌, length, replicate, refl, sym, ap, ◌∙◌, if◌then◌else◌, nat_lt, ◌-◌}
-use Rattle.std.specs.List.{slice_index_or, sum}
-use Rattle.std.proofs.lemmas.Bool.{cond_both, leb-false}
+use Rattle.std.proofs.lemmas.Bool.{cond_both}
 use Rattle.hp_model.specs.declared.answer.Answer.{Answer}
 use Rattle.hp_model.specs.declared.answer.Answer.TheVariants.{Done}
 use Rattle.hp_model.specs.declared.cell.Cell.{Cell}
-use Rattle.hp_model.specs.declared.cell.Cell.TheVariants.{Hole, Entered, Present}
+use Rattle.hp_model.specs.declared.cell.Cell.TheVariants.{Hole}
 use Rattle.hp_model.specs.declared.event.SlotEvent.TheVariants as slot
 use Rattle.hp_model.specs.declared.limits.Limits.{Limits}
 use Rattle.hp_model.specs.declared.place.Place.{Place}
-use Rattle.hp_model.specs.declared.place.Place.TheVariants.{Gone, Live}
+use Rattle.hp_model.specs.declared.place.Place.TheVariants.{Gone}
 use Rattle.hp_model.specs.declared.refusal.Refusal.{Refusal}
-use Rattle.hp_model.specs.declared.refusal.Refusal.TheVariants.{NoPages, MountFull, OutOfMemory, OutOfRange, CrossesPage, TooMany, BeyondEnd, NoSuchMap}
+use Rattle.hp_model.specs.declared.refusal.Refusal.TheVariants.{NoPages, OutOfMemory, NoSuchMap}
 use Rattle.hp_model.specs.declared.step.Intent.{Intent}
 use Rattle.hp_model.specs.declared.step.Intent.TheVariants.{Read, Write}
 use Rattle.hp_model.specs.declared.step.Reserving.{Reserving}
@@ -22,24 +21,23 @@ use Rattle.hp_model.specs.declared.step.Sharing.{Sharing}
 use Rattle.hp_model.specs.files.Access.{access}
 use Rattle.hp_laws.specs.Balance.{left_by}
 use Rattle.hp_model.specs.files.File.{File, Mount, at_least, entered, new_file, with_file, cell_at, has_page}
-use Rattle.hp_model.specs.pool.Grant.{is_full, rise, granted}
+use Rattle.hp_model.specs.pool.Grant.{granted}
 use Rattle.hp_model.specs.files.MakeMap.{mapped, new_map, reserves, with_new}
 use Rattle.hp_model.specs.Lists.{edit_range}
 use Rattle.hp_model.specs.files.Mapping.{Map, copy_of, is_map, is_shared, place_at}
 use Rattle.hp_model.specs.files.Options.{limits, wanted_of}
 use Rattle.hp_model.specs.files.Page.{Page, Copy, zeros}
-use Rattle.hp_model.specs.machine.Plan.{Slot, Outcome, Refused, Answered, Plan, Finish, Ask, Choice, refuse, unless, with_value, continued, grant, when_granted, gives, puts_of, fall_of}
-use Rattle.hp_model.specs.declared.section.Section.TheVariants.{FillPages, Grant, GiveBack}
-use Rattle.hp_model.specs.Profile.{most_bytes}
+use Rattle.hp_model.specs.machine.Plan.{Slot, Outcome, Refused, Answered, Plan, Ask, Choice, unless, with_value, continued, grant, when_granted, gives}
+use Rattle.hp_model.specs.declared.section.Section.TheVariants.{FillPages}
 use Rattle.hp_model.specs.machine.Promises.{file_in, spot_on, IsLoaded, shown_on, seen_on, map_in, map_on, no_map, over, is_shared_of, reaches}
-use Rattle.hp_model.specs.machine.SlotEvent.{byte_access, bytes_answer, is_beyond, fill, preallocate, preallocate_tests, unentered}
-use Rattle.hp_model.specs.machine.SlotEvent.{is_unmapped, load, mount_on, mount_outcome, remount, remount_outcome, remount_tests, slot_event, store}
+use Rattle.hp_model.specs.machine.SlotEvent.{byte_access, bytes_answer}
+use Rattle.hp_model.specs.machine.SlotEvent.{load, mount_on, mount_outcome, remount, remount_outcome, remount_tests, slot_event, store}
 use Rattle.hp_model.specs.machine.Sound.{IsSoundMount}
 use Rattle.hp_model.specs.files.Spot.{Spot, again, spot, written}
 use Rattle.hp_model.specs.files.Value.{shown, value}
 use Rattle.hp_laws.proofs.lists.Looks.{same_edit_range, same_more, same_none, same_one, same_put}
 use Rattle.hp_laws.proofs.counts.MountMoves.{IsSpot, spot_is, IsFileAt}
-use Rattle.hp_laws.proofs.steps.Outcomes.{Always, always_if, always_test, always_then, outcome_if}
+use Rattle.hp_laws.proofs.steps.Outcomes.{Always, always_then, outcome_if}
 use Rattle.hp_laws.proofs.accesses.StoredMaps.{IsLostAt, store_seen, store_marks}
 use Rattle.hp_laws.proofs.accesses.Shown.{marked, look, seen, by_place, On, Same, Result, read_same, write_done}
 use Rattle.hp_laws.proofs.accesses.StoredFiles.{ready, stored}
@@ -68,11 +66,6 @@ pub always_fill : (P : Outcome → Type 0) → ((r : Refusal) → P (Refused r))
     → Always P (unless ts (Ask (λ nr. FillPages d n) (λ a. when_granted (o a.pages) a)))
 always_fill P stops ts d n o h =
     always_unless P stops ts (Ask (λ nr. FillPages d n) (λ a. when_granted (o a.pages) a)) (λ a. granted_or P stops a.granted (o a.pages) (h a.pages))
-
--- where nothing of the range lacks a page, and else
-pub always_preallocate : (P : Outcome → Type 0) → ((r : Refusal) → P (Refused r)) → (c : Choice) (size : ℕ) (m : Mount) (a b : ℕ) (q : ℕ × File) → P (Answered Done (Some m))
-    → ((pages : List ℕ) → P (Answered Done (Some (with_file m q.0 (range_filled size a b (rising_nodes (lacking a b q.1) pages) q.1))))) → Always P (preallocate c size m a b q)
-always_preallocate P stops c size m a b q none h = grind (arith, common_steps)
 
 pub always_gives : (P : Outcome → Type 0) (a : Answer) (old new : Slot) → P (Answered a new) → Always P (gives a old new)
 always_gives P a old new h = grind (arith, common_steps)
@@ -154,10 +147,6 @@ pub filled_quiet : (size : ℕ) (m : Mount) (a b : ℕ) (pages : List ℕ) (q : 
 filled_quiet size m a b pages q at =
     let shows = filled_shows size a b pages q.1 in
     put_quiet size m Done q (range_filled size a b (rising_nodes (lacking a b q.1) pages) q.1) at shows (λ l x. ap (by_place size (place_at (map_in q.1 l) x)) (shows x)) (λ l. refl)
-
--- a new map has no copies
-none_yet : (n j : ℕ) → copy_of {C = Copy} (slice_index_or (replicate n (Live false None)) j Gone) ≡ None
-none_yet n j = grind (arith, common_steps)
 
 none_at : (task number a n : ℕ) (sharing : Sharing) (reserving : Reserving) (x : ℕ) → copy_of (place_at (new_map task number a n sharing reserving) x) ≡ None
 none_at task number a n sharing reserving x = grind (arith, common_steps)

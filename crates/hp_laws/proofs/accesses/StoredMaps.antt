@@ -2,15 +2,15 @@
 use Rattle.std.proofs.lemmas.Grind.{common_steps}
 use Rattle.std.proofs.Common.{◌≡◌, ⊎_elim, inl, inr, ◌⊎◌, map, ℕ, ◌-◌, Bool, true, false, ◌&&◌, ◌==◌, not}
 use Rattle.std.proofs.Common.{Option, None, Some, is_some, List, set, refl, sym, ap, ◌∙◌, subst, arith, if◌then◌else◌, nat_lt}
-use Rattle.std.specs.List.{slice_index_or, list_any}
+use Rattle.std.specs.List.{slice_index_or}
 use Rattle.std.proofs.lemmas.Bool.{cases_eq, cond_both, eq-eqb, ltb-false, eqb-true, eqb-false}
-use Rattle.std.proofs.lemmas.List.{get_or-set_same, get_or-set_other, length-map}
+use Rattle.std.proofs.lemmas.List.{get_or-set_same, get_or-set_other}
 use Rattle.hp_model.specs.declared.place.Place.{Place}
 use Rattle.hp_model.specs.declared.place.Place.TheVariants.{Gone, Live}
-use Rattle.hp_model.specs.files.CopyWrite.{holds, drop_stamp, robbed}
+use Rattle.hp_model.specs.files.CopyWrite.{holds, robbed}
 use Rattle.hp_model.specs.files.File.{File, Mount, new_file, with_map}
 use Rattle.hp_model.specs.Lists.{edit_at}
-use Rattle.hp_model.specs.files.Mapping.{Map, copy_of, is_shared, place_at, without_copy}
+use Rattle.hp_model.specs.files.Mapping.{Map, copy_of, is_shared, place_at}
 use Rattle.hp_model.specs.files.Page.{Copy}
 use Rattle.hp_model.specs.machine.Promises.{file_in, map_in, no_map, over, is_same_copy, IsLost}
 use Rattle.hp_model.specs.files.Spot.{Spot, cell_written, file_written, map_written, place_written, written}
@@ -44,12 +44,6 @@ module _ (m : Map) (i : ℕ) (c : Bool) (o : Option Copy) (is : place_at m i ≡
       ] refl
 
 -- ---- a map that may lose its copies of a stamp
-
-no_copy : (p : Place Copy) → copy_of (without_copy p) ≡ None
-no_copy p = grind (arith, common_steps)
-
-pub dropped_at : (stamp : ℕ) (m : Map) (x : ℕ) → place_at (record m { unmapped = true; places = map (drop_stamp stamp) m.places }) x ≡ drop_stamp stamp (place_at m x)
-dropped_at stamp m x = grind (arith, common_steps)
 
 -- it shows what it showed, or had the copy and has none now
 abbrev Robs : (size stamp : ℕ) (old new : Map) (x : ℕ) (v : List ℕ) → Type 0
@@ -265,9 +259,6 @@ module _ (size : ℕ) (m : Mount) (sound : IsSoundMount m) (s : Spot) (at : IsSp
         inl (seen_after i ∙ ap (λ q. by_place size q (look size i f)) (written_at (map_in f s.map_no) i own.consumed (Some own.copy) own.is offset bytes ∙ ap (place_written offset bytes) own.is)
         ∙ ap (over offset bytes) was)
 
-    same_number : (a b : ℕ) → (a == b) ≡ true → b ≡ a
-    same_number a b e = sym (eqb-true a b e)
-
     tested : (a d b : Bool) (j l x : ℕ) → (i == x) ≡ a → (s.file_no == j) ≡ d → (s.map_no == l) ≡ b → Tested a d b j l x
     tested a false b j l x ea ed eb = in_other_file a b j l x (λ same. eqb-false s.file_no j ed (sym same))
     tested a true false j l x ea ed eb =
@@ -300,12 +291,6 @@ module _ (size : ℕ) (m : Mount) (sound : IsSoundMount m) (s : Spot) (at : IsSp
       cond_both (is_shared s.map.sharing) (record f { cells = edit_at (cell_written offset bytes) f.cells i })
       (record f { maps = edit_at (map_written i offset bytes) f.maps s.map_no }) (λ g. marked l g ≡ marked l f)
       (λ e. refl) (λ e. same_edit (λ (y : Map). y.unmapped) no_map (map_written i offset bytes) (λ y. refl) f.maps s.map_no l)
-
-  robbed_marks : (stamp : ℕ) (y : Map) → y.unmapped ≡ true → (robbed stamp y).unmapped ≡ true
-  robbed_marks stamp y e = grind (arith, common_steps)
-
-  left_marks : (stamp l : ℕ) → marked l s.file ≡ true → marked l (left stamp) ≡ true
-  left_marks stamp l e = grind (arith, common_steps)
 
   back_marks : (stamp j l : ℕ) → marked l (file_in m j) ≡ true → marked l (file_in (back stamp) j) ≡ true
   back_marks stamp j l e = grind (arith, common_steps)

@@ -1,11 +1,11 @@
 -- What only gives back: no count of a file or a mount is higher after it.
 use Rattle.std.proofs.lemmas.Grind.{common_steps}
-use Rattle.std.proofs.Common.{◌≡◌, ⊎_elim, ℕ, zero, suc, ◌+◌, ◌-◌, ◌≤◌, Bool, true, false, not, None, Some, List}
-use Rattle.std.proofs.Common.{[], ◌∷◌, ◌++◌, length, map, take, drop, replicate, refl, sym, ap, ◌∙◌, cond, arith, if◌then◌else◌}
+use Rattle.std.proofs.Common.{◌≡◌, ⊎_elim, ℕ, zero, suc, ◌+◌, ◌-◌, ◌≤◌, Bool, true, false, not, List}
+use Rattle.std.proofs.Common.{[], ◌∷◌, ◌++◌, length, map, take, drop, refl, sym, ◌∙◌, cond, arith, if◌then◌else◌}
 use Rattle.std.specs.List.{list_any, sum_by, count_by, filter}
 use Rattle.std.proofs.lemmas.Bool.{or_left, or_right, or_cases}
 use Rattle.std.proofs.lemmas.List.Folds.{list_any-append}
-use Rattle.std.proofs.lemmas.List.Sums.{sum_by-append, sum_by-take-drop, sum_by-take-le, sum_by-cons}
+use Rattle.std.proofs.lemmas.List.Sums.{sum_by-append, sum_by-take-drop, sum_by-cons}
 use Rattle.hp_model.specs.files.File.{cell_punched, cells_to, File, has_page}
 use Rattle.hp_model.specs.files.Fork.{file_forked}
 use Rattle.hp_model.specs.files.GiveBack.{file_unmapped, file_without, is_left, map_unmapped, punched, truncated, unlinked}
@@ -15,9 +15,9 @@ use Rattle.hp_model.specs.files.MountCounts.{file_pages, file_reserves, file_pag
 use Rattle.hp_model.specs.files.Page.{Page, Copy}
 use Rattle.hp_model.specs.machine.Sound.{place_has, map_has}
 use Rattle.hp_model.specs.declared.cell.Cell.{Cell}
-use Rattle.hp_model.specs.declared.cell.Cell.TheVariants.{Hole, Entered, Present}
+use Rattle.hp_model.specs.declared.cell.Cell.TheVariants.{Hole, Entered}
 use Rattle.hp_model.specs.declared.place.Place.{Place}
-use Rattle.hp_model.specs.declared.place.Place.TheVariants.{Gone, Live}
+use Rattle.hp_model.specs.declared.place.Place.TheVariants.{Gone}
 use Rattle.hp_laws.proofs.counts.CopiesHeld.{stamps_fall, stamps_at_fall}
 use Rattle.hp_laws.proofs.lists.Places.{any_map_down, any_filter, sum_by-map_le, sum_by-filter_le}
 use Rattle.hp_model.proofs.Editing.{sum_by-edit_range}
@@ -94,9 +94,6 @@ cells_punched a b xs = record {
   waits = sum_by-edit_range_le (λ x. cond (is_waiting x) 1 0) cell_punched (hole_least is_waiting refl refl) a b xs;
   each = λ n. sum_by-edit_range_le (λ x. cond (is_page_at n x) 1 0) cell_punched (hole_least (is_page_at n) refl refl) a b xs;
 }
-
-pub no_holes : (test : Cell Page → Bool) → test Hole ≡ false → (k : ℕ) → count_by test (replicate k Hole) ≡ 0
-no_holes test none k = grind (arith, common_steps)
 
 cut_le : (test : Cell Page → Bool) → test Hole ≡ false → (n : ℕ) (xs : List (Cell Page)) → count_by test (cells_to n xs) ≤ count_by test xs
 cut_le test none n xs = grind (arith, common_steps)

@@ -1,21 +1,21 @@
 -- Maps without some of the copies of others: what holds of the copies of those holds of theirs.
 use Rattle.std.proofs.lemmas.Grind.{common_steps}
 use Rattle.std.proofs.Common.{◌≡◌, ℕ, ◌-◌, ◌<◌, ◌≤◌, Bool, true, false, Some, List, [], ◌∷◌, ◌++◌, length, map, get_or, cond, arith, refl, sym, ap, ◌∙◌, subst, nat_lt, if◌then◌else◌}
-use Rattle.std.specs.List.{All, count_by, filter, list_any, slice_index_or}
-use Rattle.std.proofs.lemmas.Bool.{and_from, and_parts, cond_both}
+use Rattle.std.specs.List.{All, count_by, filter, slice_index_or}
+use Rattle.std.proofs.lemmas.Bool.{and_from, and_parts}
 use Rattle.std.proofs.lemmas.List.{get_or-map, get_or_default, length-map}
 use Rattle.std.proofs.lemmas.List.Elements.{All-append, All-filter, All-map}
 use Rattle.std.proofs.lemmas.List.Sums.{sum_by-append, sum_by-cons}
-use Rattle.hp_model.specs.files.CopyWrite.{drop_stamp, holds, robbed}
+use Rattle.hp_model.specs.files.CopyWrite.{robbed}
 use Rattle.hp_model.specs.files.File.{File}
 use Rattle.hp_model.specs.Lists.{edit_range}
-use Rattle.hp_model.specs.files.Mapping.{Map, copy_of, is_shared, is_unconsumed, map_for, map_punched, no_map, place_at, unconsumed, without_copy, without_range}
+use Rattle.hp_model.specs.files.Mapping.{Map, copy_of, is_shared, is_unconsumed, map_for, map_punched, no_map, place_at, without_copy, without_range}
 use Rattle.hp_model.specs.files.Page.{Copy}
 use Rattle.hp_model.specs.machine.Sound.{FileHasCopy, HasCopy, IsSoundFile, IsSoundMap, file_has, is_stamp, map_has, owns_stamp}
 use Rattle.hp_model.specs.declared.place.Place.{Place}
-use Rattle.hp_model.specs.declared.place.Place.TheVariants.{Gone, Live}
+use Rattle.hp_model.specs.declared.place.Place.TheVariants.{Gone}
 use Rattle.hp_laws.proofs.counts.Copies.{file_copy, file_has_stamp, has_stamp, map_copy, map_there}
-use Rattle.hp_laws.proofs.lists.Looks.{get_map, related_edit_range}
+use Rattle.hp_laws.proofs.lists.Looks.{related_edit_range}
 use Rattle.hp_laws.proofs.lists.Places.{sum_by-filter_le}
 use Rattle.hp_laws.proofs.lists.AtMostOne.{few, single}
 
@@ -62,14 +62,8 @@ less_punched a b x =
     less_by x x.unmapped (edit_range without_copy (a - x.start) (b - x.start) x.places)
     (related_edit_range Stays (λ p q e. refl) Gone without_copy without_stays (a - x.start) (b - x.start) x.places)
 
-drop_stays : (stamp : ℕ) (p : Place Copy) → Stays (drop_stamp stamp p) p
-drop_stays stamp p = cond_both (holds stamp p) (without_copy p) p (λ q. Stays q p) (λ e. without_stays p) (λ e a h. refl)
-
 pub less_robbed : (stamp : ℕ) (x : Map) → IsLess x (robbed stamp x)
 less_robbed stamp x = grind (arith, common_steps)
-
-child_copy : (p : Place Copy) → copy_of (unconsumed p) ≡ copy_of p
-child_copy p = grind (arith, common_steps)
 
 child_at : (child i : ℕ) (x : Map) → copy_of (place_at (map_for child x) i) ≡ copy_of (place_at x i)
 child_at child i x = grind (arith, common_steps)

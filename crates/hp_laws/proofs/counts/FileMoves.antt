@@ -1,21 +1,20 @@
 -- How the counts of a file change with one page: filled, copied, copied on a write.
 use Rattle.std.proofs.lemmas.Grind.{common_steps}
-use Rattle.std.proofs.Common.{◌≡◌, ⊎_elim, subst, ◌++◌, ℕ, zero, suc, ◌+◌, ◌-◌, ◌<◌, Bool, true, false, ◌||◌, ◌==◌, Option}
-use Rattle.std.proofs.Common.{None, Some, List, [], ◌∷◌, length, map, refl, sym, ap, ◌∙◌, cond, arith, if◌then◌else◌, nat_lt}
-use Rattle.std.specs.List.{list_any, slice_set, slice_index_or, sum_by, count_by, filter_map, flat_map}
+use Rattle.std.proofs.Common.{◌≡◌, ⊎_elim, subst, ◌++◌, ℕ, ◌+◌, ◌-◌, ◌<◌, Bool, true, false, ◌||◌, ◌==◌, Option}
+use Rattle.std.proofs.Common.{None, Some, List, [], ◌∷◌, length, map, refl, sym, ap, ◌∙◌, cond, arith}
+use Rattle.std.specs.List.{list_any, slice_index_or, sum_by, count_by, filter_map, flat_map}
 use Rattle.std.proofs.lemmas.List.{map-append}
 use Rattle.std.proofs.lemmas.Bool.{or_parts, or_cases, or_left, or_right, and_from, and_parts, eq-eqb, eqb-true}
 use Rattle.std.proofs.lemmas.List.Sums.{sum_by-set, sum_by-cons, sum_by-append}
-use Rattle.hp_model.specs.files.File.{with_cell, with_map, File, cell_at, has_page}
+use Rattle.hp_model.specs.files.File.{with_cell, with_map, File, cell_at}
 use Rattle.hp_model.specs.Lists.{is_among}
 use Rattle.hp_model.specs.files.Mapping.{with_place, Map, place_at, copy_of, is_unconsumed}
-use Rattle.hp_model.specs.files.MountCounts.{file_pages, file_reserves, file_pages_at, is_waiting, is_page_at, owner_reserves, stamps_of}
+use Rattle.hp_model.specs.files.MountCounts.{file_pages, file_reserves, file_pages_at, owner_reserves, stamps_of}
 use Rattle.hp_model.specs.files.Page.{Page, Copy}
 use Rattle.hp_model.specs.machine.Sound.{place_has, map_has, file_has, is_stamp}
 use Rattle.hp_model.specs.declared.cell.Cell.TheVariants.{Hole, Entered, Present}
 use Rattle.hp_model.specs.declared.place.Place.{Place}
 use Rattle.hp_model.specs.declared.place.Place.TheVariants.{Gone, Live}
-use Rattle.hp_laws.proofs.counts.CountSteps.{share, count-set, fill_entry-pages, fill_entry-reserves}
 use Rattle.hp_laws.proofs.counts.CopiesHeld.{is_stamp_at, IsAgreed, stamps_grow, stamps_at_grow, weaker}
 use Rattle.hp_laws.proofs.lists.Places.{any_set}
 use Rattle.hp_laws.proofs.lists.AtMostOne.{bit}
@@ -36,15 +35,9 @@ fill_hole f i page l is = grind (arith, common_steps)
 
 -- ---- a place of a map
 
-below_start : (b : Bool) (x : Place Copy) (c : Bool) (o : Option Copy) → (if b then Gone else x) ≡ Live c o → x ≡ Live c o
-below_start b x c o e = grind (arith, common_steps)
-
 pub record IsLiveAt (m : Map) (i : ℕ) (c : Bool) (o : Option Copy) : Type 0 where
   pub within : i - m.start < length m.places
   pub is : slice_index_or m.places (i - m.start) Gone ≡ Live c o
-
-in_range : (j : ℕ) (ps : List (Place Copy)) (c : Bool) (o : Option Copy) → slice_index_or ps j Gone ≡ Live c o → j < length ps
-in_range j ps c o e = grind (arith, common_steps)
 
 pub live_at : (m : Map) (i : ℕ) (c : Bool) (o : Option Copy) → place_at m i ≡ Live c o → IsLiveAt m i c o
 live_at m i c o e = grind (arith, common_steps)
@@ -69,9 +62,6 @@ put_file_has t f k m i c d new here at =
     (put_has t m i c d new at ∙ ap (λ b. t new.stamp new.page.node || b) (sym (ap (map_has t) (here.is m))))
 
 -- ---- reservations of owners
-
-owner_if : (b : Bool) (x y u v : ℕ) → x + u ≡ y + v → cond b x 0 + cond b u 0 ≡ cond b y 0 + cond b v 0
-owner_if b x y u v e = grind (arith, common_steps)
 
 -- what a place adds to its map's reservations
 abbrev pub owed : Map → Place Copy → ℕ

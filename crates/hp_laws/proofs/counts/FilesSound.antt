@@ -1,25 +1,24 @@
 -- Each change of a file keeps it sound.
 use Rattle.std.proofs.lemmas.Grind.{common_steps}
-use Rattle.std.proofs.Common.{◌≡◌, inl, inr, ℕ, zero, suc, ◌+◌, ◌-◌, ◌<◌, ◌≤◌, Bool, true, false, ◌&&◌, not, take, None, Some}
-use Rattle.std.proofs.Common.{List, [], ◌∷◌, length, map, get_or, replicate, cond, arith, refl, sym, ap, ◌∙◌, subst, nat_lt, if◌then◌else◌, length-append}
+use Rattle.std.proofs.Common.{◌≡◌, inl, inr, ℕ, ◌+◌, ◌-◌, ◌<◌, ◌≤◌, Bool, true, false, not, None, Some}
+use Rattle.std.proofs.Common.{List, [], ◌∷◌, length, map, get_or, cond, arith, refl, sym, ap, ◌∙◌, subst, nat_lt, if◌then◌else◌}
 use Rattle.std.specs.List.{slice_index_or, slice_set}
 use Rattle.std.proofs.lemmas.Bool.{and_parts, cases_eq, cond_both, false_from_ne_true, ltb-false, ltb-true}
-use Rattle.std.proofs.lemmas.List.{get_or-map, get_or-set_other, get_or-set_same, get_or_past, length-map, length-replicate, length-set, length-take}
+use Rattle.std.proofs.lemmas.List.{get_or-map, get_or-set_other, get_or-set_same, get_or_past, length-map, length-set}
 use Rattle.std.proofs.lemmas.List.Elements.{All-map, All-push}
 use Rattle.std.proofs.lemmas.List.Sums.{sum_by-append, sum_by-cons}
 use Rattle.hp_model.specs.declared.cell.Cell.{Cell}
-use Rattle.hp_model.specs.declared.cell.Cell.TheVariants.{Hole}
 use Rattle.hp_model.specs.declared.place.Place.{Place}
-use Rattle.hp_model.specs.declared.place.Place.TheVariants.{Gone, Live}
+use Rattle.hp_model.specs.declared.place.Place.TheVariants.{Gone}
 use Rattle.hp_model.specs.declared.step.Reserving.{Reserving}
 use Rattle.hp_model.specs.declared.step.Sharing.{Sharing}
 use Rattle.hp_model.specs.files.CopyWrite.{robbed}
-use Rattle.hp_model.specs.files.File.{File, at_least, cell_punched, cells_to, entered, with_map}
+use Rattle.hp_model.specs.files.File.{File, cell_punched, cells_to, with_map}
 use Rattle.hp_model.specs.files.Fork.{file_forked}
 use Rattle.hp_model.specs.files.GiveBack.{file_unmapped, file_without, is_left, map_unmapped, punched, truncated, unlinked}
 use Rattle.hp_model.specs.Lists.{edit_range}
-use Rattle.hp_model.specs.files.MakeMap.{cells_mapped, mapped, new_map, reserves}
-use Rattle.hp_model.specs.files.Mapping.{Map, copy_of, is_of, is_shared, map_punched, no_map, place_at, without_copy, without_range}
+use Rattle.hp_model.specs.files.MakeMap.{cells_mapped, mapped, new_map}
+use Rattle.hp_model.specs.files.Mapping.{Map, copy_of, is_of, map_punched, no_map, place_at, without_copy, without_range}
 use Rattle.hp_model.specs.files.Page.{Copy, Page}
 use Rattle.hp_model.specs.machine.Sound.{FileHasCopy, HasCopy, IsSoundMap, is_stamp, map_has, owns_stamp}
 use Rattle.hp_model.proofs.Editing.{get_or-edit_in, length-edit_range}
@@ -118,9 +117,6 @@ truncated_keeps n f =
     record { private = at.private; below = omega (arith, long, short); consumed = λ o. less.consumed o i a has (at.consumed (less.owner o)) })))
 
 -- ---- a map more
-
-blank_at : (n k : ℕ) → copy_of {C = Copy} (get_or (replicate n (Live false None)) k Gone) ≡ None
-blank_at n k = grind (arith, common_steps)
 
 module _ (task number a n : ℕ) (sharing : Sharing) (reserving : Reserving) where
   abbrev new : Map

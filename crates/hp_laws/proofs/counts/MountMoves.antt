@@ -1,9 +1,9 @@
 -- How the counts of a mount change with one of its files.
 use Rattle.std.proofs.lemmas.Grind.{common_steps}
-use Rattle.std.proofs.Common.{◌≡◌, ◌==◌, subst, ℕ, ◌+◌, ◌<◌, ◌≤◌, Bool, true, false, Option, None, Some, List, [], ◌∷◌, length, map, refl, sym, ap, ◌∙◌, cond, arith}
+use Rattle.std.proofs.Common.{◌≡◌, ◌==◌, subst, ℕ, ◌+◌, ◌<◌, ◌≤◌, Bool, Option, None, Some, List, length, map, refl, sym, ap, ◌∙◌, cond, arith}
 use Rattle.std.specs.List.{list_any, slice_index_or}
 use Rattle.std.specs.Option.{option_map}
-use Rattle.std.proofs.lemmas.List.Sums.{sum_by-set, sum_by-append, sum_by-cons}
+use Rattle.std.proofs.lemmas.List.Sums.{sum_by-set}
 use Rattle.hp_model.specs.files.File.{with_file, new_file, File, Mount}
 use Rattle.hp_model.specs.files.GiveBack.{swept, is_kept}
 use Rattle.hp_model.specs.Lists.{edit_at, found}

@@ -1,6 +1,6 @@
 -- A mount stays sound where its files do, and where no number and no name comes twice.
 use Rattle.std.proofs.lemmas.Grind.{common_steps}
-use Rattle.std.proofs.Common.{◌≡◌, ℕ, ◌+◌, ◌≤◌, Bool, true, false, ◌&&◌, ◌==◌, not, None, List, [], ◌∷◌, ◌++◌, length, map, cond, arith, refl, sym, ap, ◌∙◌, subst, if◌then◌else◌, nat_lt}
+use Rattle.std.proofs.Common.{◌≡◌, ℕ, ◌+◌, ◌≤◌, Bool, true, false, ◌==◌, not, None, List, [], ◌∷◌, ◌++◌, length, map, cond, arith, refl, sym, ap, ◌∙◌, subst, if◌then◌else◌, nat_lt}
 use Rattle.std.specs.List.{count_by, filter, flat_map, sum_by}
 use Rattle.std.proofs.lemmas.Bool.{and_from, and_parts, both_ways, eq-eqb, eqb-true, ltb-false, ltb-true, not-true}
 use Rattle.std.proofs.lemmas.List.{get_or_default}
@@ -161,9 +161,6 @@ new_sound m g keeps numbers names sound =
     none_has i a has = (let there = map_there (new_file None) has.0 i a has.1 in absurd (omega (arith, there)))
 
 -- ---- numbers of a file's maps
-
-same_bit : (p : Map → Bool) (h : Map → Map) → ((x : Map) → p (h x) ≡ p x) → (xs : List Map) → count_by p (map h xs) ≤ count_by p xs
-same_bit p h same xs = sum_by-map_le (λ x. bit (p x)) h (λ x. bit_le (p (h x)) (p x) (λ e. sym (same x) ∙ e)) xs
 
 pub mapped_numbers : (h : Map → Map) → ((x : Map) → (h x).task ≡ x.task) → ((x : Map) → (h x).number ≡ x.number)
     → (task number : ℕ) (xs : List Map) → count_by (is_map task number) (map h xs) ≤ count_by (is_map task number) xs

@@ -73,9 +73,6 @@ some_node q (c ∷ cs) e =
     (λ r. (let rest = some_node q cs r in (rest.0, among_if (c.page.node == rest.0) q c.stamp (held_at rest.0 cs) rest.1)))
     (or_cases (c.stamp == q) (is_among q (map (λ c. c.stamp) cs)) e)
 
-at_most_one : (b : Bool) (n : ℕ) → cond b n (n + 1) ≤ n + 1
-at_most_one b n = grind (arith, common_steps)
-
 one_step : (x b : Bool) (s : ℕ) (rest : List ℕ) → (x ≡ true → b ≡ true → is_among s rest ≡ true) →
     length (distinct (cons_option (if x then Some s else None) rest)) ≤ length (distinct rest) + cond (not b && x) 1 0
 one_step x b s rest h = grind (arith, common_steps)

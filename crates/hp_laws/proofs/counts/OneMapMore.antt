@@ -1,6 +1,6 @@
 -- A file with one map more: its usage is higher by what the map asks for.
 use Rattle.std.proofs.lemmas.Grind.{common_steps}
-use Rattle.std.proofs.Common.{◌≡◌, ℕ, zero, suc, ◌+◌, ◌-◌, Bool, true, false, ◌||◌, ◌==◌, None, List, [], ◌∷◌, ◌++◌, length, map, take, drop, replicate, refl, ap, ◌∙◌, cond, arith}
+use Rattle.std.proofs.Common.{◌≡◌, ℕ, zero, suc, ◌+◌, ◌-◌, Bool, false, ◌||◌, ◌==◌, None, List, [], ◌∷◌, ◌++◌, map, take, drop, replicate, refl, ap, ◌∙◌, cond, arith}
 use Rattle.std.specs.List.{list_any, count_by}
 use Rattle.std.proofs.lemmas.List.Folds.{list_any-append}
 use Rattle.std.proofs.lemmas.List.Sums.{sum_by-append, sum_by-take-drop, sum_by-cons}
@@ -16,10 +16,8 @@ use Rattle.hp_model.specs.files.MountCounts.{is_waiting, is_page_at, owner_reser
 use Rattle.hp_model.specs.files.Page.{Page, Copy}
 use Rattle.hp_model.specs.machine.Sound.{place_has, map_has, file_has}
 use Rattle.hp_model.specs.declared.cell.Cell.{Cell}
-use Rattle.hp_model.specs.declared.cell.Cell.TheVariants.{Hole, Entered, Present}
-use Rattle.hp_model.specs.declared.place.Place.{Place}
+use Rattle.hp_model.specs.declared.cell.Cell.TheVariants.{Hole, Entered}
 use Rattle.hp_model.specs.declared.place.Place.TheVariants.{Live}
-use Rattle.hp_laws.proofs.counts.Falls.{no_holes}
 use Rattle.hp_laws.proofs.counts.FileMoves.{FileGrows, spent}
 use Rattle.hp_laws.proofs.counts.CopiesHeld.{stamps_stay, stamps_at_stay}
 use Rattle.hp_laws.proofs.lists.Places.{sum_by-map_same}
@@ -31,9 +29,6 @@ pub record CellsWait (xs ys : List (Cell Page)) (u : ℕ) : Type 0 where
   pub pages : count_by has_page ys ≡ count_by has_page xs
   pub waits : count_by is_waiting ys ≡ count_by is_waiting xs + u
   pub each : (n : ℕ) → count_by (is_page_at n) ys ≡ count_by (is_page_at n) xs
-
-longer : (test : Cell Page → Bool) → test Hole ≡ false → (n : ℕ) (xs : List (Cell Page)) → count_by test (at_least n xs) ≡ count_by test xs
-longer test none n xs = grind (arith, common_steps)
 
 pub cells_longer : (n : ℕ) (xs : List (Cell Page)) → CellsWait xs (at_least n xs) 0
 cells_longer n xs = grind (arith, common_steps)

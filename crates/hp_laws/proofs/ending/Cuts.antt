@@ -6,18 +6,18 @@ use Rattle.std.specs.List.{list_any}
 use Rattle.std.specs.Str.{bytes_eq}
 use Rattle.std.proofs.lemmas.Slice.Eq.{bytes_eq-Decides}
 use Rattle.std.proofs.lemmas.Bool.{cases_eq, cases_lt, eq-eqb, eqb-true, false_from_ne_true, leb-false, leb-true, ltb-false, ltb-true}
-use Rattle.std.proofs.lemmas.List.{get_or-set_other, get_or-set_same, get_or-take, get_or_past, length-take}
+use Rattle.std.proofs.lemmas.List.{get_or-set_other, get_or-set_same, get_or_past}
 use Rattle.std.proofs.lemmas.List.Elements.{All-get_or}
 use Rattle.hp_model.specs.declared.cell.Cell.{Cell}
-use Rattle.hp_model.specs.declared.cell.Cell.TheVariants.{Hole, Entered, Present}
+use Rattle.hp_model.specs.declared.cell.Cell.TheVariants.{Hole}
 use Rattle.hp_model.specs.declared.event.SlotEvent.{SlotEvent}
 use Rattle.hp_model.specs.declared.event.SlotEvent.TheVariants as slot
 use Rattle.hp_model.specs.declared.place.Place.{Place}
-use Rattle.hp_model.specs.declared.place.Place.TheVariants.{Gone, Live}
+use Rattle.hp_model.specs.declared.place.Place.TheVariants.{Gone}
 use Rattle.hp_model.specs.files.File.{File, Mount, cell_at, cell_punched, cells_to, new_file, with_file}
 use Rattle.hp_model.specs.files.GiveBack.{punched, truncated, unlinked}
 use Rattle.hp_model.specs.Lists.{edit_range, found}
-use Rattle.hp_model.specs.files.Mapping.{Map, copy_of, is_map, map_punched, no_map, place_at, without_copy}
+use Rattle.hp_model.specs.files.Mapping.{Map, is_map, map_punched, no_map, place_at, without_copy}
 use Rattle.hp_model.specs.files.Page.{Copy, Page, zeros}
 use Rattle.hp_model.specs.machine.Promises.{file_in, is_in, map_in, means_file, shape_of}
 use Rattle.hp_model.specs.machine.SlotEvent.{file_named, has_name}

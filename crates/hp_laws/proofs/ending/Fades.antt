@@ -1,6 +1,6 @@
 -- What a script keeps whose events on slots only end maps of one task: a fork's, or an exit's.
 use Rattle.std.proofs.lemmas.Grind.{common_steps}
-use Rattle.std.proofs.Common.{false, ◌≡◌, ⊎_elim, inl, inr, subst, ℕ, ◌<◌, ◌≤◌, ◌==◌, Option, None, Some, Ok, Err, List, [], ◌∷◌, ◌++◌, length, refl, sym, ap, ◌∙◌, arith}
+use Rattle.std.proofs.Common.{false, ◌≡◌, inl, inr, subst, ℕ, ◌<◌, ◌≤◌, ◌==◌, Option, None, Some, Ok, Err, List, [], ◌∷◌, ◌++◌, length, refl, sym, ap, ◌∙◌, arith}
 use Rattle.std.specs.List.{range_with_len, slice_index_or, slice_set}
 use Rattle.std.proofs.lemmas.Bool.{cases_eq, ltb-true}
 use Rattle.std.proofs.lemmas.List.{get_or-set_other, get_or-set_same}
@@ -26,12 +26,12 @@ use Rattle.hp_model.specs.machine.Step.{Answer_with, Do, IsScripted, IsScript, S
 use Rattle.hp_laws.specs.Balance.{Always, left_by}
 use Rattle.hp_laws.proofs.names.Changes.{KeptMap, SlotKeeps}
 use Rattle.hp_laws.proofs.counts.Falls.{forked_falls, without_falls}
-use Rattle.hp_laws.proofs.names.FilesStay.{files_same, files_stay, files_then}
+use Rattle.hp_laws.proofs.names.FilesStay.{files_stay, files_then}
 use Rattle.hp_laws.proofs.names.Follows.{both_same}
 use Rattle.hp_laws.proofs.counts.MountMoves.{files_sweep}
 use Rattle.hp_laws.proofs.steps.Outcomes.{either_way, event_ends}
 use Rattle.hp_laws.proofs.accesses.SlotShows.{always_gives, always_unless}
-use Rattle.hp_laws.proofs.ending.Unmaps.{exit_keeps, exit_whole, fork_keeps, fork_whole, same_keeps}
+use Rattle.hp_laws.proofs.ending.Unmaps.{exit_keeps, exit_whole, fork_keeps, fork_whole}
 
 -- ---- one slot
 
@@ -50,8 +50,6 @@ pub record Fades (size gone : ℕ) (x y : Slot) : Type 0 where
   pub files : KeepsFiles x y
 
 module _ (size gone : ℕ) where
-  none_keeps : SlotKeeps size None (slot.ExitMaps gone) None
-  none_keeps = grind (arith, common_steps)
 
   pub stays : (x : Slot) → Fades size gone x x
   stays x = grind (arith, common_steps)

@@ -22,9 +22,9 @@ use Rattle.hp_model.specs.files.Mapping.{Map, is_map, is_of}
 use Rattle.hp_model.specs.Lists.{is_among}
 use Rattle.hp_model.specs.machine.Event.{IsEvent, has_maps_of, with_table}
 use Rattle.hp_model.specs.machine.Gone.{IsGone}
-use Rattle.hp_model.specs.machine.Named.{named_on, spot_on}
-use Rattle.hp_model.specs.machine.Plan.{Answered, Choice, Outcome, Refused, Reply, Slot, gives}
-use Rattle.hp_model.specs.machine.SlotEvent.{slot_event, umount_tests}
+use Rattle.hp_model.specs.machine.Named.{spot_on}
+use Rattle.hp_model.specs.machine.Plan.{Answered, Choice, Outcome, Refused, Reply, Slot}
+use Rattle.hp_model.specs.machine.SlotEvent.{slot_event}
 use Rattle.hp_model.specs.machine.State.{State, slot_at}
 use Rattle.hp_model.specs.machine.Step.{Answer_with, IsScript, IsScripted, IsStep, exit_slots, when_done}
 use Rattle.hp_model.specs.machine.Table.{home_of, removed, when_known}
@@ -32,7 +32,6 @@ use Rattle.hp_laws.specs.Balance.{left_by}
 use Rattle.hp_laws.proofs.making.FilesMade.{any_in_files, spot_none}
 use Rattle.hp_laws.proofs.making.NewNumbers.{found_not}
 use Rattle.hp_laws.proofs.steps.Outcomes.{Always, event_ends, reply_of}
-use Rattle.hp_laws.proofs.accesses.SlotShows.{always_gives, always_unless}
 use Rattle.hp_laws.proofs.ending.RefusedForks.{either_with, exit_becomes}
 use Rattle.hp_model.specs.machine.Settled.{IsSettledState}
 use Rattle.hp_laws.proofs.sections.PoolTied.{left_sound}

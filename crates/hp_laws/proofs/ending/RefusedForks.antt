@@ -37,7 +37,6 @@ use Rattle.hp_model.proofs.RowMoves.{puts_are}
 use Rattle.hp_laws.specs.Balance.{Always, left_by}
 use Rattle.hp_laws.proofs.steps.Outcomes.{either_way, event_ends, reply_of}
 use Rattle.hp_laws.proofs.steps.RefusalsKeep.{refusals_change_nothing}
-use Rattle.hp_laws.proofs.accesses.SlotShows.{always_gives, always_unless}
 use Rattle.hp_laws.proofs.settled.StaysSettled.{event_settled}
 use Rattle.hp_laws.proofs.ending.Swept.{forked_without, swept_twice, twice_without, without_after, without_none}
 use Rattle.hp_laws.proofs.steps.Walk.{plan_unless}

@@ -29,11 +29,6 @@ use Rattle.hp_laws.proofs.lists.AtMostOne.{bit, some_counted}
 use Rattle.hp_laws.proofs.accesses.SlotShows.{always_gives, always_unless, always_value}
 
 module _ (task number a b : ℕ) where
-  abbrev test : Map → Bool
-  test y = is_map task number y
-
-  abbrev cut : Map → Map
-  cut y = map_unmapped (is_map task number) a b y
 
   abbrev left : List Map → List Map
   left ms = filter (is_left (is_map task number)) (map (map_unmapped (is_map task number) a b) ms)
@@ -90,9 +85,6 @@ module _ (task number a b : ℕ) where
           by_keep false some = some
 
   -- ---- files
-
-  abbrev has : File → Bool
-  has f = list_any (is_map task number) f.maps
 
   abbrev cut_file : File → File
   cut_file f = file_unmapped (is_map task number) a b f

@@ -223,9 +223,6 @@ module _ (size : ℕ) (m : Mount) (sound : IsSoundMount m) (task number i : ℕ)
   abbrev at : IsSpot m s
   at = spot_is m (is_map task number) s found
 
-  abbrev Holds : Mount → Type 0
-  Holds n = Held size m sound s at i intent n
-
   module _ (n : Mount) (held : Held size m sound s (spot_is m (is_map task number) s found) i intent n) (stays : Placed m n) (whole : IsSoundMount n) (x : Step)
       (as_spent : (p q : Spot) (j : ℕ) → IsSpent (spot m (is_map task number)) i p q j → ChangesPlace (Some m) x (Some n) p q j)
       (as_taken : (p q : Spot) (j : ℕ) → intent ≡ Write → IsTaken (spot m (is_map task number)) (spot n (is_map task number)) i p q j → ChangesPlace (Some m) x (Some n) p q j)

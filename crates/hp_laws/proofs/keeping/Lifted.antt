@@ -1,10 +1,9 @@
 -- From events of a slot to steps: what each event keeps of its slot, each step keeps of all slots but those that it unmounts or remounts.
 use Rattle.std.proofs.Common.{arith}
 use Rattle.std.proofs.lemmas.Grind.{common_steps}
-use Rattle.std.proofs.Common.{◌≡◌, inl, inr, subst, ℕ, ◌<◌, Bool, true, false, None, Some, Ok, List, [], length, refl, sym, ap}
-use Rattle.std.specs.List.{slice_index_or, slice_set}
-use Rattle.std.proofs.lemmas.Bool.{cases_eq, eq-eqb, ltb-true}
-use Rattle.std.proofs.lemmas.List.{get_or-set_other, get_or-set_same}
+use Rattle.std.proofs.Common.{◌≡◌, ℕ, ◌<◌, Bool, true, false, None, Some, Ok, [], length, sym, ap}
+use Rattle.std.specs.List.{slice_set}
+use Rattle.std.proofs.lemmas.Bool.{ltb-true}
 use Rattle.hp_model.specs.declared.answer.Answer.{Answer}
 use Rattle.hp_model.specs.declared.event.Event.{Event}
 use Rattle.hp_model.specs.declared.event.Event.TheVariants.{Tasks, Slot as OnSlot, Pool as OnPool}
@@ -13,7 +12,7 @@ use Rattle.hp_model.specs.declared.event.SlotEvent.TheVariants as slot
 use Rattle.hp_model.specs.declared.step.Step.{Step}
 use Rattle.hp_model.specs.files.File.{Mount}
 use Rattle.hp_model.specs.machine.Event.{IsEvent}
-use Rattle.hp_model.specs.machine.Plan.{Choice, Outcome, Refused, Answered, Plan, Finish, Ask, Slot, Reply}
+use Rattle.hp_model.specs.machine.Plan.{Choice, Outcome, Refused, Answered, Plan, Slot, Reply}
 use Rattle.hp_model.specs.machine.Promises.{is_relimited}
 use Rattle.hp_model.specs.machine.SlotEvent.{slot_event}
 use Rattle.hp_model.specs.machine.State.{State, slot_at}
@@ -32,9 +31,6 @@ pub use Rattle.hp_laws.proofs.steps.Walk.{relimits}
 abbrev pub EndsBy : (Slot → Slot → Type 0) → Bool → Slot → Outcome → Type 0
 EndsBy R ends old (Refused r) = Unit {0}
 EndsBy R ends old (Answered a new) = ends ≡ false → R old new
-
-ended : (R : Slot → Slot → Type 0) (old : Slot) (p : Plan) → Always (EndsBy R true old) p
-ended R old p = grind (arith, common_steps)
 
 -- for an event that ends nothing it is shown by the mount that it leaves
 pub ends_on : (R : Slot → Slot → Type 0) (m : Mount) (Q : Mount → Type 0) → ((n : Mount) → Q n → R (Some m) (Some n)) → (o : Outcome) → On Q o → EndsBy R false (Some m) o

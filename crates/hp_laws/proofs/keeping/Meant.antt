@@ -1,30 +1,26 @@
 -- What names and numbers mean after a step: what an event keeps of its slot its step keeps of all slots.
 use Rattle.std.proofs.Common.{arith}
 use Rattle.std.proofs.lemmas.Grind.{common_steps}
-use Rattle.std.proofs.Common.{◌≡◌, ⊎_elim, inl, inr, subst, ℕ, ◌<◌, Bool, true, false, ◌&&◌, ◌==◌, not, None, Some, Ok, Err, List, length, refl, sym, ap, ◌∙◌, if◌then◌else◌, nat_le}
-use Rattle.std.specs.Str.{bytes_eq}
+use Rattle.std.proofs.Common.{◌≡◌, inl, inr, subst, ℕ, ◌<◌, Bool, true, false, ◌==◌, None, Some, Ok, Err, List, length, refl, sym, ap, ◌∙◌}
 use Rattle.std.specs.List.{slice_index_or, slice_set}
-use Rattle.std.proofs.lemmas.Bool.{cases_eq, eq-eqb, eqb-true, false_from_ne_true, ltb-true}
+use Rattle.std.proofs.lemmas.Bool.{cases_eq, eqb-true, false_from_ne_true, ltb-true}
 use Rattle.std.proofs.lemmas.List.{get_or-set_other, get_or-set_same}
 use Rattle.hp_model.specs.declared.answer.Answer.{Answer}
 use Rattle.hp_model.specs.declared.event.Event.{Event}
 use Rattle.hp_model.specs.declared.event.Event.TheVariants.{Tasks, Slot as OnSlot, Pool as OnPool}
 use Rattle.hp_model.specs.declared.event.PoolEvent.{PoolEvent}
-use Rattle.hp_model.specs.declared.event.PoolEvent.TheVariants as pool
 use Rattle.hp_model.specs.declared.event.SlotEvent.{SlotEvent}
 use Rattle.hp_model.specs.declared.event.SlotEvent.TheVariants as slot
 use Rattle.hp_model.specs.declared.event.TableEvent.{TableEvent}
 use Rattle.hp_model.specs.declared.event.TableEvent.TheVariants as table
 use Rattle.hp_model.specs.declared.refusal.Refusal.{Refusal}
-use Rattle.hp_model.specs.declared.step.Intent.TheVariants.{Read, Write}
 use Rattle.hp_model.specs.declared.step.Step.{Step}
-use Rattle.hp_model.specs.declared.step.Step.TheVariants.{Exit, Fork, Store}
+use Rattle.hp_model.specs.declared.step.Step.TheVariants.{Exit, Fork}
 use Rattle.hp_model.specs.machine.Event.{IsEvent}
 use Rattle.hp_model.specs.files.File.{File, cell_at}
-use Rattle.hp_model.specs.files.Page.{zeros}
 use Rattle.hp_model.specs.machine.Plan.{Choice, Outcome, Refused, Answered, Reply, Slot}
-use Rattle.hp_model.specs.machine.Promises.{IsKeptMap, LosesTo, SameFiles, StillMapped, StillNamed, is_at, is_ended_name, is_ended_number, is_in, is_shared_of, map_at}
-use Rattle.hp_model.specs.machine.Promises.{map_named, means_file, named_on, over, reaches, seen_over, shown_in, spot_on, stays_mapped, stored_over}
+use Rattle.hp_model.specs.machine.Promises.{IsKeptMap, SameFiles, StillMapped, StillNamed, is_ended_name, is_ended_number}
+use Rattle.hp_model.specs.machine.Promises.{map_named, named_on, seen_over, spot_on, stored_over}
 use Rattle.hp_model.specs.machine.Settled.{IsSettledState}
 use Rattle.hp_model.specs.machine.SlotEvent.{slot_event}
 use Rattle.hp_model.specs.machine.Sound.{IsSound}
@@ -33,7 +29,7 @@ use Rattle.hp_model.specs.machine.State.{State, slot_at}
 use Rattle.hp_model.specs.machine.Step.{IsScripted, IsStep}
 use Rattle.hp_model.specs.files.Value.{shown, value}
 use Rattle.hp_laws.specs.Balance.{left_by}
-use Rattle.hp_laws.proofs.names.Changes.{KeepsSlot, KeptMap, LosesBy, SlotKeeps, ends_name, ends_number, seen_by, stored_by}
+use Rattle.hp_laws.proofs.names.Changes.{KeepsSlot, KeptMap, SlotKeeps, ends_name, ends_number, stored_by}
 use Rattle.hp_laws.proofs.ending.Fades.{AllFade, exit_fade, exit_refused, fork_fade}
 use Rattle.hp_laws.proofs.steps.Outcomes.{Always, event_ends, reply_of}
 use Rattle.hp_laws.proofs.sections.PoolTied.{left_sound}
@@ -85,22 +81,9 @@ refused_stores s step r l j x old = grind (arith, common_steps)
 refused_writes : (s : State) (step : Step) (r : Refusal) (k j l x : ℕ) (old : List ℕ) → old ≡ seen_over s step (Err r) k j l x old
 refused_writes s step r o j l x old = grind (arith, common_steps)
 
-here : (k : ℕ) → (k == k) ≡ true
-here k = eq-eqb k k refl
-
--- in the slot of the event, and elsewhere
-picked : (k : ℕ) (c : Bool) (new old : List ℕ) → (if c then new else old) ≡ (if (k == k) && c then new else old)
-picked k c new old = ap (λ b. if b && c then new else old) (sym (here k))
-
-passed : (b c : Bool) (new old : List ℕ) → b ≡ false → old ≡ (if b && c then new else old)
-passed b c new old e = ap (λ b. if b && c then new else old) (sym e)
-
 module _ (s : State) (k : ℕ) (a : Answer) where
   stored_here : (e : SlotEvent) (j i : ℕ) (old : List ℕ) → stored_by s.page_size (slot_at s k) e j i old ≡ stored_over s (slot_step k e) (Ok a) k j i old
   stored_here e j i old = grind (arith, common_steps)
-
-  seen_here : (e : SlotEvent) (j l i : ℕ) (old : List ℕ) → seen_by s.page_size (slot_at s k) e j l i old ≡ seen_over s (slot_step k e) (Ok a) k j l i old
-  seen_here e j l i old = grind (arith, common_steps)
 
   -- what the event does not end its step does not end
   name_here : (e : SlotEvent) (name : List ℕ) → ends_name e name ≡ is_ended_name (slot_step k e) (Ok a) k name
@@ -115,10 +98,6 @@ module _ (s : State) (k : ℕ) (a : Answer) where
 
     seen_there : (e : SlotEvent) (j l i : ℕ) (old : List ℕ) → old ≡ seen_over s (slot_step k e) (Ok a) o j l i old
     seen_there e j l i old = grind (arith, common_steps)
-
--- a map that lost its copy by the event lost it by the step
-lost_here : (s : State) (k : ℕ) (e : SlotEvent) (t : State) (p q : Spot) (i : ℕ) → LosesBy (slot_at s k) e (slot_at t k) p q i → LosesTo s (slot_step k e) t k p q i
-lost_here s k e t p q i lost = grind (arith, common_steps)
 
 -- ---- a step
 

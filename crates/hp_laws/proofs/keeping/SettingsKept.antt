@@ -2,10 +2,10 @@
 use Rattle.std.proofs.Common.{arith}
 use Rattle.std.proofs.lemmas.Grind.{common_steps}
 use Rattle.std.proofs.Common.{◌≡◌, subst, ℕ, ◌==◌, Bool, true, false, None, Option, Some, Ok, Err, List, [], ◌∷◌, ◌++◌, length, nat_le, refl, sym, ap, ◌∙◌, if◌then◌else◌}
-use Rattle.std.specs.List.{filter_map, range_with_len, slice_set}
+use Rattle.std.specs.List.{range_with_len}
 use Rattle.std.proofs.lemmas.Bool.{cond_both}
 use Rattle.hp_model.specs.declared.answer.Answer.{Answer}
-use Rattle.hp_model.specs.declared.answer.Answer.TheVariants.{Done, Home, Names}
+use Rattle.hp_model.specs.declared.answer.Answer.TheVariants.{Done, Home}
 use Rattle.hp_model.specs.declared.event.Event.{Event}
 use Rattle.hp_model.specs.declared.event.Event.TheVariants.{Tasks, Slot as OnSlot, Pool as OnPool}
 use Rattle.hp_model.specs.declared.event.PoolEvent.TheVariants as pool
@@ -13,7 +13,7 @@ use Rattle.hp_model.specs.declared.event.SlotEvent.{SlotEvent}
 use Rattle.hp_model.specs.declared.event.SlotEvent.TheVariants as slot
 use Rattle.hp_model.specs.declared.event.TableEvent.TheVariants as table
 use Rattle.hp_model.specs.declared.refusal.Refusal.{Refusal}
-use Rattle.hp_model.specs.declared.refusal.Refusal.TheVariants.{NoSuchFile, NoSuchNode, NoSuchTask, OutOfMemory, OutOfRange, TaskExists, TooMany}
+use Rattle.hp_model.specs.declared.refusal.Refusal.TheVariants.{NoSuchNode, NoSuchTask, OutOfRange, TaskExists, TooMany}
 use Rattle.hp_model.specs.declared.section.PoolAnswer.{PoolAnswer}
 use Rattle.hp_model.specs.declared.section.Section.{Section}
 use Rattle.hp_model.specs.declared.section.Section.TheVariants.{Grant, GrantAndReturn, GrantPage, GiveBack, ReadAndGiveBack, ReadAndGrant, TakePage, FillPages}
@@ -21,24 +21,19 @@ use Rattle.hp_model.specs.declared.step.Step.{Step}
 use Rattle.hp_model.specs.declared.step.Step.TheVariants as step
 use Rattle.hp_model.specs.machine.Event.{IsEvent, has_maps_of, with_pool_reply, with_table}
 use Rattle.hp_model.specs.machine.Machine.{pool_of}
-use Rattle.hp_model.specs.machine.Plan.{Answered, Ask, Choice, Finish, Outcome, Plan, Reply, Slot}
+use Rattle.hp_model.specs.machine.Plan.{Ask, Finish, Plan, Reply}
 use Rattle.hp_model.specs.machine.Settings.{IsSet, TellsNr, home_after, nr_after, only_reads, overcommit_after}
 use Rattle.hp_model.specs.machine.Settled.{IsSettledState}
 use Rattle.hp_model.specs.Profile.{most_overcommit}
-use Rattle.hp_model.specs.machine.SlotEvent.{bytes_answer, file_named, read, read_tests, slot_event, stat}
-use Rattle.hp_model.specs.files.File.{cell_at}
-use Rattle.hp_model.specs.files.Value.{shown}
-use Rattle.hp_laws.specs.Balance.{left_by}
+use Rattle.hp_model.specs.machine.SlotEvent.{slot_event}
 use Rattle.hp_laws.proofs.ending.Fades.{exit_refused}
-use Rattle.hp_laws.proofs.accesses.SlotShows.{always_unless, always_value}
-use Rattle.std.proofs.lemmas.List.{set-get_or}
 use Rattle.hp_model.specs.machine.State.{State, slot_at}
 use Rattle.hp_model.specs.machine.Step.{Answer_with, IsScript, IsScripted, IsStep, exit_slots, fork_slots, or_undone, undone, when_done}
 use Rattle.hp_model.specs.machine.Table.{added, home_of, is_crowded, is_known, or_refused, removed, when_known}
 use Rattle.hp_model.specs.pool.Grant.{can_grant}
 use Rattle.hp_model.specs.pool.Pool.{section}
 use Rattle.hp_model.specs.pool.PoolCounts.{Pool}
-use Rattle.hp_laws.proofs.steps.Outcomes.{Always, either_way, event_ends}
+use Rattle.hp_laws.proofs.steps.Outcomes.{either_way}
 use Rattle.hp_model.proofs.RowMoves.{puts_are}
 use Rattle.hp_laws.proofs.ending.RefusedForks.{Gives, SameSetting, event_setting, fork_refused}
 use Rattle.hp_laws.proofs.steps.Whole.{by_event, is_whole, slot_step, step_of}
@@ -233,12 +228,6 @@ module _ (s : State) where
       by_event s (λ x reply t. IsSet s x reply t) (λ x r early. leaves x (Err r) s (refused_unset x r) (setting_same s s refl)) event_sets (forked_sets st) exited_sets reply t x is
 
 -- ---- steps that only read
-
-abbrev Same : Slot → Outcome → Type 0
-Same old o = left_by old o ≡ old
-
-reads_same : (size k : ℕ) (c : Choice) (old : Slot) (e : SlotEvent) → only_reads (slot_step k e) ≡ true → Always (Same old) (slot_event size k c old e)
-reads_same size k c old e on = grind (arith, common_steps)
 
 module _ (s : State) where
   event_reads : (e : Event) (reply : Reply) (t : State) → is_whole e ≡ true → IsEvent s e reply t → only_reads (step_of e) ≡ true → t.slots ≡ s.slots

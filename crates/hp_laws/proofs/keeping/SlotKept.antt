@@ -2,12 +2,11 @@
 use Rattle.std.proofs.Common.{arith}
 use Rattle.std.proofs.lemmas.Grind.{common_steps}
 use Rattle.std.proofs.Common.{◌≡◌, ⊎_elim, inl, inr, subst, ℕ, ◌+◌, true, None, Some, List, [], ◌∷◌, length, refl, sym, ◌∙◌, nat_le, ◌<◌, Option}
-use Rattle.std.proofs.lemmas.Bool.{leb-false}
 use Rattle.hp_model.specs.declared.answer.Answer.TheVariants.{Done, MapNo}
 use Rattle.hp_model.specs.declared.event.SlotEvent.{SlotEvent}
 use Rattle.hp_model.specs.declared.event.SlotEvent.TheVariants as slot
 use Rattle.hp_model.specs.declared.refusal.Refusal.{Refusal}
-use Rattle.hp_model.specs.declared.refusal.Refusal.TheVariants.{BeyondEnd, OutOfMemory, OutOfRange, MountFull}
+use Rattle.hp_model.specs.declared.refusal.Refusal.TheVariants.{OutOfMemory, MountFull}
 use Rattle.hp_model.specs.declared.step.Intent.{Intent}
 use Rattle.hp_model.specs.declared.step.Intent.TheVariants.{Read, Write}
 use Rattle.hp_model.specs.files.Access.{access}
@@ -16,9 +15,9 @@ use Rattle.hp_model.specs.files.Fork.{forked}
 use Rattle.hp_model.specs.files.GiveBack.{punched, swept, truncated, unlinked, unmapped_from, without_task}
 use Rattle.hp_model.specs.files.MakeMap.{asked, mapped, next_number, with_new}
 use Rattle.hp_model.specs.files.Mapping.{is_map, map_punched}
-use Rattle.hp_model.specs.machine.Plan.{Ask, Choice, Outcome, Refused, Answered, Finish, Plan, Slot, gives}
+use Rattle.hp_model.specs.machine.Plan.{Choice, Outcome, Refused, Answered, Plan, Slot, gives}
 use Rattle.hp_model.specs.machine.Promises.{is_in, map_on, shown_on, seen_on, spot_on}
-use Rattle.hp_model.specs.machine.SlotEvent.{fault, is_beyond, is_unmapped, load, store}
+use Rattle.hp_model.specs.machine.SlotEvent.{fault, load, store}
 use Rattle.hp_model.specs.machine.SlotEvent.{slot_event, unentered, has_name}
 use Rattle.hp_model.specs.machine.Sound.{IsSound, IsSoundMount}
 use Rattle.hp_model.specs.files.Spot.{Spot, spot}
@@ -29,7 +28,7 @@ use Rattle.hp_laws.proofs.names.Follows.{follow, sweep_follows}
 use Rattle.hp_laws.proofs.names.Keys.{keys}
 use Rattle.hp_laws.proofs.names.Meanings.{fault_stays, load_stays, placed_map, placed_new, placed_on, placed_same, store_stays, placed_filled}
 use Rattle.hp_laws.proofs.counts.MountMoves.{IsSpot, spot_is, file_at}
-use Rattle.hp_laws.proofs.steps.Outcomes.{Always, always_test, always_weaker}
+use Rattle.hp_laws.proofs.steps.Outcomes.{Always, always_weaker}
 use Rattle.hp_laws.proofs.names.Placed.{Placed}
 use Rattle.hp_laws.proofs.accesses.StoredMaps.{IsLostAt, touched_marks, touched_seen}
 use Rattle.hp_laws.proofs.accesses.Shown.{On, Result, Same, read_same, write_done}
@@ -204,10 +203,6 @@ module _ (size k : ℕ) (c : Choice) (m : Mount) where
 
   umount_keeps : Always (KeepsSlot size (Some m) slot.Umount) (gives Done (Some m) None)
   umount_keeps = grind (arith, common_steps)
-
--- on a slot that is not mounted there is nothing to keep
-none_keeps : (size : ℕ) (e : SlotEvent) (y : Slot) → SlotKeeps size None e y
-none_keeps size e y = grind (arith, common_steps)
 
 open_keeps : (size : ℕ) (e : SlotEvent) (p : Plan) → Always (KeepsSlot size None e) p
 open_keeps size e p = grind (arith, common_steps)

@@ -1,15 +1,10 @@
 -- An exit and a fork leave every map of other tasks as it was.
 use Rattle.std.proofs.Common.{arith}
 use Rattle.std.proofs.lemmas.Grind.{common_steps}
-use Rattle.std.proofs.Common.{◌≡◌, ℕ, true, refl}
+use Rattle.std.proofs.Common.{◌≡◌, ℕ, true}
 use Rattle.hp_model.specs.declared.event.Event.{Event}
-use Rattle.hp_model.specs.declared.event.Event.TheVariants.{Tasks, Slot as OnSlot, Pool as OnPool}
-use Rattle.hp_model.specs.declared.event.PoolEvent.TheVariants as pool
-use Rattle.hp_model.specs.declared.event.SlotEvent.TheVariants as slot
-use Rattle.hp_model.specs.declared.event.TableEvent.TheVariants as table
 use Rattle.hp_model.specs.declared.refusal.Refusal.{Refusal}
 use Rattle.hp_model.specs.declared.step.Step.{Step}
-use Rattle.hp_model.specs.declared.step.Step.TheVariants as step
 use Rattle.hp_model.specs.machine.Event.{IsEvent}
 use Rattle.hp_model.specs.machine.Plan.{Reply}
 use Rattle.hp_model.specs.machine.Promises.{AreWhole, LeavesWhole}

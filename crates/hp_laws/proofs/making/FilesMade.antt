@@ -2,9 +2,9 @@
 use Rattle.std.proofs.lemmas.Grind.{common_steps}
 use Rattle.std.proofs.Common.{◌≡◌, subst, ℕ, ◌<◌, ◌||◌, Bool, true, false, not, None, Option, Some, Err, List, nat_le, nat_lt, ◌≤◌, max, ◌==◌, ⊎_elim, arith, ◌-◌}
 use Rattle.std.proofs.Common.{[], ◌∷◌, ◌++◌, length, drop, is_some, option_map, refl, sym, ap, ◌∙◌, get_or, if◌then◌else◌}
-use Rattle.std.specs.List.{flat_map, list_any, slice_index_or, slice_set}
+use Rattle.std.specs.List.{flat_map, list_any, slice_set}
 use Rattle.std.proofs.lemmas.Bool.{eq-eqb, eqb-true, false_from_ne_true, ltb-true, and_parts, cases_lt, leb-false, leb-true, or_parts}
-use Rattle.std.proofs.lemmas.List.{get_or-set_same, get_or_past}
+use Rattle.std.proofs.lemmas.List.{get_or_past}
 use Rattle.std.proofs.lemmas.Slice.Eq.{bytes_eq-Decides}
 use Rattle.std.proofs.lemmas.List.Folds.{list_any_at}
 use Rattle.hp_model.specs.declared.answer.Answer.TheVariants.{Done, MapNo}
@@ -32,7 +32,6 @@ use Rattle.hp_model.specs.machine.SlotEvent.{anon_tests, create_tests, file_name
 use Rattle.hp_model.specs.machine.SlotEvent.{slot_event, fill, is_bad_range, preallocate, preallocate_tests, unentered}
 use Rattle.hp_model.specs.declared.event.SlotEvent.TheVariants as slot
 use Rattle.hp_model.specs.files.Spot.{Spot, spot, spot_in}
-use Rattle.hp_model.proofs.Distinct.{or_assoc}
 use Rattle.hp_laws.proofs.making.NewNumbers.{found_again, found_last, found_not, found_put, least_is_unused, number_used}
 use Rattle.hp_laws.proofs.steps.Outcomes.{Always, always_if, always_test, event_ends, reply_of}
 use Rattle.hp_laws.proofs.lists.Places.{found_place}
@@ -251,9 +250,6 @@ module _ (s : State) where
   makes_none t step r = grind (arith, common_steps)
 
   module _ (t : State) (k : ℕ) (l : k < length s.slots) where
-    -- what the event leaves in its slot
-    left_there : (n : Slot) → t.slots ≡ slice_set s.slots k n → slot_at t k ≡ n
-    left_there n slots = ap (λ (xs : List Slot). slice_index_or xs k None) slots ∙ get_or-set_same s.slots k n None l
 
     file_makes : (name : List ℕ) (o : Outcome) → FileMade (slot_at s k) name o → t.slots ≡ slice_set s.slots k (left_by (slot_at s k) o) → Makes s (CreateStep k name) (reply_of o) t
     file_makes name o h slots = grind (arith, common_steps)

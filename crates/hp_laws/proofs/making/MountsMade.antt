@@ -1,11 +1,10 @@
 -- A mount that is answered has the limits that its options mean at this nr, and no files; a remount that is done, those limits and its files.
 use Rattle.std.proofs.Common.{arith}
 use Rattle.std.proofs.lemmas.Grind.{common_steps}
-use Rattle.std.proofs.Common.{◌≡◌, subst, ℕ, ◌<◌, Bool, true, false, not, None, Some, Ok, Err, Result as ResultOf, List, [], length, refl, sym, if◌then◌else◌, ap, ◌∙◌, ◌==◌}
+use Rattle.std.proofs.Common.{◌≡◌, subst, ℕ, ◌<◌, Bool, true, None, Some, Err, Result as ResultOf, List, length, refl, sym, if◌then◌else◌, ap, ◌∙◌, ◌==◌}
 use Rattle.std.specs.List.{slice_index_or, slice_set}
 use Rattle.std.proofs.lemmas.Bool.{ltb-true}
 use Rattle.std.proofs.lemmas.List.{get_or-set_same}
-use Rattle.hp_model.specs.declared.answer.Answer.TheVariants.{Done}
 use Rattle.hp_model.specs.declared.event.Event.{Event}
 use Rattle.hp_model.specs.declared.event.Event.TheVariants.{Tasks, Slot as OnSlot, Pool as OnPool}
 use Rattle.hp_model.specs.declared.event.PoolEvent.TheVariants as pool
@@ -13,7 +12,7 @@ use Rattle.hp_model.specs.declared.event.SlotEvent.TheVariants as slot
 use Rattle.hp_model.specs.declared.event.TableEvent.TheVariants as table
 use Rattle.hp_model.specs.declared.limits.Limits.{Limits}
 use Rattle.hp_model.specs.declared.refusal.Refusal.{Refusal}
-use Rattle.hp_model.specs.declared.refusal.Refusal.TheVariants.{NoPages, OutOfMemory, SlotTaken}
+use Rattle.hp_model.specs.declared.refusal.Refusal.TheVariants.{SlotTaken}
 use Rattle.hp_model.specs.declared.section.PoolAnswer.{PoolAnswer}
 use Rattle.hp_model.specs.declared.step.Step.{Step}
 use Rattle.hp_model.specs.declared.step.Step.TheVariants as step
@@ -29,7 +28,7 @@ use Rattle.hp_model.specs.machine.Step.{IsStep}
 use Rattle.hp_model.specs.pool.Pool.{section}
 use Rattle.hp_model.specs.pool.PoolCounts.{Pool}
 use Rattle.hp_laws.specs.Balance.{left_by}
-use Rattle.hp_laws.proofs.steps.Outcomes.{outcome_if, reply_of}
+use Rattle.hp_laws.proofs.steps.Outcomes.{reply_of}
 use Rattle.hp_laws.proofs.making.Remounts.{remount_ends, remount_left, remount_told}
 use Rattle.hp_laws.proofs.steps.SlotsBalanced.{tells_nr}
 use Rattle.hp_laws.proofs.steps.Whole.{by_event, is_whole, step_of}
@@ -44,9 +43,6 @@ mount_made c a l = grind (arith, common_steps)
 module _ (s : State) (k : ℕ) (options : List ℕ) (within : k < length s.slots) where
   abbrev wanted : ResultOf Limits Refusal
   wanted = limits s.nr s.page_size (wanted_of options)
-
-  with_old : (old new : Slot) → old ≡ None → (l : ResultOf Limits Refusal) → IsMountedWith None new l → IsMountedWith old new l
-  with_old old new none l h = grind (arith, common_steps)
 
   by_settled : (u : State) → u.slots ≡ s.slots → slot_at s k ≡ None → (o : Outcome) → Made wanted o → (reply : Reply) (t : State) → with_outcome u k o ≡ (reply, t)
       → Mounts s (step.Mount k options) reply t

@@ -4,9 +4,9 @@ use Rattle.std.proofs.Common.{◌≡◌, ⊎_elim, ℕ, zero, suc, ◌+◌, ◌&
 use Rattle.std.proofs.Common.{Some, List, [], ◌∷◌, ◌++◌, length, map, option_map, is_some, nat_lt, refl, sym, ap, ◌∙◌, arith}
 use Rattle.std.specs.List.{filter, list_all, list_any, slice_set}
 use Rattle.std.specs.Str.{bytes_eq}
-use Rattle.std.proofs.lemmas.Bool.{and_parts, cond_both, lt-ltb, or_cases, or_right}
+use Rattle.std.proofs.lemmas.Bool.{and_parts, cond_both, or_cases, or_right}
 use Rattle.std.proofs.lemmas.List.{length-map}
-use Rattle.std.proofs.lemmas.List.Folds.{list_all-append, list_any_at}
+use Rattle.std.proofs.lemmas.List.Folds.{list_any_at}
 use Rattle.hp_model.specs.declared.answer.Answer.{Answer}
 use Rattle.hp_model.specs.declared.answer.Answer.TheVariants.{Done, MapNo}
 use Rattle.hp_model.specs.declared.cell.Cell.{Cell}

@@ -1,20 +1,20 @@
 -- A map that is answered has its range: its file is long enough, and each index of a map that reserves is reserved to it.
 use Rattle.std.proofs.lemmas.Grind.{common_steps}
-use Rattle.std.proofs.Common.{◌≡◌, subst, ℕ, zero, suc, ◌+◌, ◌-◌, ◌<◌, ◌≤◌, true, false, None, Option, Some, Ok, Err, List}
-use Rattle.std.proofs.Common.{length, max, replicate, refl, sym, ap, ◌∙◌, arith, if◌then◌else◌, nat_le, nat_lt}
-use Rattle.std.specs.List.{slice_index_or, slice_set}
-use Rattle.std.proofs.lemmas.Bool.{and_parts, le-ltb, leb-true, ltb-true}
-use Rattle.std.proofs.lemmas.List.{get_or-set_same, length-append, length-replicate}
+use Rattle.std.proofs.Common.{◌≡◌, subst, ℕ, ◌+◌, ◌-◌, ◌<◌, ◌≤◌, true, false, None, Option, Some, Ok, Err, List}
+use Rattle.std.proofs.Common.{length, max, replicate, sym, ap, ◌∙◌, arith, nat_le, nat_lt}
+use Rattle.std.specs.List.{slice_set}
+use Rattle.std.proofs.lemmas.Bool.{and_parts, leb-true, ltb-true}
+use Rattle.std.proofs.lemmas.List.{length-append, length-replicate}
 use Rattle.hp_model.specs.declared.answer.Answer.TheVariants.{MapNo}
 use Rattle.hp_model.specs.declared.cell.Cell.{Cell}
-use Rattle.hp_model.specs.declared.cell.Cell.TheVariants.{Hole, Entered, Present}
+use Rattle.hp_model.specs.declared.cell.Cell.TheVariants.{Hole}
 use Rattle.hp_model.specs.declared.event.Event.{Event}
 use Rattle.hp_model.specs.declared.event.Event.TheVariants.{Tasks, Slot as OnSlot, Pool as OnPool}
 use Rattle.hp_model.specs.declared.event.PoolEvent.TheVariants as pool
 use Rattle.hp_model.specs.declared.event.SlotEvent.TheVariants as slot
 use Rattle.hp_model.specs.declared.event.TableEvent.TheVariants as table
 use Rattle.hp_model.specs.declared.place.Place.{Place}
-use Rattle.hp_model.specs.declared.place.Place.TheVariants.{Gone, Live}
+use Rattle.hp_model.specs.declared.place.Place.TheVariants.{Live}
 use Rattle.hp_model.specs.declared.refusal.Refusal.{Refusal}
 use Rattle.hp_model.specs.declared.refusal.Refusal.TheVariants.{NoSuchFile}
 use Rattle.hp_model.specs.declared.step.Reserving.{Reserving}
@@ -35,7 +35,7 @@ use Rattle.hp_model.specs.machine.Promises.{HasRange, IsNewAnon, IsNewMap, IsRan
 use Rattle.hp_model.specs.machine.SlotEvent.{file_named, has_name, map_file, map_tests, slot_event}
 use Rattle.hp_model.specs.machine.State.{State, slot_at}
 use Rattle.hp_model.specs.machine.Step.{IsStep}
-use Rattle.hp_model.proofs.Editing.{get_or-edit_in, length-edit_range}
+use Rattle.hp_model.proofs.Editing.{get_or-edit_in}
 use Rattle.hp_laws.specs.Balance.{left_by}
 use Rattle.hp_laws.proofs.making.FilesMade.{step_makes}
 use Rattle.hp_laws.proofs.making.NewNumbers.{found_again}
@@ -51,9 +51,6 @@ is_in_entered c = grind (arith, common_steps)
 
 abbrev fresh : Place Copy
 fresh = Live false None
-
-inside : (n j : ℕ) → j < n → slice_index_or (replicate n fresh) j Gone ≡ fresh
-inside n j l = grind (arith, common_steps)
 
 module _ (task number a n : ℕ) where
   long_enough : (xs : List (Cell Page)) → length (at_least (a + n) xs) ≡ max (length xs) (a + n)

@@ -1,23 +1,21 @@
 -- What an access leaves: the mount as it was, or with its file in another form that has the same name and maps of the same numbers.
 use Rattle.std.proofs.lemmas.Grind.{common_steps}
 use Rattle.std.proofs.Common.{◌≡◌, ℕ, ◌-◌, ◌<◌, ◌&&◌, Bool, true, not, map, suc, zero, arith, get_or, None, Some, List, [], ◌∷◌, length, refl, sym, ap, ◌∙◌, if◌then◌else◌}
-use Rattle.std.specs.List.{list_any, slice_index_or, slice_set}
-use Rattle.std.proofs.lemmas.Bool.{cond_both}
-use Rattle.std.proofs.lemmas.List.{length-map, length-set}
+use Rattle.std.specs.List.{slice_index_or, slice_set}
+use Rattle.std.proofs.lemmas.List.{length-set}
 use Rattle.hp_model.specs.declared.answer.Answer.TheVariants.{Done}
 use Rattle.hp_model.specs.declared.cell.Cell.{Cell}
-use Rattle.hp_model.specs.declared.cell.Cell.TheVariants.{Entered, Hole, Present}
 use Rattle.hp_model.specs.declared.place.Place.{Place}
 use Rattle.hp_model.specs.declared.place.Place.TheVariants.{Gone, Live}
 use Rattle.hp_model.specs.declared.step.Intent.{Intent}
 use Rattle.hp_model.specs.declared.step.Intent.TheVariants.{Read, Write}
 use Rattle.hp_model.specs.files.Access.{access, new_copy, private_access, shared_access, uncopied_access}
-use Rattle.hp_model.specs.files.CopyWrite.{copy_write, drop_stamp, holds, robbed, is_held_once, taken_back}
-use Rattle.hp_model.specs.files.File.{File, Mount, cell_at, has_page, with_cell, with_file, with_map}
+use Rattle.hp_model.specs.files.CopyWrite.{copy_write, robbed, is_held_once, taken_back}
+use Rattle.hp_model.specs.files.File.{File, Mount, cell_at, has_page, with_file, with_map}
 use Rattle.hp_model.specs.pool.Grant.{is_full, rise}
 use Rattle.hp_model.specs.Lists.{edit_at}
 use Rattle.hp_model.specs.files.Mapping.{Map, is_shared, place_at, with_place}
-use Rattle.hp_model.specs.files.Page.{Copy, Page, zeros}
+use Rattle.hp_model.specs.files.Page.{Copy, Page}
 use Rattle.hp_model.specs.machine.Plan.{Choice, Outcome, Answered, Finish, Ask}
 use Rattle.hp_model.specs.declared.section.Section.TheVariants.{GrantPage}
 use Rattle.hp_model.specs.machine.Promises.{shape_of}

@@ -1,7 +1,7 @@
 -- Names and numbers after files without a name and without maps are gone, or maps of some kind.
 use Rattle.std.proofs.lemmas.Grind.{common_steps}
-use Rattle.std.proofs.Common.{◌≡◌, ⊎_elim, inl, subst, ℕ, zero, suc, ◌+◌, ◌<◌, ◌||◌, ◌==◌, Bool, true, false, not, Option, None}
-use Rattle.std.proofs.Common.{Some, is_some, List, [], ◌∷◌, length, map, option_map, add-one, get_or, refl, sym, ap, ◌∙◌, arith, if◌then◌else◌, nat_lt}
+use Rattle.std.proofs.Common.{◌≡◌, ⊎_elim, inl, subst, ℕ, zero, suc, ◌+◌, ◌<◌, ◌==◌, Bool, true, false, not, Option, None}
+use Rattle.std.proofs.Common.{Some, is_some, List, [], ◌∷◌, length, map, option_map, get_or, refl, sym, ap, ◌∙◌, arith, if◌then◌else◌, nat_lt}
 use Rattle.std.specs.List.{filter, list_any}
 use Rattle.std.specs.Str.{bytes_eq}
 use Rattle.std.proofs.lemmas.Bool.{cases_eq, cases_order, eq-eqb, eqb-true, false_from_ne_true, or_right, lt-ltb, or_cases, and_parts}
@@ -147,9 +147,6 @@ module _ (m : Mount) where
   kept_there test q e =
       let at = spot_is m test q e in
       ap is_kept (at.file.is (new_file None)) ∙ or_right (is_some q.file.name) (nat_lt 0 (length q.file.maps)) (lt-ltb 0 (length q.file.maps) (omega (arith, at.map.within)))
-
-  some_map : (f : ℕ × File) (test : Map → Bool) (o : Option (ℕ × Map)) (q : Spot) → option_map (spot_in f) o ≡ Some q → (p : ℕ × Map) × (o ≡ Some p) × (spot_in f p ≡ q)
-  some_map f test o q e = grind (arith, common_steps)
 
   -- what is found in the file, there or elsewhere
   pub some_file : (test : Map → Bool) (o : Option (ℕ × File)) (q : Spot) → in_file test o ≡ Some q →

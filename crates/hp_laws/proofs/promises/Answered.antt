@@ -1,10 +1,9 @@
 -- What a step that reads answers, and that a refused step leaves the machine as it was.
 use Rattle.std.proofs.Common.{arith}
 use Rattle.std.proofs.lemmas.Grind.{common_steps}
-use Rattle.std.proofs.Common.{◌≡◌, inl, subst, ℕ, Bool, true, false, Option, None, Some, Ok, Err, List, [], ◌∷◌, refl, sym, ap}
+use Rattle.std.proofs.Common.{◌≡◌, subst, ℕ, Bool, true, false, Option, Ok, Err, List, refl, sym, ap}
 use Rattle.std.specs.Bool.{MatchBool}
-use Rattle.std.specs.List.{filter_map}
-use Rattle.hp_model.specs.declared.answer.Answer.TheVariants.{Home, Names, Numbers, PerNode}
+use Rattle.hp_model.specs.declared.answer.Answer.TheVariants.{Home, Numbers, PerNode}
 use Rattle.hp_model.specs.declared.answer.Answer.{Answer}
 use Rattle.hp_model.specs.declared.event.Event.{Event}
 use Rattle.hp_model.specs.declared.event.Event.TheVariants.{Tasks, Slot as OnSlot, Pool as OnPool}
@@ -13,39 +12,27 @@ use Rattle.hp_model.specs.declared.event.SlotEvent.{SlotEvent}
 use Rattle.hp_model.specs.declared.event.SlotEvent.TheVariants as slot
 use Rattle.hp_model.specs.declared.event.TableEvent.TheVariants as table
 use Rattle.hp_model.specs.declared.refusal.Refusal.{Refusal}
-use Rattle.hp_model.specs.declared.refusal.Refusal.TheVariants.{NoSuchFile, OutOfMemory}
 use Rattle.hp_model.specs.declared.step.Step.{Step}
-use Rattle.hp_model.specs.declared.step.Step.TheVariants.{Attach, Exit, Fork, Meminfo, Mount, Nodes}
+use Rattle.hp_model.specs.declared.step.Step.TheVariants.{Attach, Exit, Fork, Meminfo, Nodes}
 use Rattle.hp_model.specs.machine.Event.{IsEvent}
-use Rattle.hp_model.specs.files.File.{File, cell_at}
 use Rattle.hp_model.specs.machine.Machine.{pool_of}
-use Rattle.hp_model.specs.machine.Plan.{Choice, Outcome, Refused, Answered, Finish, Reply, Slot, with_value}
-use Rattle.hp_model.specs.machine.Promises.{IsHome, IsListed, IsRead, IsStat, IsUsage, LeavesAll, LeavesOthers, SameButNodes, AnswersWhatWas, is_late, is_late_step, named_on}
+use Rattle.hp_model.specs.machine.Plan.{Choice, Outcome, Refused, Answered, Reply, Slot}
+use Rattle.hp_model.specs.machine.Promises.{IsListed, IsRead, IsStat, IsUsage, LeavesAll, LeavesOthers, SameButNodes, AnswersWhatWas, is_late, named_on}
 use Rattle.hp_model.specs.pool.Resize.{node_counts}
 use Rattle.hp_model.specs.machine.Settled.{IsSettledState}
-use Rattle.hp_model.specs.machine.SlotEvent.{bytes_answer, file_named, read, read_tests, slot_event, stat}
+use Rattle.hp_model.specs.machine.SlotEvent.{slot_event}
 use Rattle.hp_model.specs.machine.State.{State, slot_at}
 use Rattle.hp_model.specs.machine.Step.{IsScripted, IsStep}
-use Rattle.hp_model.specs.files.Value.{shown}
 use Rattle.hp_model.specs.machine.Table.{home_of, is_known, when_known}
 use Rattle.hp_laws.proofs.settled.CountsHold.{counts_are_sums}
 use Rattle.hp_laws.proofs.ending.Fades.{exit_refused}
-use Rattle.hp_laws.proofs.steps.Outcomes.{Always, event_ends, reply_of}
+use Rattle.hp_laws.proofs.steps.Outcomes.{Always}
 use Rattle.hp_laws.proofs.steps.RefusalsKeep.{refusals_change_nothing}
-use Rattle.hp_laws.proofs.accesses.SlotShows.{always_unless}
 use Rattle.hp_laws.proofs.promises.SmallReplies.{rows_many}
 use Rattle.hp_laws.proofs.ending.RefusedForks.{fork_known, fork_refused}
 use Rattle.hp_laws.proofs.steps.Whole.{by_event, is_whole, slot_step, step_of}
 
 -- ---- refused steps
-
--- what is left where the machine is as it was, whether or not the step may be refused late
-same_left : (s : State) (late : Bool) (t : State) → t ≡ s → MatchBool late (SameButNodes s t) (t ≡ s)
-same_left s late t same = grind (arith, common_steps)
-
--- and whether or not the child of a fork was there
-same_forks : (s : State) (child : ℕ) (known : Bool) (t : State) → t ≡ s → MatchBool known (t ≡ s) (LeavesOthers s child t)
-same_forks s child known t same = grind (arith, common_steps)
 
 -- a step that did nothing left what a refusal leaves
 same_leaves : (s : State) (step : Step) (r : Refusal) (t : State) → t ≡ s → LeavesAll s step (Err r) t

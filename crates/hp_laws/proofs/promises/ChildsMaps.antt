@@ -8,10 +8,8 @@ use Rattle.std.proofs.lemmas.List.{get_or-set_other, get_or-set_same, get_or_pas
 use Rattle.hp_model.specs.declared.answer.Answer.{Answer}
 use Rattle.hp_model.specs.declared.answer.Answer.TheVariants.{Done}
 use Rattle.hp_model.specs.declared.event.Event.{Event}
-use Rattle.hp_model.specs.declared.event.Event.TheVariants.{Tasks, Slot as OnSlot, Pool as OnPool}
-use Rattle.hp_model.specs.declared.event.PoolEvent.TheVariants as pool
+use Rattle.hp_model.specs.declared.event.Event.TheVariants.{Slot as OnSlot}
 use Rattle.hp_model.specs.declared.event.SlotEvent.TheVariants as slot
-use Rattle.hp_model.specs.declared.event.TableEvent.TheVariants as table
 use Rattle.hp_model.specs.declared.refusal.Refusal.{Refusal}
 use Rattle.hp_model.specs.declared.refusal.Refusal.TheVariants.{TaskExists, TooMany}
 use Rattle.hp_model.specs.declared.step.Step.{Step}
@@ -73,14 +71,6 @@ finds_past t (x ∷ xs) ys y off it = by_test (t x) refl (λ rest. finds_past t 
 -- ---- the child's maps in a file
 
 module _ (parent child number : ℕ) where
-  abbrev mine : Map → Bool
-  mine y = is_map parent number y
-
-  abbrev its : Map → Bool
-  its y = is_map child number y
-
-  abbrev copy : File → File
-  copy f = file_forked parent child f
 
   own : (x : Map) → is_of parent x ≡ true → is_map child number (map_for child x) ≡ is_map parent number x
   own x of = ap (λ b. b && (x.number == number)) (eq-eqb child child refl ∙ sym of)

@@ -1,11 +1,11 @@
 -- What a truncate and a punch leave of a file: its length, and of what they cut no page and no copy.
 use Rattle.std.proofs.lemmas.Grind.{common_steps}
-use Rattle.std.proofs.Common.{◌≡◌, ⊎_elim, subst, ℕ, ◌+◌, ◌-◌, ◌<◌, ◌≤◌, ◌&&◌, Bool, true, false, None, Option, Some, Ok}
-use Rattle.std.proofs.Common.{Err, List, [], ◌∷◌, length, map, take, replicate, refl, sym, ap, ◌∙◌, arith, if◌then◌else◌, nat_le, nat_lt}
-use Rattle.std.specs.List.{slice_index_or, slice_set}
+use Rattle.std.proofs.Common.{◌≡◌, subst, ℕ, ◌+◌, ◌<◌, ◌≤◌, ◌&&◌, Bool, true, false, None, Option, Some, Ok}
+use Rattle.std.proofs.Common.{Err, List, [], ◌∷◌, length, map, refl, sym, ap, ◌∙◌, arith, if◌then◌else◌, nat_le, nat_lt}
+use Rattle.std.specs.List.{slice_set}
 use Rattle.std.specs.Str.{bytes_eq}
-use Rattle.std.proofs.lemmas.Bool.{and_parts, cases_lt, cond_both, leb-true, ltb-false, ltb-true}
-use Rattle.std.proofs.lemmas.List.{get_or-set_same, get_or_past, length-append, length-replicate, length-take}
+use Rattle.std.proofs.lemmas.Bool.{and_parts, leb-true, ltb-false, ltb-true}
+use Rattle.std.proofs.lemmas.List.{get_or_past}
 use Rattle.hp_model.specs.declared.answer.Answer.{Answer}
 use Rattle.hp_model.specs.declared.answer.Answer.TheVariants.{Done}
 use Rattle.hp_model.specs.declared.cell.Cell.{Cell}
@@ -16,14 +16,12 @@ use Rattle.hp_model.specs.declared.event.PoolEvent.TheVariants as pool
 use Rattle.hp_model.specs.declared.event.SlotEvent.TheVariants as slot
 use Rattle.hp_model.specs.declared.event.TableEvent.TheVariants as table
 use Rattle.hp_model.specs.declared.place.Place.{Place}
-use Rattle.hp_model.specs.declared.place.Place.TheVariants.{Gone, Live}
 use Rattle.hp_model.specs.declared.refusal.Refusal.{Refusal}
 use Rattle.hp_model.specs.declared.refusal.Refusal.TheVariants.{NoSuchFile, OutOfRange}
 use Rattle.hp_model.specs.declared.step.Step.{Step}
 use Rattle.hp_model.specs.declared.step.Step.TheVariants as step
 use Rattle.hp_model.specs.files.File.{File, Mount, cell_at, cell_punched, cells_to, map_in, new_file, with_file}
 use Rattle.hp_model.specs.files.GiveBack.{is_kept, punched, truncated}
-use Rattle.hp_model.specs.Lists.{edit_range}
 use Rattle.hp_model.specs.files.Mapping.{Map, copy_of, map_punched, no_map, place_at, without_copy}
 use Rattle.hp_model.specs.files.Page.{Copy, Page}
 use Rattle.hp_model.specs.machine.Event.{IsEvent}
@@ -41,7 +39,6 @@ use Rattle.hp_laws.specs.Balance.{Always, left_by}
 use Rattle.hp_laws.proofs.accesses.SlotShows.{always_gives, always_unless, always_value}
 use Rattle.hp_laws.proofs.counts.MountMoves.{file_at}
 use Rattle.hp_laws.proofs.ending.Cuts.{place_ranged, ranged_in}
-use Rattle.hp_laws.proofs.lists.Looks.{get_map}
 use Rattle.hp_laws.proofs.lists.Places.{found_place}
 use Rattle.hp_laws.proofs.making.NewNumbers.{found_again}
 use Rattle.hp_laws.proofs.names.Follows.{found_filter, is_open}

@@ -2,11 +2,10 @@
 use Rattle.std.proofs.Common.{arith}
 use Rattle.std.proofs.lemmas.Grind.{common_steps}
 use Rattle.std.proofs.Common.{◌≡◌, ℕ, false, None, Some, refl}
-use Rattle.hp_model.specs.declared.answer.Answer.TheVariants.{Bytes, Done, MapNo}
 use Rattle.hp_model.specs.declared.event.SlotEvent.{SlotEvent}
 use Rattle.hp_model.specs.declared.event.SlotEvent.TheVariants as slot
 use Rattle.hp_model.specs.declared.refusal.Refusal.TheVariants.{NoSuchFile}
-use Rattle.hp_model.specs.machine.Plan.{Answered, Choice, Outcome, Refused, Slot}
+use Rattle.hp_model.specs.machine.Plan.{Choice, Outcome, Slot}
 use Rattle.hp_model.specs.machine.SlotEvent.{file_named, slot_event, stat}
 use Rattle.hp_laws.specs.Answers.{HasNoNames, lists_names}
 use Rattle.hp_laws.proofs.steps.Outcomes.{Always, always_weaker}

@@ -4,7 +4,7 @@ use Rattle.std.proofs.lemmas.Grind.{common_steps}
 use Rattle.std.proofs.Common.{◌≡◌, ◌⊎◌, ⊎_elim, inl, inr, subst, ℕ, ◌+◌, ◌-◌, ◌<◌, ◌&&◌, ◌||◌, ◌==◌, Bool, true, false}
 use Rattle.std.proofs.Common.{not, None, Option, Some, Ok, Err, List, length, map, is_some, refl, sym, ap, ◌∙◌, if◌then◌else◌, nat_lt}
 use Rattle.std.specs.List.{slice_index_or, slice_set}
-use Rattle.std.proofs.lemmas.Bool.{cases_eq, cond_both, leb-false, ltb-true, or_left, or_right}
+use Rattle.std.proofs.lemmas.Bool.{cases_eq, cond_both, leb-false, ltb-true, or_right}
 use Rattle.std.proofs.lemmas.List.{get_or-set_other, get_or-set_same, length-map}
 use Rattle.hp_model.specs.declared.answer.Answer.{Answer}
 use Rattle.hp_model.specs.declared.answer.Answer.TheVariants.{Done}
@@ -36,7 +36,7 @@ use Rattle.hp_model.specs.files.Value.{value}
 use Rattle.hp_model.specs.Lists.{edit_at}
 use Rattle.hp_model.specs.machine.Event.{IsEvent, planned}
 use Rattle.hp_model.specs.machine.Lost.{IsLostTo, is_same_copy}
-use Rattle.hp_model.specs.machine.Machine.{pool_of, with_pool}
+use Rattle.hp_model.specs.machine.Machine.{pool_of}
 use Rattle.hp_model.specs.machine.Named.{map_named, spot_on}
 use Rattle.hp_model.specs.machine.Pages.{IsTouched, Touches, can_have_page, has_its_page}
 use Rattle.hp_model.specs.machine.Plan.{Answered, Ask, Choice, Finish, Outcome, Plan, Refused, Reply, Slot, grant_page, refuse, reserved_page, with_value}
@@ -48,14 +48,14 @@ use Rattle.hp_model.specs.pool.Grant.{can_grant, is_full, rise}
 use Rattle.hp_model.specs.pool.Pool.{section}
 use Rattle.hp_model.specs.Profile.{most_bytes}
 use Rattle.hp_laws.specs.Balance.{left_by}
-use Rattle.hp_laws.proofs.accesses.Shown.{On, copy_own, kept_own, on_follows, on_grant_page, on_reserved_page, place_other, place_put, robbed_mount}
+use Rattle.hp_laws.proofs.accesses.Shown.{On, copy_own, on_follows, on_grant_page, on_reserved_page, place_other, place_put, robbed_mount}
 use Rattle.hp_laws.proofs.counts.MountMoves.{IsSpot, spot_is}
 use Rattle.hp_laws.proofs.lists.Looks.{same_edit}
 use Rattle.hp_laws.proofs.names.Keys.{Where, keys, places}
 use Rattle.hp_laws.proofs.names.Meanings.{fault_on, load_on, placed_same, store_on}
 use Rattle.hp_laws.proofs.names.Named.{map_shown}
 use Rattle.hp_laws.proofs.promises.Shortage.{At, at_any, at_if, at_test, at_then, page_granted}
-use Rattle.hp_laws.proofs.steps.Outcomes.{Always, Ends, always_if, ends_so, reply_of}
+use Rattle.hp_laws.proofs.steps.Outcomes.{Always, Ends, always_if, reply_of}
 use Rattle.hp_laws.proofs.steps.Whole.{by_event, is_whole, slot_step, step_of}
 
 -- ---- copies and pages by place

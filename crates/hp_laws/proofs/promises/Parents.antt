@@ -1,8 +1,8 @@
 -- A fork leaves its parent the maps that it has.
 use Rattle.std.proofs.lemmas.Grind.{common_steps}
-use Rattle.std.proofs.Common.{◌≡◌, ℕ, ◌||◌, ◌==◌, Bool, true, false, not, Some, is_some, List, [], ◌∷◌, length, map, refl, sym, ap, ◌∙◌, arith, nat_lt}
+use Rattle.std.proofs.Common.{◌≡◌, ℕ, ◌||◌, ◌==◌, Bool, true, false, not, Some, List, [], ◌∷◌, map, refl, sym, ap, ◌∙◌, arith}
 use Rattle.std.specs.List.{filter, list_any}
-use Rattle.std.proofs.lemmas.Bool.{eqb-true, false_from_ne_true, lt-ltb}
+use Rattle.std.proofs.lemmas.Bool.{eqb-true, false_from_ne_true}
 use Rattle.std.proofs.lemmas.List.Folds.{list_any-append}
 use Rattle.std.proofs.lemmas.Map.Views.{any-filter_same}
 use Rattle.hp_model.specs.files.File.{File, Mount}
@@ -12,9 +12,6 @@ use Rattle.hp_model.specs.files.Mapping.{Map, is_of, map_for}
 use Rattle.hp_model.specs.machine.Event.{has_maps_of}
 use Rattle.hp_laws.proofs.names.Follows.{is_not_of}
 use Rattle.hp_laws.proofs.making.FilesMade.{any_in_files}
-
-or_true : (b : Bool) → (b || true) ≡ true
-or_true b = grind (arith, common_steps)
 
 or_false : (b : Bool) → (b || false) ≡ b
 or_false b = grind (arith, common_steps)

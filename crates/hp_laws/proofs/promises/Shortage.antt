@@ -2,12 +2,11 @@
 use Rattle.std.proofs.Common.{arith}
 use Rattle.std.proofs.lemmas.Grind.{common_steps}
 use Rattle.std.proofs.Common.{◌≡◌, subst, ℕ, ◌-◌, ◌&&◌, ◌||◌, ◌==◌, Bool, true, false, not, Option, None, Some, is_some, Result, Ok, Err, List, [], ◌∷◌}
-use Rattle.std.proofs.Common.{◌++◌, length, refl, sym, ap, ◌∙◌, if◌then◌else◌, nat_le, nat_lt}
+use Rattle.std.proofs.Common.{◌++◌, length, refl, sym, ap, ◌∙◌, if◌then◌else◌, nat_lt}
 use Rattle.std.proofs.lemmas.Bool.{and_parts, cond_both, eqb-true}
 use Rattle.std.specs.List.{range_with_len}
 use Rattle.hp_model.specs.declared.answer.Answer.TheVariants.{Done}
 use Rattle.hp_model.specs.declared.cell.Cell.{Cell}
-use Rattle.hp_model.specs.declared.cell.Cell.TheVariants.{Hole, Entered, Present}
 use Rattle.hp_model.specs.declared.event.Event.{Event}
 use Rattle.hp_model.specs.declared.event.Event.TheVariants.{Tasks, Slot as OnSlot, Pool as OnPool}
 use Rattle.hp_model.specs.declared.event.PoolEvent.TheVariants as pool
@@ -18,10 +17,10 @@ use Rattle.hp_model.specs.declared.limits.Limits.{Limits}
 use Rattle.hp_model.specs.declared.place.Place.{Place}
 use Rattle.hp_model.specs.declared.place.Place.TheVariants.{Gone, Live}
 use Rattle.hp_model.specs.declared.refusal.Refusal.{Refusal}
-use Rattle.hp_model.specs.declared.refusal.Refusal.TheVariants.{BadOption, MinOverSize, SlotTaken, MountFull, NoPages, NoSuchFile, NoSuchMap, NoSuchSlot}
-use Rattle.hp_model.specs.declared.refusal.Refusal.TheVariants.{NoSuchNode, OutOfMemory, OutOfRange, TakenByOwner, TaskExists, TooMany}
+use Rattle.hp_model.specs.declared.refusal.Refusal.TheVariants.{SlotTaken, MountFull, NoPages, NoSuchFile, NoSuchMap, NoSuchSlot}
+use Rattle.hp_model.specs.declared.refusal.Refusal.TheVariants.{OutOfMemory, OutOfRange, TakenByOwner}
 use Rattle.hp_model.specs.declared.section.PoolAnswer.{PoolAnswer}
-use Rattle.hp_model.specs.declared.section.Section.TheVariants.{Grant, GrantAndReturn, GrantPage, ReadAndGrant, FillPages}
+use Rattle.hp_model.specs.declared.section.Section.TheVariants.{GrantPage, FillPages}
 use Rattle.hp_model.specs.declared.step.Intent.{Intent}
 use Rattle.hp_model.specs.declared.step.Intent.TheVariants.{Read, Write}
 use Rattle.hp_model.specs.declared.step.Reserving.{Reserving}
@@ -30,37 +29,35 @@ use Rattle.hp_model.specs.declared.step.Step.{Step}
 use Rattle.hp_model.specs.declared.step.Step.TheVariants as step
 use Rattle.hp_model.specs.files.Access.{access, new_copy, private_access, shared_access, uncopied_access}
 use Rattle.hp_model.specs.files.CopyWrite.{copy_write, is_held_once}
-use Rattle.hp_model.specs.files.File.{File, Mount, cell_at, has_page, is_entered, new_file, with_file}
+use Rattle.hp_model.specs.files.File.{File, Mount, cell_at, has_page, new_file, with_file}
 use Rattle.hp_model.specs.files.MakeMap.{asked}
-use Rattle.hp_model.specs.files.Mapping.{copy_of, is_map, is_shared, is_unconsumed, place_at}
+use Rattle.hp_model.specs.files.Mapping.{copy_of, is_map, is_shared, place_at}
 use Rattle.hp_model.specs.files.MountCounts.{committed_of}
-use Rattle.hp_model.specs.files.Options.{Wanted, checked, is_below_min, limits, limits_of, wanted_of}
+use Rattle.hp_model.specs.files.Options.{Wanted, limits, wanted_of}
 use Rattle.hp_model.specs.files.Page.{Copy, Page}
-use Rattle.hp_model.specs.files.Reserved.{is_reserved}
 use Rattle.hp_model.specs.files.Spot.{Spot, again, spot, written}
 use Rattle.hp_model.specs.files.Value.{value}
-use Rattle.hp_model.specs.machine.Event.{IsEvent, has_maps_of, planned, with_outcome}
-use Rattle.hp_model.specs.machine.Machine.{pool_of, with_pool}
+use Rattle.hp_model.specs.machine.Event.{IsEvent, has_maps_of, planned}
+use Rattle.hp_model.specs.machine.Machine.{pool_of}
 use Rattle.hp_model.specs.machine.Plan.{Answered, Ask, Choice, Finish, Outcome, Plan, Refused, Reply, Slot, and_then, continued, gives, grant}
-use Rattle.hp_model.specs.machine.Plan.{grant_page, refuse, unless, when_granted, with_value}
+use Rattle.hp_model.specs.machine.Plan.{refuse, unless, when_granted, with_value}
 use Rattle.hp_model.specs.machine.Promises.{is_for_pages}
-use Rattle.hp_model.specs.machine.Short.{IsMountShort, IsRemountShort, IsRemountShortOn, IsShort, IsShortOn, MeetsShortage, asked_of, asks, has_own, is_backed, owns_copy, page_for}
-use Rattle.hp_model.specs.machine.SlotEvent.{anon_tests, create_tests, edited, fork_tests, is_bad_range, mount_section, punch, read}
+use Rattle.hp_model.specs.machine.Short.{IsMountShort, IsRemountShortOn, IsShort, IsShortOn, MeetsShortage, asked_of, asks, has_own, page_for}
+use Rattle.hp_model.specs.machine.SlotEvent.{anon_tests, create_tests, edited, is_bad_range, mount_section, punch, read}
 use Rattle.hp_model.specs.machine.SlotEvent.{read_tests, stat, fill, preallocate, preallocate_tests, preallocated, unentered}
-use Rattle.hp_model.specs.machine.SlotEvent.{truncate, umount_tests, unlink, unmap, byte_access, byte_tests, bytes_answer, fault, fault_tests}
+use Rattle.hp_model.specs.machine.SlotEvent.{truncate, umount_tests, unlink, byte_access, byte_tests, bytes_answer, fault, fault_tests}
 use Rattle.hp_model.specs.machine.SlotEvent.{committed_with, file_named, load, map_anon, map_file, map_tests, mount_outcome, mount_pages, remount_outcome, slot_event, store}
 use Rattle.hp_model.specs.machine.State.{State, slot_at}
 use Rattle.hp_model.specs.machine.Step.{Answer_with, IsScript, IsScripted, IsStep, Script, exit_slots, fork_slots, or_undone, undone, when_done}
-use Rattle.hp_model.specs.machine.Table.{Table, added, home_of, is_crowded, is_known, or_refused, table_event, when_known}
+use Rattle.hp_model.specs.machine.Table.{Table, table_event}
 use Rattle.hp_model.specs.pool.Resize.{pool_event}
-use Rattle.hp_model.specs.Profile.{most_file_pages, most_overcommit}
+use Rattle.hp_model.specs.Profile.{most_file_pages}
 use Rattle.hp_model.specs.declared.event.PoolEvent.{PoolEvent}
 use Rattle.hp_model.specs.declared.event.TableEvent.{TableEvent}
 use Rattle.hp_model.specs.pool.Grant.{can_grant, is_full, rise}
 use Rattle.hp_model.specs.pool.Pool.{section}
 use Rattle.hp_model.specs.pool.PoolCounts.{Pool}
-use Rattle.hp_model.specs.files.GiveBack.{punched, truncated, unlinked, unmapped_from, without_task}
-use Rattle.hp_model.specs.files.Fork.{forked}
+use Rattle.hp_model.specs.files.GiveBack.{punched, truncated, unlinked, without_task}
 use Rattle.hp_laws.specs.Laws.{KeepsGoing}
 use Rattle.hp_laws.proofs.making.Remounts.{remount_ends, remount_told, told_granted}
 use Rattle.hp_laws.proofs.accesses.SlotShows.{always_gives}
@@ -69,10 +66,6 @@ use Rattle.hp_laws.proofs.steps.Whole.{by_event, early_pages, is_early, is_whole
 use Rattle.hp_model.specs.files.Fill.{lacking, range_filled, rising_nodes}
 
 -- ---- limits
-
--- what options are refused is no refusal for pages
-checked_plain : (l : Limits) (r : Refusal) → checked l ≡ Err r → is_for_pages r ≡ false
-checked_plain l r e = grind (arith, common_steps)
 
 limits_plain : (nr size : ℕ) (w : Option Wanted) (r : Refusal) → limits nr size w ≡ Err r → is_for_pages r ≡ false
 limits_plain nr size w r e = grind (arith, common_steps)
@@ -97,9 +90,6 @@ module _ (s : State) where
   pub at_then : (P : Outcome → Type 0) (f : Mount → Outcome) → ((o : Outcome) → P o → P (continued f o)) → (p : Plan) → At P p → At P (and_then f p)
   at_then P f h p at = grind (arith, common_steps)
 
-  settled_reply : (u : State) (k : ℕ) (o : Outcome) → (with_outcome u k o).0 ≡ reply_of o
-  settled_reply u k o = grind (arith, common_steps)
-
   planned_at : (P : Outcome → Type 0) (k : ℕ) (p : Plan) → At P p → (o : Outcome) × P o × ((planned s k p).0 ≡ reply_of o)
   planned_at P k p at = grind (arith, common_steps)
 
@@ -118,9 +108,6 @@ module _ (s : State) where
   granted_lacks : (m : Mount) (pages : ℕ) (b : Bool) (o : Outcome) → is_full m pages ≡ false → can_grant (rise m pages) (pool_of s) ≡ b → Lacks m pages o → (a : PoolAnswer)
       → a.granted ≡ b → Lacks m pages (when_granted o a)
   granted_lacks m pages b o room can h a e = grind (arith, common_steps)
-
-  grant_granted : (home d : ℕ) → (section (pool_of s) (Grant home d)).0.granted ≡ can_grant d (pool_of s)
-  grant_granted home d = cond_both (can_grant d (pool_of s)) _ _ (λ (x : PoolAnswer × Pool). x.0.granted ≡ can_grant d (pool_of s)) (λ e. sym e) (λ e. sym e)
 
   pub page_granted : (home d : ℕ) → (section (pool_of s) (GrantPage home d)).0.granted ≡ can_grant d (pool_of s)
   page_granted home d = cond_both (can_grant d (pool_of s)) _ _ (λ (x : PoolAnswer × Pool). x.0.granted ≡ can_grant d (pool_of s)) (λ e. sym e) (λ e. sym e)
@@ -141,9 +128,6 @@ module _ (s : State) where
   grant_lacks : (c : Choice) (m : Mount) (home pages : ℕ) (o : Outcome) → Lacks m pages o → At (Lacks m pages) (grant c m home pages o)
   grant_lacks c m home pages o h = grind (arith, common_steps)
 
-  page_lacks : (c : Choice) (m : Mount) (home pages : ℕ) (f : ℕ → Outcome) → pages ≡ 1 → ((n : ℕ) → Lacks m pages (f n)) → At (Lacks m pages) (grant_page c m home f)
-  page_lacks c m home pages f one h = grind (arith, common_steps)
-
   -- ---- accesses
 
   module _ (c : Choice) (size : ℕ) (m : Mount) (p : Spot) (home i : ℕ) where
@@ -153,27 +137,10 @@ module _ (s : State) where
     abbrev Wants : Intent → Outcome → Type 0
     Wants intent o = Lacks m (page_for intent (Some p) i) o
 
-    abbrev page_if : Bool → ℕ
-    page_if b = if b then 0 else 1
-
-    one_page : (t : Intent) → is_backed t (Some p) i ≡ false → (not (is_shared p.map.sharing) && has_own t p i) ≡ false → page_for t (Some p) i ≡ 1
-    one_page t unbacked none = ap (λ b. page_if (b || (not (is_shared p.map.sharing) && has_own t p i))) unbacked ∙ ap page_if none
-
     shared_lacks : (t : Intent) (cell : Cell Page) → is_shared p.map.sharing ≡ true → cell_at p.file i ≡ cell → At (Wants t) (shared_access c size m p home i cell)
     shared_lacks t cell shared is = grind (arith, common_steps)
 
-    and_false : (b : Bool) → (b && false) ≡ false
-    and_false b = grind (arith, common_steps)
-
-    unspent : (consumed : Bool) (o : Option Copy) → is_unconsumed {C = Copy} (Live consumed o) ≡ not consumed
-    unspent consumed o = grind (arith, common_steps)
-
     module _ (apart : is_shared p.map.sharing ≡ false) where
-      own_reserve : is_reserved p.file p.map i ≡ (p.map.owner && is_unconsumed (place_at p.map i))
-      own_reserve = ap (λ b. if b then is_entered (cell_at p.file i) else (p.map.owner && is_unconsumed (place_at p.map i))) apart
-
-      none_own : (t : Intent) → has_own t p i ≡ false → (not (is_shared p.map.sharing) && has_own t p i) ≡ false
-      none_own t e = ap (λ b. not (is_shared p.map.sharing) && b) e ∙ and_false (not (is_shared p.map.sharing))
 
       new_lacks : (t : Intent) (consumed : Bool) → place_at p.map i ≡ Live consumed None → has_own t p i ≡ false → At (Wants t) (new_copy c size m p home i consumed)
       new_lacks t consumed is none = grind (arith, common_steps)
@@ -229,8 +196,6 @@ module _ (s : State) where
 
   -- the outcomes of a mount, by the pages that its step asks for
   module _ (m : Mount) (x : Step) where
-    as_short : (o : Outcome) → Lacks m (asks m x) o → ShortOn (Some m) x o
-    as_short o lacks = grind (arith, common_steps)
 
     at_short : (p : Plan) → At (Lacks m (asks m x)) p → At (ShortOn (Some m) x) p
     at_short p at = grind (arith, common_steps)
@@ -323,9 +288,6 @@ module _ (s : State) where
     mount_leads options (Err r) is a told = subst (λ y. IsMountShort (pool_of s) y r) (sym is) (limits_plain s.nr size (wanted_of options) r is)
     mount_leads options (Ok l) is a told = by_refused c.refused refl
       where
-        by_granted : (late b : Bool) → b ≡ can_grant l.min (pool_of s)
-            → MountShort options (if not b then Refused NoPages else if late then Refused OutOfMemory else Answered Done (Some (record { limits = l; files = [] })))
-        by_granted late b e = grind (arith, common_steps)
 
         by_refused : (refused : Bool) → c.refused ≡ refused
             → MountShort options (if refused then Refused OutOfMemory else if not a.granted then Refused NoPages else if c.after_grant then Refused OutOfMemory
@@ -475,18 +437,6 @@ module _ (s : State) where
 abbrev Plain : Reply → Type 0
 Plain (Ok a) = Unit {0}
 Plain (Err r) = is_for_pages r ≡ false
-
-or_plain : (s : State) (ts : List (Bool × Refusal)) → plain s ts ≡ true → (old : Table) (next : Reply × Table) → Plain next.0 → Plain (or_refused ts old next).0
-or_plain s [] e old next h = h
-or_plain s (x ∷ xs) e old next h =
-    let both = and_parts (not (is_for_pages x.1)) (plain s xs) e in
-    cond_both x.0 (Err x.1, old) (or_refused xs old next) (λ (y : Reply × Table). Plain y.0) (λ on. no_not (is_for_pages x.1) both.0) (λ off. or_plain s xs both.1 old next h)
-  where
-    no_not : (b : Bool) → not b ≡ true → b ≡ false
-    no_not b e = grind (arith, common_steps)
-
-known_plain : (old : Table) (o : Option ℕ) (f : ℕ → Reply × Table) → ((home : ℕ) → Plain (f home).0) → Plain (when_known old o f).0
-known_plain old o f h = grind (arith, common_steps)
 
 table_plain : (s : State) (nodes : ℕ) (old : Table) (e : TableEvent) → Plain (table_event nodes old e).0
 table_plain s nodes old e = grind (arith, common_steps)

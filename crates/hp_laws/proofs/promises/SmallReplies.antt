@@ -1,6 +1,6 @@
 -- What each step of a settled machine answers is within the limits of a reply's text.
 use Rattle.std.proofs.lemmas.Grind.{common_steps}
-use Rattle.std.proofs.Common.{◌≡◌, subst, ℕ, suc, ◌+◌, ◌^◌, ◌<◌, ◌≤◌, ◌||◌, ◌==◌, ◌∙◌, Bool, true, false, not, Option, None, Some}
+use Rattle.std.proofs.Common.{◌≡◌, subst, ℕ, suc, ◌+◌, ◌^◌, ◌<◌, ◌≤◌, ◌∙◌, Bool, true, false, not, None, Some}
 use Rattle.std.proofs.Common.{Ok, Err, List, [], ◌∷◌, ◌++◌, length, refl, sym, ap, arith, cond, nat_lt, nat_le}
 use Rattle.std.specs.List.{filter, position_or_len, range_with_len}
 use Rattle.std.proofs.lemmas.Bool.{cond_both, leb-false, ltb-false, or_parts}
@@ -16,13 +16,9 @@ use Rattle.hp_model.specs.declared.event.PoolEvent.TheVariants as pool
 use Rattle.hp_model.specs.declared.event.SlotEvent.{SlotEvent}
 use Rattle.hp_model.specs.declared.event.SlotEvent.TheVariants as slot
 use Rattle.hp_model.specs.declared.event.TableEvent.TheVariants as table
-use Rattle.hp_model.specs.declared.refusal.Refusal.{Refusal}
-use Rattle.hp_model.specs.declared.refusal.Refusal.TheVariants.{MountFull, OutOfMemory, OutOfRange, CrossesPage, TooMany, BeyondEnd}
-use Rattle.hp_model.specs.declared.refusal.Refusal.TheVariants.{NoSuchNode, TaskExists}
-use Rattle.hp_model.specs.declared.step.Intent.TheVariants.{Read, Write}
+use Rattle.hp_model.specs.declared.refusal.Refusal.TheVariants.{MountFull, OutOfMemory, OutOfRange}
 use Rattle.hp_model.specs.declared.step.Step.{Step}
 use Rattle.hp_model.specs.declared.step.Step.TheVariants.{Exit, Fork}
-use Rattle.hp_model.specs.files.Access.{access}
 use Rattle.hp_model.specs.machine.Event.{IsEvent, has_maps_of}
 use Rattle.hp_model.specs.files.Fork.{forked}
 use Rattle.hp_model.specs.files.GiveBack.{punched, truncated, unlinked, unmapped_from, without_task}
@@ -34,26 +30,24 @@ use Rattle.hp_model.specs.machine.Machine.{pool_of, rows_of}
 use Rattle.hp_model.specs.files.MakeMap.{asked, mapped, next_number, numbers_of, with_new}
 use Rattle.hp_model.specs.files.Mapping.{is_of, is_map}
 use Rattle.hp_model.specs.pool.PoolCounts.{Pool}
-use Rattle.hp_model.specs.machine.Plan.{Reply, Slot, Outcome, Refused, Answered, Plan, Choice, continued, gives}
+use Rattle.hp_model.specs.machine.Plan.{Reply, Slot, Outcome, Refused, Answered, Plan, Choice, gives}
 use Rattle.hp_model.specs.Profile.{most_overcommit, most_bytes, most_map_pages, most_maps}
 use Rattle.hp_model.specs.machine.Promises.{is_usage}
 use Rattle.hp_model.specs.pool.Resize.{pool_event}
 use Rattle.hp_model.specs.machine.Settled.{IsSettledState}
 use Rattle.hp_model.specs.machine.SlotEvent.{edited}
-use Rattle.hp_model.specs.machine.SlotEvent.{are_too_many_maps, byte_access, bytes_answer, is_beyond}
-use Rattle.hp_model.specs.machine.SlotEvent.{is_new_task_over, is_unmapped, load, slot_event, store, unentered}
-use Rattle.hp_model.specs.files.Spot.{Spot, again, written}
+use Rattle.hp_model.specs.machine.SlotEvent.{are_too_many_maps}
+use Rattle.hp_model.specs.machine.SlotEvent.{is_new_task_over, load, slot_event, store, unentered}
+use Rattle.hp_model.specs.files.Spot.{Spot}
 use Rattle.hp_model.specs.machine.State.{Node, State, slot_at}
 use Rattle.hp_model.specs.machine.Step.{Answer_with, Do, IsScript, IsStep, Script, Where_mapped, exit_slots, fork_slots, or_undone, script, when_done}
-use Rattle.hp_model.specs.machine.Table.{Table, added, home_of, is_crowded, is_known, or_refused, removed, table_event, when_known}
-use Rattle.hp_model.specs.files.Value.{value}
+use Rattle.hp_model.specs.machine.Table.{Table, table_event}
 use Rattle.hp_model.specs.text.Writing.{IsWithinLimits}
 use Rattle.hp_laws.proofs.counts.MountMoves.{IsSpot, spot_is}
-use Rattle.hp_laws.proofs.steps.Outcomes.{either_way, Always, always_test, always_then, always_weaker, event_ends, reply_of}
-use Rattle.hp_laws.proofs.accesses.Shown.{On, Same, Result, on_weaker, read_same, write_done}
+use Rattle.hp_laws.proofs.steps.Outcomes.{either_way, Always, always_weaker, event_ends, reply_of}
 use Rattle.hp_laws.proofs.steps.Whole.{by_event, is_whole, step_of}
 use Rattle.hp_laws.proofs.accesses.EndsDone.{fault_done}
-use Rattle.hp_laws.proofs.accesses.SlotShows.{always_fill, always_gives, always_grant, always_mount, always_remounting, bytes_on}
+use Rattle.hp_laws.proofs.accesses.SlotShows.{always_fill, always_gives, always_grant, always_mount, always_remounting}
 use Rattle.hp_laws.proofs.steps.Walk.{AreFewMaps, Walks, tells_all, walk_all}
 use Rattle.hp_laws.proofs.promises.SmallPool.{meminfo_small, most_frames_in, nodes_small}
 
@@ -100,10 +94,6 @@ module _ (s : State) (st : IsSettledState s) where
 
 -- ---- the task table
 
-or_small : (ts : List (Bool × Refusal)) (old new : Table) → IsWithinLimits (or_refused ts old (Ok Done, new)).0
-or_small [] old new = tt
-or_small (x ∷ ts) old new = cond_both x.0 (Err x.1, old) (or_refused ts old (Ok Done, new)) (λ (q : Reply × Table). IsWithinLimits q.0) (λ e. tt) (λ e. or_small ts old new)
-
 -- ---- events on a slot
 
 -- done, or a map's number or bytes within their limits
@@ -126,20 +116,6 @@ few_maps m task n e =
     let more = or_parts (nat_le most_maps (length (maps_of m))) (is_new_task_over m task) parts.1 in
     let few = leb-false most_maps (length (maps_of m)) more.0 in
     let number = number_le task m in omega (arith, few, number)
-
-module _ (size : ℕ) (c : Choice) (m : Mount) (home i : ℕ) (s : Spot) (at : IsSpot m s) (offset count : ℕ) where
-  abbrev FewBytes : Mount → Type 0
-  FewBytes n = count ≤ most_bytes
-
-  load_bytes : Always (On FewBytes) (byte_access c size m home i offset count Read s)
-  load_bytes = grind (arith, common_steps)
-
-  load_ends : (o : Outcome) → On FewBytes o → Plain (continued (λ n. Answered (bytes_answer offset count (value size (again n s).file (again n s).map i)) (Some n)) o)
-  load_ends o on = grind (arith, common_steps)
-
-store_ends : (size : ℕ) (m : Mount) (s : Spot) (at : IsSpot m s) (i offset : ℕ) (bytes : List ℕ) (o : Outcome) → On (Result size m s at i) o
-    → Plain (continued (λ n. Answered Done (Some (written n s i offset bytes))) o)
-store_ends size m s at i offset bytes o on = grind (arith, common_steps)
 
 abbrev PlainUnlessTold : SlotEvent → Plan → Type 0
 PlainUnlessTold e p = tells_all e ≡ false → Always Plain p

@@ -1,13 +1,10 @@
 -- A step makes no name and no number but its own, and leaves no file that nobody has.
 use Rattle.std.proofs.Common.{arith}
 use Rattle.std.proofs.lemmas.Grind.{common_steps}
-use Rattle.std.proofs.Common.{◌≡◌, ⊎_elim, subst, ℕ, ◌<◌, ◌&&◌, ◌==◌, Bool, true, false, None, Some, Ok, Err, List, length, refl, sym, ap, ◌∙◌}
+use Rattle.std.proofs.Common.{◌≡◌, ⊎_elim, subst, ℕ, ◌<◌, ◌==◌, Bool, true, false, None, Ok, Err, List, length, refl, sym, ap, ◌∙◌}
 use Rattle.std.specs.List.{slice_index_or, slice_set}
-use Rattle.std.specs.Str.{bytes_eq}
-use Rattle.std.proofs.lemmas.Bool.{cases_eq, cases_lt, eq-eqb, eqb-true, false_from_ne_true, ltb-true}
-use Rattle.std.proofs.lemmas.List.{get_or-set_other, get_or-set_same, get_or_past}
+use Rattle.std.proofs.lemmas.Bool.{eqb-true, false_from_ne_true, ltb-true}
 use Rattle.hp_model.specs.declared.answer.Answer.{Answer}
-use Rattle.hp_model.specs.declared.answer.Answer.TheVariants.{MapNo}
 use Rattle.hp_model.specs.declared.event.Event.{Event}
 use Rattle.hp_model.specs.declared.event.Event.TheVariants.{Tasks, Slot as OnSlot, Pool as OnPool}
 use Rattle.hp_model.specs.declared.event.SlotEvent.{SlotEvent}
@@ -21,7 +18,6 @@ use Rattle.hp_model.specs.machine.Plan.{Answered, Outcome, Refused, Reply, Slot}
 use Rattle.hp_model.specs.machine.Promises.{IsForkLeft}
 use Rattle.hp_model.specs.machine.Settled.{IsSettledState}
 use Rattle.hp_model.specs.machine.SlotEvent.{has_name}
-use Rattle.hp_model.specs.machine.Sound.{IsSound}
 use Rattle.hp_model.specs.machine.State.{State, slot_at}
 use Rattle.hp_model.specs.machine.Step.{IsScript, IsScripted, IsStep, Script, script}
 use Rattle.hp_laws.specs.Balance.{left_by}
@@ -30,7 +26,6 @@ use Rattle.hp_laws.proofs.ending.GoneAfter.{exit_gone}
 use Rattle.hp_laws.proofs.ending.RefusedForks.{fork_refused}
 use Rattle.hp_laws.proofs.making.OnlyMade.{MakesNo, NoMore, any_file, has_map, made_by, more_made, name_absent, name_none}
 use Rattle.hp_laws.proofs.making.OnlyMade.{new_by, no_more, no_more_then, number_absent, number_none, slot_makes, without_more}
-use Rattle.hp_laws.proofs.sections.PoolTied.{left_sound}
 use Rattle.hp_laws.proofs.steps.Outcomes.{event_ends, reply_of}
 use Rattle.hp_laws.proofs.steps.Whole.{by_event, is_whole, slot_step, step_of}
 
@@ -65,10 +60,6 @@ makes s step reply t all = record {
 
 same_makes : (s : State) (step : Step) (reply : Reply) (t : State) → t.slots ≡ s.slots → Makes s step reply t
 same_makes s step reply t same = grind (arith, common_steps)
-
--- on its own slot a step makes what its event makes
-at_own : (k : ℕ) (b : Bool) → ((k == k) && b) ≡ false → b ≡ false
-at_own k b off = sym (ap (λ c. c && b) (eq-eqb k k refl)) ∙ off
 
 name_made : (k : ℕ) (e : SlotEvent) (a : Answer) → is_whole (OnSlot k e) ≡ true → (name : List ℕ) → is_made_name (slot_step k e) (Ok a) k name ≡ false → made_by e name ≡ false
 name_made k e a whole name off = grind (arith, common_steps)

@@ -2,67 +2,58 @@
 use Rattle.std.proofs.Common.{arith}
 use Rattle.std.proofs.lemmas.Grind.{common_steps}
 use Rattle.std.specs.List.{range_with_len}
-use Rattle.std.proofs.Common.{◌≡◌, ◌⊎◌, inl, inr, subst, ℕ, ◌+◌, ◌&&◌, ◌||◌, ◌==◌, Bool, true, false, not, None, Option, Some, is_some, Result as ResultOf, Ok, Err, List, [], ◌∷◌}
+use Rattle.std.proofs.Common.{◌≡◌, ◌⊎◌, inl, subst, ℕ, ◌+◌, ◌&&◌, ◌||◌, ◌==◌, Bool, true, false, not, None, Option, Some, is_some, Result as ResultOf, Ok, Err, List, [], ◌∷◌}
 use Rattle.std.proofs.Common.{◌++◌, length, refl, sym, ap, ◌∙◌, if◌then◌else◌, nat_le, nat_lt}
-use Rattle.std.proofs.lemmas.Bool.{cond_both, ltb-false}
+use Rattle.std.proofs.lemmas.Bool.{ltb-false}
 use Rattle.std.proofs.lemmas.List.{get_or_past}
-use Rattle.hp_model.specs.declared.answer.Answer.TheVariants.{Done, Home}
-use Rattle.hp_model.specs.declared.cell.Cell.{Cell}
-use Rattle.hp_model.specs.declared.cell.Cell.TheVariants.{Hole, Entered, Present}
+use Rattle.hp_model.specs.declared.answer.Answer.TheVariants.{Done}
 use Rattle.hp_model.specs.declared.event.Event.TheVariants.{Tasks, Slot as OnSlot, Pool as OnPool}
 use Rattle.hp_model.specs.declared.event.PoolEvent.TheVariants as pool
 use Rattle.hp_model.specs.declared.event.SlotEvent.{SlotEvent}
 use Rattle.hp_model.specs.declared.event.SlotEvent.TheVariants as slot
 use Rattle.hp_model.specs.declared.event.TableEvent.TheVariants as table
 use Rattle.hp_model.specs.declared.limits.Limits.{Limits}
-use Rattle.hp_model.specs.declared.place.Place.{Place}
-use Rattle.hp_model.specs.declared.place.Place.TheVariants.{Gone, Live}
 use Rattle.hp_model.specs.declared.refusal.Refusal.{Refusal}
 use Rattle.hp_model.specs.declared.refusal.Refusal.TheVariants.{BadName, BeyondEnd, CrossesPage, FileExists, MountFull, NoPages, NoSuchFile, NoSuchMap, NoSuchNode, NoSuchSlot, NoSuchTask}
 use Rattle.hp_model.specs.declared.refusal.Refusal.TheVariants.{NoInodes, OutOfMemory, OutOfRange, SlotTaken, TakenByOwner, TaskExists, TooMany}
 use Rattle.hp_model.specs.declared.step.Intent.{Intent}
-use Rattle.hp_model.specs.declared.step.Intent.TheVariants.{Read, Write}
+use Rattle.hp_model.specs.declared.step.Intent.TheVariants.{Read}
 use Rattle.hp_model.specs.declared.step.Sharing.{Sharing}
-use Rattle.hp_model.specs.declared.step.Sharing.TheVariants.{Private, Shared}
 use Rattle.hp_model.specs.declared.step.Step.{Step}
 use Rattle.hp_model.specs.declared.step.Step.TheVariants as step
-use Rattle.hp_model.specs.files.Access.{access, new_copy, private_access, shared_access, uncopied_access}
-use Rattle.hp_model.specs.files.CopyWrite.{copy_write, is_held_once, owner_write, taken_back}
-use Rattle.hp_model.specs.files.File.{Mount, cell_at, has_page, maps_of, new_file}
-use Rattle.hp_model.specs.files.Fork.{forked}
-use Rattle.hp_model.specs.files.Mapping.{copy_of, is_live, is_map, is_shared, place_at}
+use Rattle.hp_model.specs.files.Access.{access, private_access, shared_access}
+use Rattle.hp_model.specs.files.File.{Mount, cell_at, new_file}
+use Rattle.hp_model.specs.files.Mapping.{copy_of, is_map, is_shared, place_at}
 use Rattle.hp_model.specs.files.Options.{limits, wanted_of}
-use Rattle.hp_model.specs.files.Page.{Copy, Page}
-use Rattle.hp_model.specs.files.Spot.{Spot, again, spot, written}
+use Rattle.hp_model.specs.files.Spot.{Spot, again, spot}
 use Rattle.hp_model.specs.files.Value.{value}
 use Rattle.hp_model.specs.machine.Event.{IsEvent, has_maps_of, planned, with_outcome, with_table}
-use Rattle.hp_model.specs.machine.Plan.{Answered, Ask, Choice, Finish, Outcome, Plan, Refused, Reply, Slot, continued, gives, grant, grant_page, refuse, unless, when_granted, with_value}
+use Rattle.hp_model.specs.machine.Plan.{Answered, Choice, Finish, Outcome, Plan, Refused, Reply, Slot, continued, gives, grant, refuse, unless, with_value}
 use Rattle.hp_model.specs.machine.SlotEvent.{anon_tests, byte_access, byte_tests, bytes_answer, edited, fault, fault_tests, file_named}
 use Rattle.hp_model.specs.machine.SlotEvent.{is_bad_range, is_beyond, is_name, is_unmapped, load, fill, preallocate, preallocate_tests}
-use Rattle.hp_model.specs.machine.SlotEvent.{map_file, map_tests, mount_outcome, mount_pages, mount_section, punch, read, read_tests}
-use Rattle.hp_model.specs.machine.SlotEvent.{remount_outcome, slot_event, stat, store, truncate, umount_tests, unlink, unmap}
+use Rattle.hp_model.specs.machine.SlotEvent.{map_file, map_tests, mount_outcome, mount_pages, mount_section, punch}
+use Rattle.hp_model.specs.machine.SlotEvent.{remount_outcome, slot_event, store, unmap}
 use Rattle.hp_model.specs.machine.State.{State, slot_at}
-use Rattle.hp_model.specs.machine.Step.{Answer_with, IsScript, IsScripted, IsStep, Script, exit_slots, finding, fork_slots, home_in, on_slot, only, or_undone, undone, when_done}
+use Rattle.hp_model.specs.machine.Step.{Answer_with, IsScript, IsScripted, IsStep, Script, exit_slots, finding, fork_slots, on_slot, only, or_undone, undone, when_done}
 use Rattle.hp_model.specs.machine.Table.{Table, added, home_of, is_crowded, is_known, or_refused, removed, when_known}
 use Rattle.hp_model.specs.machine.Tests.{IsForkRefusedBy, IsRefusedBy, MeetsTests, cut_off_test, failed, failed_at, failed_by}
 use Rattle.hp_model.specs.machine.Tests.{failed_mount, failed_on, failed_remount, first_failed, if_there, is_short, refused_limits}
-use Rattle.hp_model.specs.files.GiveBack.{punched, truncated, unlinked, unmapped_from}
-use Rattle.hp_model.specs.files.MakeMap.{asked, tasks_of, with_new}
+use Rattle.hp_model.specs.files.GiveBack.{punched, unmapped_from}
+use Rattle.hp_model.specs.files.MakeMap.{asked, with_new}
 use Rattle.hp_model.specs.machine.Machine.{pool_of, with_pool}
-use Rattle.hp_model.specs.pool.Grant.{is_full, is_over, rise}
+use Rattle.hp_model.specs.pool.Grant.{is_over}
 use Rattle.hp_model.specs.declared.section.PoolAnswer.{PoolAnswer}
-use Rattle.hp_model.specs.declared.section.Section.TheVariants.{Grant, GrantPage}
 use Rattle.hp_model.specs.pool.Pool.{section}
 use Rattle.hp_model.specs.pool.PoolCounts.{Pool}
 use Rattle.hp_model.specs.pool.Resize.{pool_event}
 use Rattle.hp_model.specs.declared.step.Reserving.{Reserving}
 use Rattle.hp_model.specs.declared.event.PoolEvent.{PoolEvent}
-use Rattle.hp_model.specs.Profile.{most_bytes, most_file_pages, most_files, most_maps, most_overcommit, most_tasks}
+use Rattle.hp_model.specs.Profile.{most_bytes, most_files, most_overcommit}
 use Rattle.hp_laws.proofs.ending.Fades.{exits_done}
 use Rattle.hp_laws.proofs.ending.RefusedForks.{either_with}
 use Rattle.hp_laws.proofs.promises.Shortage.{exits_lead}
 use Rattle.hp_laws.proofs.steps.SlotsBalanced.{tells_nr}
-use Rattle.hp_laws.proofs.steps.Outcomes.{Always, always_if, always_then, event_ends, only_goes, outcome_if, reply_of}
+use Rattle.hp_laws.proofs.steps.Outcomes.{Always, always_if, always_then, event_ends, only_goes, reply_of}
 use Rattle.hp_laws.proofs.making.Remounts.{remount_ends, remount_told}
 use Rattle.hp_laws.proofs.accesses.SlotShows.{always_gives}
 use Rattle.hp_model.specs.files.Fill.{lacking}
@@ -97,43 +88,12 @@ granted_short b o h = grind (arith, common_steps)
 grant_short : (c : Choice) (m : Mount) (home k : ℕ) (o : Outcome) → Short o → Always Short (grant c m home k o)
 grant_short c m home k o h = grind (arith, common_steps)
 
-page_short : (c : Choice) (m : Mount) (home : ℕ) (f : ℕ → Outcome) → ((n : ℕ) → Short (f n)) → Always Short (grant_page c m home f)
-page_short c m home f h = short_test _ MountFull _ refl (short_test c.refused OutOfMemory _ refl (λ a. granted_short a.granted (f a.node) (h a.node)))
-
 gives_short : (old new : Slot) → Always Short (gives Done old new)
 gives_short old new = always_gives Short Done old new refl
 
 -- ---- accesses
 
 module _ (c : Choice) (size : ℕ) (m : Mount) (s : Spot) (home i : ℕ) where
-  shared_short : (cell : Cell Page) → Always Short (shared_access c size m s home i cell)
-  shared_short cell = grind (arith, common_steps)
-
-  new_short : (consumed : Bool) → Always Short (new_copy c size m s home i consumed)
-  new_short consumed = always_if Short (s.map.owner && not consumed) _ _ (λ e a. refl) (λ e. page_short c m home _ (λ n. refl))
-
-  uncopied_short : (consumed : Bool) (intent : Intent) → Always Short (uncopied_access c size m s home i consumed intent)
-  uncopied_short consumed Write = new_short consumed
-  uncopied_short consumed Read = always_if Short (has_page (cell_at s.file i)) _ _ (λ e. refl) (λ e. new_short consumed)
-
-  owner_short : (stamp : ℕ) (fresh : ℕ → Outcome) → ((n : ℕ) → Short (fresh n)) → Always Short (owner_write m s home stamp fresh)
-  owner_short stamp fresh h = grind (arith, common_steps)
-
-  write_short : (consumed : Bool) (copy : Copy) → Always Short (copy_write c m s home i consumed copy)
-  write_short consumed copy = grind (arith, common_steps)
-
-  marked_fits : (b : Bool) (q : Plan) → Always Short q → Always (Fits (first_failed ((b && true, TakenByOwner) ∷ []))) (if b then refuse TakenByOwner else q)
-  marked_fits b q h = grind (arith, common_steps)
-
-  copied_fits : (b : Bool) (q : Plan) → Always Short q → Always (Fits (first_failed ((b && false, TakenByOwner) ∷ []))) q
-  copied_fits b q h = grind (arith, common_steps)
-
-  private_fits : (p : Place Copy) (intent : Intent) → not (is_live p) ≡ false
-      → Always (Fits (first_failed ((s.map.unmapped && not (is_some (copy_of p)), TakenByOwner) ∷ []))) (private_access c size m s home i p intent)
-  private_fits Gone intent live = cc
-  private_fits (Live consumed (Some copy)) Read live = copied_fits s.map.unmapped (Finish (Answered Done (Some m))) refl
-  private_fits (Live consumed (Some copy)) Write live = copied_fits s.map.unmapped (copy_write c m s home i consumed copy) (write_short consumed copy)
-  private_fits (Live consumed None) intent live = marked_fits s.map.unmapped (uncopied_access c size m s home i consumed intent) (uncopied_short consumed intent)
 
   kind_fits : (kind : Sharing) (intent : Intent) → is_unmapped s i ≡ false
       → Always (Fits (first_failed ((not (is_shared kind) && (s.map.unmapped && not (is_some (copy_of (place_at s.map i)))), TakenByOwner) ∷ [])))
@@ -367,13 +327,6 @@ module _ (s : State) (reply : Reply) (t : State) where
   abbrev Forked : Reply → Type 0
   Forked r = (is_short r ≡ true) ⊎ (r ≡ Err TooMany)
 
-  abbrev ForkedTo : Outcome → Type 0
-  ForkedTo (Refused r) = Forked (Err r)
-  ForkedTo (Answered a new) = Unit {0}
-
-  fork_event : (parent child : ℕ) (size k : ℕ) (c : Choice) (m : Mount) → Always ForkedTo (slot_event size k c (Some m) (slot.ForkMaps parent child))
-  fork_event parent child size k c m = grind (arith, common_steps)
-
   undone_meets : (done : List ℕ) (child : ℕ) (r : Refusal) → Forked (Err r) → (u : State) → IsScript u (undone done child r) reply t → Forked reply
   undone_meets done child r h u is = exits_lead reply t (Forked reply) child done _ (λ v it. subst Forked (sym it.3.0) h) u is
 
@@ -384,8 +337,6 @@ module _ (s : State) (reply : Reply) (t : State) where
       (λ has it. by_reply it.0 it.1 (by_slot (slot_at u k) refl has it.0 it.1 it.2) (λ next. slots_meet parent child ks (done ++ k ∷ []) it.1 next) it.3)
       (λ none it. slots_meet parent child ks done u it) is
     where
-      by_outcome : (o : Outcome) (r : Reply) → ForkedTo o → r ≡ reply_of o → Forked r
-      by_outcome o r h e = grind (arith, common_steps)
 
       by_slot : (old : Slot) → slot_at u k ≡ old → has_maps_of parent old ≡ true → (r : Reply) (v : State) → IsEvent u (OnSlot k (slot.ForkMaps parent child)) r v → Forked r
       by_slot old there has r v is = grind (arith, common_steps)

@@ -5,8 +5,8 @@ use Rattle.std.proofs.Common.{Ok, Err, Option, List, [], ◌∷◌, length, map,
 use Rattle.std.specs.Prelude.{is_some}
 use Rattle.std.specs.List.{filter, find, sum, slice_index_or, list_any}
 use Rattle.std.specs.Option.{option_map}
-use Rattle.std.proofs.lemmas.Bool.{cond_both, eqb-true, ltb-true, leb-false}
-use Rattle.std.proofs.lemmas.List.{length-map, length-append}
+use Rattle.std.proofs.lemmas.Bool.{cond_both, eqb-true, ltb-true}
+use Rattle.std.proofs.lemmas.List.{length-map}
 use Rattle.std.proofs.lemmas.List.Sums.{sum_by-cons}
 use Rattle.hp_model.specs.declared.answer.Answer.TheVariants.{Done, Home}
 use Rattle.hp_model.specs.declared.entry.PoolEntry.{PoolEntry}
@@ -52,9 +52,6 @@ Keeps t is_one r = KeepsPlaces most_tasks (length t) (length r.1) is_one
 
 same_table : (t : Table) (r : Reply) → length t ≤ most_tasks → Keeps t false (r, t)
 same_table t r few = record { enough = few; less = λ e. cc }
-
-one_more : (t : Table) (task home : ℕ) → is_crowded t ≡ false → Keeps t false (Ok Done, added t task home)
-one_more t task home e = record { enough = (let l = leb-false most_tasks (length t) e in omega (arith, l, length-append t ((task, home) ∷ []))); less = λ e. cc }
 
 -- the last of the tests is that there is room
 adds : (t : Table) (task home : ℕ) → length t ≤ most_tasks → Keeps t false (or_refused ((is_known t task, TaskExists) ∷ (is_crowded t, TooMany) ∷ []) t (Ok Done, added t task home))

@@ -1,10 +1,9 @@
 -- The counts of a settled machine are sums over files and maps, and limits and minimums hold.
 use Rattle.std.proofs.lemmas.Grind.{common_steps}
-use Rattle.std.proofs.Common.{◌≡◌, ⊎_elim, inl, inr, subst, ℕ, zero, suc, ◌+◌, ◌<◌, ◌≤◌, None, Some, List, [], ◌∷◌, length, refl, sym, ap, ◌∙◌, arith}
-use Rattle.std.specs.List.{sum, sum_by, slice_set, slice_index_or, range_with_len}
-use Rattle.std.proofs.lemmas.Bool.{cases_eq, ltb-true}
-use Rattle.std.proofs.lemmas.List.{get_or-set_same, get_or-set_other}
-use Rattle.std.proofs.lemmas.List.Sums.{sum-map, sum_by-cons}
+use Rattle.std.proofs.Common.{◌≡◌, ⊎_elim, inl, subst, ℕ, ◌+◌, ◌<◌, ◌≤◌, None, List, length, sym, ap, ◌∙◌, arith}
+use Rattle.std.specs.List.{sum, slice_set, slice_index_or, range_with_len}
+use Rattle.std.proofs.lemmas.Bool.{ltb-true}
+use Rattle.std.proofs.lemmas.List.Sums.{sum-map}
 use Rattle.hp_model.specs.declared.event.Event.{Event}
 use Rattle.hp_model.specs.declared.event.Event.TheVariants.{Tasks, Slot as OnSlot, Pool as OnPool}
 use Rattle.hp_laws.specs.Balance.{IsBalanced, IsLimited, left_by}
@@ -12,7 +11,7 @@ use Rattle.hp_model.specs.machine.Plan.{IsWithinLimit, slot_usage}
 use Rattle.hp_model.specs.machine.Event.{after, CanHappen, planned}
 use Rattle.hp_model.specs.machine.Machine.{committed_pages, pool_of, with_pool, used_at, used_pages}
 use Rattle.hp_model.specs.pool.NodeRows.{total_of}
-use Rattle.hp_model.specs.machine.Plan.{Reply, Slot, Plan, Finish, Ask, Choice, slot_committed, slot_pages, slot_pages_at}
+use Rattle.hp_model.specs.machine.Plan.{Reply, Slot, Plan, Finish, Ask, Choice, slot_pages, slot_pages_at}
 use Rattle.hp_model.specs.pool.Pool.{section}
 use Rattle.hp_model.specs.pool.PoolCounts.{counts_by, used}
 use Rattle.hp_model.specs.machine.Promises.{least_of}
@@ -55,13 +54,6 @@ counts_are_sums s st =
     }
 
 -- ---- minimums
-
-least_committed : (x : Slot) → least_of x ≤ slot_committed x
-least_committed x = grind (arith, common_steps)
-
--- what is committed to one slot, and to the others
-one_and_others : (xs : List Slot) (k : ℕ) → slot_committed (slice_index_or xs k None) + sum_by slot_committed (slice_set xs k None) ≡ sum_by slot_committed xs
-one_and_others xs k = grind (arith, common_steps)
 
 pub minimums_hold : (s : State) → IsSettledState s → (k : ℕ) → least_of (slot_at s k) + committed_pages (with_slot s k None) ≤ total_of (pool_of s).nodes.rows
 minimums_hold s st k = grind (arith, common_steps)

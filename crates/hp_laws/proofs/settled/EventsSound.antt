@@ -31,7 +31,7 @@ use Rattle.hp_model.specs.files.MakeMap.{mapped, new_map, next_number}
 use Rattle.hp_model.specs.files.Mapping.{Map, copy_of, is_map, is_of, is_shared, is_unconsumed, map_punched, no_map, place_at, with_place, without_range}
 use Rattle.hp_model.specs.files.MountCounts.{stamps_of}
 use Rattle.hp_model.specs.files.Page.{Copy, Page, overwritten, zeros}
-use Rattle.hp_model.specs.machine.Plan.{Ask, Answered, Choice, Finish, Outcome, Refused, Slot, gives, unless}
+use Rattle.hp_model.specs.machine.Plan.{Ask, Answered, Choice, Finish, Outcome, Slot, gives, unless}
 use Rattle.hp_model.specs.Profile.{most_bytes}
 use Rattle.hp_model.specs.machine.Sound.{HasCopy, IsSound, IsSoundFile, IsSoundMap, IsSoundMount, is_stamp}
 use Rattle.hp_model.specs.machine.SlotEvent.{byte_access, fault, file_named, has_name, is_beyond, is_unmapped, on_mount, umount_tests}

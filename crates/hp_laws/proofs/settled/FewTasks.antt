@@ -18,12 +18,12 @@ use Rattle.hp_model.specs.files.GiveBack.{file_unmapped, file_without, is_kept, 
 use Rattle.hp_model.specs.Lists.{distinct, is_among}
 use Rattle.hp_model.specs.files.MakeMap.{mapped, new_map, next_number, tasks_of, with_new}
 use Rattle.hp_model.specs.files.Mapping.{Map, is_map, is_of, map_punched, without_range}
-use Rattle.hp_model.specs.machine.Plan.{Answered, Choice, Outcome, Refused, Slot, gives}
+use Rattle.hp_model.specs.machine.Plan.{Answered, Choice, Outcome, Slot, gives}
 use Rattle.hp_model.specs.machine.Promises.{Shape, shape_of}
-use Rattle.hp_model.specs.machine.SlotEvent.{are_too_many_maps, byte_access, fault_tests}
+use Rattle.hp_model.specs.machine.SlotEvent.{byte_access, fault_tests}
 use Rattle.hp_model.specs.machine.SlotEvent.{is_new_task_over, on_mount}
 use Rattle.hp_model.specs.machine.SlotEvent.{slot_event, umount_tests}
-use Rattle.hp_model.specs.Profile.{most_map_pages, most_maps, most_tasks}
+use Rattle.hp_model.specs.Profile.{most_maps, most_tasks}
 use Rattle.hp_model.specs.files.Spot.{Spot, file_written, written}
 use Rattle.hp_model.proofs.Distinct.{is_among-append, length_if, same_members}
 use Rattle.hp_laws.specs.Balance.{Always, left_by}

@@ -1,10 +1,10 @@
 -- A write into a copy that other maps hold too: a copy of its own, or the owner takes the copy back.
 use Rattle.std.proofs.lemmas.Grind.{common_steps}
-use Rattle.std.proofs.Common.{◌≡◌, ⊎_elim, inl, inr, ◌⊎◌, subst, ℕ, ◌-◌, ◌<◌, Bool, true, false, ◌&&◌, ◌||◌, ◌==◌}
+use Rattle.std.proofs.Common.{◌≡◌, ⊎_elim, ◌⊎◌, subst, ℕ, ◌-◌, ◌<◌, Bool, true, false, ◌&&◌, ◌||◌, ◌==◌}
 use Rattle.std.proofs.Common.{not, None, Some, List, [], ◌∷◌, length, map, refl, sym, ap, ◌∙◌, cond, arith, if◌then◌else◌}
 use Rattle.std.specs.List.{list_any, slice_index_or, count_by}
 use Rattle.std.proofs.lemmas.List.{length-map, get_or-map}
-use Rattle.std.proofs.lemmas.Bool.{or_left, or_right, true_from_ne_false, both_ways, eq-eqb, eqb-true, and_from, and_parts, and_right, or_cases}
+use Rattle.std.proofs.lemmas.Bool.{or_left, or_right, true_from_ne_false, both_ways, eq-eqb, eqb-true, and_from, and_parts, or_cases}
 use Rattle.std.proofs.lemmas.List.Folds.{list_any_at}
 use Rattle.std.proofs.lemmas.List.Sums.{sum_by-set}
 use Rattle.hp_model.specs.files.CopyWrite.{is_held_once, robbed, drop_stamp, holds}
@@ -12,11 +12,11 @@ use Rattle.hp_model.specs.files.File.{with_map, has_page, File}
 use Rattle.hp_model.specs.Lists.{is_among, edit_at}
 use Rattle.hp_model.specs.files.Mapping.{with_place, without_copy, Map, place_at, is_unconsumed}
 use Rattle.hp_model.specs.files.MountCounts.{owner_reserves, stamps_of, is_waiting, is_page_at}
-use Rattle.hp_model.specs.files.Page.{overwritten, Page, Copy}
+use Rattle.hp_model.specs.files.Page.{Page, Copy}
 use Rattle.hp_model.specs.machine.Sound.{place_has, map_has, file_has, is_stamp}
 use Rattle.hp_model.specs.files.Spot.{cell_written, place_written, map_written}
 use Rattle.hp_model.specs.declared.cell.Cell.{Cell}
-use Rattle.hp_model.specs.declared.cell.Cell.TheVariants.{Hole, Entered, Present}
+use Rattle.hp_model.specs.declared.cell.Cell.TheVariants.{Present}
 use Rattle.hp_model.specs.declared.place.Place.{Place}
 use Rattle.hp_model.specs.declared.place.Place.TheVariants.{Gone, Live}
 use Rattle.hp_laws.proofs.counts.FileMoves.{or_false, FileGrows, IsMapAt, IsLiveAt, live_at, reserves_step, same_owed, held_in, maps_count, none_held, agreed_test, spent}
@@ -102,10 +102,6 @@ but stamp t s n = t s n && not (s == stamp)
 abbrev only : ℕ → (ℕ → ℕ → Bool) → ℕ → ℕ → Bool
 only stamp t s n = t s n && (s == stamp)
 
-kept_if : (q : ℕ → ℕ → Bool) (c : Bool) (copy : Copy) (b : Bool) → (b ≡ true → q copy.stamp copy.page.node ≡ false) →
-    q copy.stamp copy.page.node ≡ true → place_has q (if b then Live c None else Live c (Some copy)) ≡ true
-kept_if q c copy b h e = grind (arith, common_steps)
-
 kept_place : (t : ℕ → ℕ → Bool) (stamp : ℕ) (p : Place Copy) → place_has (but stamp t) p ≡ true → place_has (but stamp t) (drop_stamp stamp p) ≡ true
 kept_place t stamp p e = grind (arith, common_steps)
 
@@ -116,10 +112,6 @@ kept_map t stamp false m e = e
 
 robbed_keeps : (t : ℕ → ℕ → Bool) (stamp : ℕ) (m : Map) → map_has (but stamp t) m ≡ true → map_has (but stamp t) (robbed stamp m) ≡ true
 robbed_keeps t stamp m e = kept_map t stamp (list_any (holds stamp) m.places) m e
-
--- either the stamp or another passes
-which_stamp : (a b : Bool) → a ≡ true → ((a && not b) ≡ true) ⊎ ((a && b) ≡ true)
-which_stamp a b e = grind (arith, common_steps)
 
 which_place : (t : ℕ → ℕ → Bool) (stamp : ℕ) (p : Place Copy) → place_has t p ≡ true → (place_has (but stamp t) p ≡ true) ⊎ (place_has (only stamp t) p ≡ true)
 which_place t stamp p e = grind (arith, common_steps)
@@ -152,9 +144,6 @@ some_copy t f e = any_some t map_has (λ m. any_some t place_has (place_some t) 
 
 same_bool : (a b : Bool) → (a ≡ true → b ≡ true) → (b ≡ true → a ≡ true) → a ≡ b
 same_bool a b f g = grind (arith, common_steps)
-
-unconsumed_if : (b : Bool) (p : Place Copy) → is_unconsumed (if b then without_copy p else p) ≡ is_unconsumed p
-unconsumed_if b p = grind (arith, common_steps)
 
 robbed_reserves : (stamp : ℕ) (b : Bool) (m : Map) → owner_reserves (if b then record m { unmapped = true; places = map (drop_stamp stamp) m.places } else m) ≡ owner_reserves m
 robbed_reserves stamp b m = grind (arith, common_steps)

@@ -1,11 +1,10 @@
 -- What a step leads to: one event on a slot, one on the pool alone, or one on the task table; and what follows for the slots.
 use Rattle.std.proofs.Common.{arith}
 use Rattle.std.proofs.lemmas.Grind.{common_steps}
-use Rattle.std.proofs.Common.{◌≡◌, inl, inr, ◌⊎◌, subst, ℕ, Bool, true, false, Option, None, Some, Ok, Err, refl, sym, ap, ◌∙◌, if◌then◌else◌, nat_lt}
+use Rattle.std.proofs.Common.{◌≡◌, ◌⊎◌, subst, ℕ, Bool, true, false, Ok, Err, sym, if◌then◌else◌}
 use Rattle.std.specs.Bool.{MatchBool}
 use Rattle.std.specs.List.{slice_set}
 use Rattle.std.proofs.lemmas.Bool.{cond_both}
-use Rattle.hp_model.specs.declared.answer.Answer.TheVariants.{Home as HomeAnswer}
 use Rattle.hp_model.specs.declared.event.Event.{Event}
 use Rattle.hp_model.specs.declared.event.Event.TheVariants.{Slot as OnSlot}
 use Rattle.hp_model.specs.declared.event.SlotEvent.{SlotEvent}
@@ -13,16 +12,12 @@ use Rattle.hp_model.specs.declared.refusal.Refusal.{Refusal}
 use Rattle.hp_model.specs.declared.refusal.Refusal.TheVariants.{NoSuchTask, NoSuchSlot}
 pub use Rattle.hp_laws.specs.Balance.{Always}
 use Rattle.hp_laws.specs.Balance.{left_by}
-use Rattle.hp_model.specs.machine.Event.{IsEvent, planned, with_outcome, with_table}
+use Rattle.hp_model.specs.machine.Event.{IsEvent, planned}
 use Rattle.hp_model.specs.files.File.{Mount}
-use Rattle.hp_model.specs.machine.Machine.{pool_of, with_pool}
-use Rattle.hp_model.specs.machine.Plan.{Reply, Outcome, Refused, Answered, Plan, Finish, Ask, Choice, refuse, continued, and_then}
-use Rattle.hp_model.specs.pool.Pool.{section}
+use Rattle.hp_model.specs.machine.Plan.{Reply, Outcome, Refused, Answered, Plan, Choice, refuse, continued, and_then}
 use Rattle.hp_model.specs.machine.SlotEvent.{slot_event}
 use Rattle.hp_model.specs.machine.State.{State, slot_at}
-use Rattle.hp_model.specs.machine.Step.{Script, Answer_with, only, finding, home_in, on_slot, IsScript}
-use Rattle.hp_model.specs.machine.Table.{home_of, when_known}
-use Rattle.hp_laws.proofs.sections.PoolTied.{settled_is}
+use Rattle.hp_model.specs.machine.Step.{Script, only, finding, on_slot, IsScript}
 
 -- ---- outcomes
 
@@ -56,9 +51,6 @@ pub record Ends (P : Outcome → Type 0) (s : State) (k : ℕ) (reply : Reply) (
   pub replied : reply ≡ reply_of outcome
   pub size : t.page_size ≡ s.page_size
   pub slots : t.slots ≡ slice_set s.slots k (left_by (slot_at s k) outcome)
-
-pub ends_so : (P : Outcome → Type 0) (s : State) (k : ℕ) (o : Outcome) → P o → Ends P s k (with_outcome s k o).0 (with_outcome s k o).1
-ends_so P s k o h = grind (arith, common_steps)
 
 plan_ends : (P : Outcome → Type 0) (s : State) (k : ℕ) (p : Plan) → Always P p → Ends P s k (planned s k p).0 (planned s k p).1
 plan_ends P s k p h = grind (arith, common_steps)

@@ -1,28 +1,22 @@
 -- How each way of making a plan balances.
 use Rattle.std.proofs.lemmas.Grind.{common_steps}
-use Rattle.std.proofs.Common.{◌≡◌, ⊎_elim, inl, inr, ap, ◌∙◌, subst, length, ℕ, zero, suc, ◌+◌, ◌-◌, ◌<◌, ◌≤◌}
-use Rattle.std.proofs.Common.{Bool, true, false, ◌&&◌, ◌==◌, None, Some, List, [], ◌∷◌, refl, cond, arith, if◌then◌else◌}
-use Rattle.std.specs.List.{sum, slice_index_or}
-use Rattle.std.proofs.lemmas.Bool.{cond_both, and_parts, eqb-true}
-use Rattle.std.proofs.lemmas.Bool.Decides.{nat_tests}
-use Rattle.std.specs.Prelude.{nat_lt}
-use Rattle.std.proofs.lemmas.List.Sums.{get_or-le-sum_by}
+use Rattle.std.proofs.Common.{◌≡◌, inl, ℕ, ◌≤◌}
+use Rattle.std.proofs.Common.{Bool, false, ◌&&◌, ◌==◌, None, Some, List, [], ◌∷◌, refl, arith, if◌then◌else◌}
+use Rattle.std.proofs.lemmas.Bool.{cond_both}
 use Rattle.hp_model.specs.declared.answer.Answer.{Answer}
 use Rattle.hp_model.specs.declared.answer.Answer.TheVariants.{Done}
 use Rattle.hp_model.specs.declared.refusal.Refusal.{Refusal}
 use Rattle.hp_model.specs.declared.refusal.Refusal.TheVariants.{NoPages, MountFull, OutOfMemory}
-use Rattle.hp_laws.specs.Balance.{Change, Stays, IsBalanced, IsLimited, left_by}
+use Rattle.hp_laws.specs.Balance.{Change, Stays, IsBalanced, left_by}
 use Rattle.hp_model.specs.machine.Plan.{slot_usage}
 use Rattle.hp_model.specs.files.File.{Mount}
 use Rattle.hp_model.specs.files.Fill.{rising_nodes}
-use Rattle.hp_model.specs.pool.Grant.{rise, is_full, is_over}
-use Rattle.hp_model.specs.files.MountCounts.{pages_at, usage_of}
+use Rattle.hp_model.specs.pool.Grant.{rise, is_full}
 use Rattle.hp_model.specs.machine.Plan.{Slot, Outcome, Refused, Answered, Plan, Finish, Ask, Choice, refuse, unless, continued}
-use Rattle.hp_model.specs.machine.Plan.{and_then, grant, grant_page, reserved_page, when_granted, slot_committed, slot_pages_at, puts_of, fall_of, gives}
-use Rattle.hp_model.specs.declared.section.Section.TheVariants.{FillPages, Grant, GiveBack}
-use Rattle.hp_model.specs.declared.limits.Limits.{Limits}
+use Rattle.hp_model.specs.machine.Plan.{and_then, grant, grant_page, reserved_page, when_granted, slot_committed, slot_pages_at, gives}
+use Rattle.hp_model.specs.declared.section.Section.TheVariants.{FillPages}
 use Rattle.hp_laws.proofs.counts.MountMoves.{MountGrows, MountFills, MountFalls}
-use Rattle.hp_laws.proofs.lists.NodesOf.{count_of, length-nodes_of}
+use Rattle.hp_laws.proofs.lists.NodesOf.{count_of}
 use Rattle.hp_laws.proofs.counts.NodeSums.{pages-le-committed}
 use Rattle.hp_laws.proofs.steps.Walk.{plan_unless}
 
@@ -38,36 +32,13 @@ balanced_test old b r ts p h = cond_both b (refuse r) (unless ts p) (IsBalanced 
 
 -- ---- limits
 
-within_same : (l k : Limits) (u v : ℕ) → l ≡ k → u ≡ v → is_over k.max v ≡ false → is_over l.max u ≡ false
-within_same l k u v e h f = ap (λ x. is_over x.max u) e ∙ ap (is_over k.max) h ∙ f
-
-not_full : (b o : Bool) → b ≡ true → (b && o) ≡ false → o ≡ false
-not_full b o e f = grind (arith, common_steps)
-
-limited_by : (m n : Mount) (k : ℕ) → usage_of n ≡ usage_of m + k → n.limits ≡ m.limits → is_full m k ≡ false → IsLimited (Some m) (Some n)
-limited_by m n k u l f = grind (arith, common_steps)
-
 -- ---- an outcome by the pool's answer
-
-none_more : (b : Bool) (x y : ℕ) → x ≡ y + cond b 0 0 → x + 0 ≡ y + 0
-none_more b x y e = grind (arith, common_steps)
-
--- pages at the node, and the usage, one more
-grown_one : (m n : Mount) (node : ℕ) → is_full m 1 ≡ false → MountGrows m n node 1 1 → Change (Some m) (Some n) (rise m 1) 0 (λ x. if node == x then 1 else 0) (λ x. 0) 1
-grown_one m n node room grows = grind (arith, common_steps)
 
 grown_reserved : (m n : Mount) (node : ℕ) → MountGrows m n node 1 0 → Change (Some m) (Some n) 0 0 (λ x. if node == x then 1 else 0) (λ x. 0) 1
 grown_reserved m n node grows = grind (arith, common_steps)
 
-grown_by : (m n : Mount) (k : ℕ) → is_full m k ≡ false → MountGrows m n 0 0 k → Change (Some m) (Some n) (rise m k) 0 (λ x. 0) (λ x. 0) 0
-grown_by m n k room grows = grind (arith, common_steps)
-
 pub grown_same : (m n : Mount) → MountGrows m n 0 0 0 → Stays (Some m) (Some n)
 grown_same m n grows = grind (arith, common_steps)
-
--- pages of these nodes, and the usage u more
-grown_filled : (m n : Mount) (nodes : List ℕ) (u : ℕ) → is_full m u ≡ false → MountFills m n nodes u → Change (Some m) (Some n) (rise m u) 0 (λ x. count_of x nodes) (λ x. 0) (length nodes)
-grown_filled m n nodes u room grows = grind (arith, common_steps)
 
 -- ---- a page
 
@@ -101,10 +72,6 @@ balanced_fill c m n k u grows =
 
 -- ---- reservations
 
-reserves_granted : (m n : Mount) (answer : Answer) (k : ℕ) (b : Bool) → is_full m k ≡ false → MountGrows m n 0 0 k
-    → Change (Some m) (left_by (Some m) (if b then Answered answer (Some n) else Refused NoPages)) (if b then rise m k else 0) 0 (λ x. 0) (λ x. 0) 0
-reserves_granted m n answer k b room grows = grind (arith, common_steps)
-
 pub balanced_grant : (c : Choice) (m n : Mount) (home k : ℕ) (answer : Answer) → MountGrows m n 0 0 k → IsBalanced (Some m) (grant c m home k (Answered answer (Some n)))
 balanced_grant c m n home k answer grows = grind (arith, common_steps)
 
@@ -115,12 +82,6 @@ pub record SlotFalls (old new : Slot) : Type 0 where
   pub each : (n : ℕ) → slot_pages_at n new ≤ slot_pages_at n old
   pub usage : slot_usage new ≤ slot_usage old
 
-puts_at : (old new : Slot) (n : ℕ) → n < 4 → slice_index_or (puts_of old new) n 0 ≡ slot_pages_at n old - slot_pages_at n new
-puts_at old new n l = grind (arith, common_steps)
-
-put_in_sum : (old new : Slot) (n : ℕ) → n < 4 → slot_pages_at n old - slot_pages_at n new ≤ sum (puts_of old new)
-put_in_sum old new n l = grind (arith, common_steps)
-
 pub balanced_gives : (a : Answer) (old new : Slot) → SlotFalls old new → IsBalanced old (gives a old new)
 balanced_gives a old new falls = grind (arith, common_steps)
 
@@ -128,9 +89,6 @@ pub mount_falls : (m n : Mount) → MountFalls m n → SlotFalls (Some m) (Some 
 mount_falls m n falls = grind (arith, common_steps)
 
 -- ---- what follows
-
-still_limited : (old : Slot) (m n : Mount) → MountGrows m n 0 0 0 → IsLimited old (Some m) → IsLimited old (Some n)
-still_limited old m n same first = grind (arith, common_steps)
 
 then_stays : (old : Slot) (m n : Mount) (raised lowered : ℕ) (taken put : ℕ → ℕ) (takes : ℕ) → Change old (Some m) raised lowered taken put takes →
     MountGrows m n 0 0 0 → Change old (Some n) raised lowered taken put takes

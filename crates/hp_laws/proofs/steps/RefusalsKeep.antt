@@ -84,10 +84,6 @@ remount_keeps : (m : Mount) (l : Result Limits Refusal) (p : Pool) (r : Refusal)
 remount_keeps m (Err e) p r st is = granted_none p st.total
 remount_keeps m (Ok l) p r st is = by_minimum (nat_lt (committed_with m l.min) (committed_of m)) is
   where
-    by_test : (b : Bool) (q : Pool)
-        → remount_outcome m (if◌then◌else◌ {A = PoolAnswer × Pool} b (nr_answer true p, q) (nr_answer false p, p)).0 (Ok l) ≡ Refused r
-        → (if◌then◌else◌ {A = PoolAnswer × Pool} b (nr_answer true p, q) (nr_answer false p, p)).1 ≡ p
-    by_test b q is = grind (arith, common_steps)
 
     by_minimum : (less : Bool)
         → remount_outcome m (section p (if less then ReadAndGiveBack (committed_of m - committed_with m l.min) else ReadAndGrant (committed_with m l.min - committed_of m))).0 (Ok l) ≡ Refused r
