@@ -1,10 +1,10 @@
 -- An access whose page is kept for it is never refused for want of a huge page.
 use Rattle.std.proofs.Common.{arith}
 use Rattle.std.proofs.lemmas.Grind.{common_steps}
-use Rattle.std.proofs.Common.{◌≡◌, ℕ, true, Option, None, Some, List, length, refl}
+use Rattle.std.proofs.Common.{◌≡◌, ℕ, true, Option, None, Some, List, length}
 use Rattle.hp_model.specs.declared.answer.Answer.TheVariants.{Done}
 use Rattle.hp_model.specs.declared.event.SlotEvent.TheVariants as slot
-use Rattle.hp_model.specs.declared.refusal.Refusal.TheVariants.{OutOfRange, BeyondEnd, NoSuchMap}
+use Rattle.hp_model.specs.declared.refusal.Refusal.TheVariants.{NoSuchMap}
 use Rattle.hp_model.specs.declared.step.Intent.{Intent}
 use Rattle.hp_model.specs.declared.step.Intent.TheVariants.{Read, Write}
 use Rattle.hp_model.specs.files.Access.{access}
@@ -13,7 +13,7 @@ use Rattle.hp_laws.specs.Laws.{KeepsGoing}
 use Rattle.hp_model.specs.files.Mapping.{is_map}
 use Rattle.hp_model.specs.machine.Plan.{Slot, Outcome, Answered, Choice, continued, with_value}
 use Rattle.hp_model.specs.machine.Promises.{is_cut_off, is_refused, spot_on, is_backed}
-use Rattle.hp_model.specs.machine.SlotEvent.{byte_access, bytes_answer, fault, is_beyond, is_unmapped, load, slot_event, store}
+use Rattle.hp_model.specs.machine.SlotEvent.{byte_access, bytes_answer, load, slot_event, store}
 use Rattle.hp_model.specs.files.Spot.{Spot, again, spot, written}
 use Rattle.hp_model.specs.files.Value.{value}
 use Rattle.hp_laws.proofs.steps.Outcomes.{reply_of, Always, always_test, always_then}
@@ -54,13 +54,7 @@ module _ (size k : ℕ) (c : Choice) (task home number i offset : ℕ) where
 pub fault_goes : (size k : ℕ) (c : Choice) (task home number i : ℕ) (intent : Intent) (old : Slot) → is_backed intent (spot_on old task number) i ≡ true
     → Always KeepsGoing (slot_event size k c old (slot.Fault task home number i intent))
 fault_goes size k c task home number i intent None e = cc
-fault_goes size k c task home number i intent (Some m) e = by_spot (spot m (is_map task number)) e
-  where
-    by_spot : (o : Option Spot) → is_backed intent o i ≡ true → Always KeepsGoing (with_value o NoSuchMap (fault c size m home i intent))
-    by_spot None e = refl
-    by_spot (Some s) e =
-        always_test KeepsGoing (is_unmapped s i) OutOfRange _ refl
-        (λ a. always_test KeepsGoing (is_beyond s i) BeyondEnd (access c size m s home i intent) refl (λ b. access_goes c size m s home i intent e))
+fault_goes size k c task home number i intent (Some m) e = grind (arith, common_steps, Always, always_test, access_goes)
 
 -- ---- an access through a marked map, where it has no copy
 
@@ -78,13 +72,7 @@ module _ (c : Choice) (size : ℕ) (m : Mount) (s : Spot) (home i : ℕ) where
 module _ (size k : ℕ) (c : Choice) (task home number i offset : ℕ) where
   pub load_stops : (old : Slot) (count : ℕ) → is_cut_off (spot_on old task number) i ≡ true → Always Stops (slot_event size k c old (slot.Load task home number i offset count))
   load_stops None count e = cc
-  load_stops (Some m) count e = by_spot (spot m (is_map task number)) e
-    where
-      by_spot : (o : Option Spot) → is_cut_off o i ≡ true → Always Stops (with_value o NoSuchMap (load c size m home i offset count))
-      by_spot None e = cc
-      by_spot (Some s) e =
-          let f : Mount → Outcome = λ n. Answered (bytes_answer offset count (value size (again n s).file (again n s).map i)) (Some n) in
-          always_then Stops Stops f (still_stops f) (byte_access c size m home i offset count Read s) (bytes_stop c size m s home i offset count Read e)
+  load_stops (Some m) count e = grind (arith, common_steps, Always, always_then, still_stops, bytes_stop)
 
   pub store_stops : (old : Slot) (bytes : List ℕ) → is_cut_off (spot_on old task number) i ≡ true → Always Stops (slot_event size k c old (slot.Store task home number i offset bytes))
   store_stops old bytes e = grind (arith, common_steps)

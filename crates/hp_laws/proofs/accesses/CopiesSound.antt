@@ -1,15 +1,15 @@
 -- A mount stays sound where a place gets a copy whose stamp no other place holds: a new one, or one that is written.
 use Rattle.std.proofs.lemmas.Grind.{common_steps}
-use Rattle.std.proofs.Common.{◌≡◌, ⊎_elim, inl, inr, ◌⊎◌, ℕ, ◌-◌, ◌<◌, ◌≤◌, Bool, true, false, ◌==◌, Option, None}
-use Rattle.std.proofs.Common.{Some, List, length, map, get_or, set, arith, refl, sym, ap, ◌∙◌, subst, nat_lt, if◌then◌else◌}
-use Rattle.std.specs.List.{count_by, list_any, slice_index_or}
+use Rattle.std.proofs.Common.{◌≡◌, ⊎_elim, inl, inr, ◌⊎◌, ℕ, ◌<◌, ◌≤◌, Bool, true, false, ◌==◌, Option, None}
+use Rattle.std.proofs.Common.{Some, List, length, map, get_or, set, arith, refl, sym, ap, ◌∙◌, subst}
+use Rattle.std.specs.List.{count_by, list_any}
 use Rattle.std.proofs.lemmas.Bool.{and_from, and_parts, both_ways, cases_eq, cond_both, eq-eqb, eqb-true}
 use Rattle.std.proofs.lemmas.List.{get_or-map, get_or-set_other, get_or-set_same, length-map, length-set}
 use Rattle.std.proofs.lemmas.List.Elements.{All-set}
 use Rattle.std.proofs.lemmas.List.Folds.{list_any_at}
 use Rattle.std.proofs.lemmas.List.Sums.{get_or-le-sum_by, sum_by-set}
 use Rattle.hp_model.specs.declared.place.Place.{Place}
-use Rattle.hp_model.specs.declared.place.Place.TheVariants.{Gone, Live}
+use Rattle.hp_model.specs.declared.place.Place.TheVariants.{Live}
 use Rattle.hp_model.specs.files.CopyWrite.{drop_stamp, holds, is_held_once, robbed}
 use Rattle.hp_model.specs.files.File.{File, Mount, file_in, map_in, new_file, with_file, with_map}
 use Rattle.hp_model.specs.files.Mapping.{Map, copy_of, is_map, is_shared, is_unconsumed, no_map, place_at, with_place}
@@ -225,15 +225,7 @@ module _ (stamp : ℕ) where
   held p a e same = ap (λ o. elim o [ None ↦ false | Some copy ↦ copy.stamp == stamp ]) e ∙ eq-eqb a.stamp stamp same
 
   robbed_none : (x : Map) (z : ℕ) (a : Copy) → HasCopy (robbed stamp x) z a → a.stamp ≡ stamp → ⊥
-  robbed_none x z a =
-      cond_both (list_any (holds stamp) x.places) (record x { unmapped = true; places = map (drop_stamp stamp) x.places }) x (λ y. HasCopy y z a → a.stamp ≡ stamp → ⊥)
-      (λ some. elim (nat_lt z x.start) as (λ b. copy_of (if b then Gone else slice_index_or (map (drop_stamp stamp) x.places) (z - x.start) Gone) ≡ Some a → a.stamp ≡ stamp → ⊥) [
-        | true ↦ λ e same. cc
-        | false ↦ λ e same. robbed_place (get_or x.places (z - x.start) Gone) a (sym (ap copy_of (get_map (drop_stamp stamp) Gone refl x.places (z - x.start))) ∙ e) same
-      ])
-      (λ none e same. (let live = live_of (place_at x z) a e in
-      let at = live_at x z live.0 (Some a) live.1 in
-      both_ways (list_any (holds stamp) x.places) none (list_any_at (holds stamp) x.places (z - x.start) Gone at.within (held (get_or x.places (z - x.start) Gone) a (ap copy_of at.is) same))))
+  robbed_none x z a = grind (arith, common_steps, cond_both, robbed_place, get_map, live_of, live_at, both_ways, list_any_at, held)
 
 module _ (m : Mount) (s : Spot) (at : IsSpot m s) (i : ℕ) (copy : Copy) (has : HasCopy s.map i copy) (sound : IsSoundMount m) where
   abbrev left : File

@@ -7,10 +7,9 @@ use Rattle.std.proofs.lemmas.Bool.{cases_eq, cond_both, eq-eqb, ltb-true, or_cas
 use Rattle.std.proofs.lemmas.List.{get_or-set_same, get_or-set_other}
 use Rattle.hp_model.specs.declared.answer.Answer.TheVariants.{Done}
 use Rattle.hp_model.specs.declared.cell.Cell.{Cell}
-use Rattle.hp_model.specs.declared.cell.Cell.TheVariants.{Hole, Entered, Present}
+use Rattle.hp_model.specs.declared.cell.Cell.TheVariants.{Hole, Present}
 use Rattle.hp_model.specs.declared.place.Place.{Place}
 use Rattle.hp_model.specs.declared.place.Place.TheVariants.{Gone, Live}
-use Rattle.hp_model.specs.declared.refusal.Refusal.TheVariants.{TakenByOwner}
 use Rattle.hp_model.specs.declared.section.Section.TheVariants.{GrantPage}
 use Rattle.hp_model.specs.declared.step.Intent.{Intent}
 use Rattle.hp_model.specs.declared.step.Intent.TheVariants.{Read, Write}
@@ -19,7 +18,7 @@ use Rattle.hp_model.specs.files.CopyWrite.{holds, drop_stamp, robbed, taken_back
 use Rattle.hp_model.specs.files.File.{File, Mount, cell_at, has_page, new_file, with_cell, with_file, with_map}
 use Rattle.hp_model.specs.Lists.{edit_at}
 use Rattle.hp_model.specs.files.Mapping.{Map, copy_of, is_shared, place_at, with_place, without_copy}
-use Rattle.hp_model.specs.files.Page.{Page, Copy, zeros}
+use Rattle.hp_model.specs.files.Page.{Page, Copy}
 use Rattle.hp_model.specs.files.Spot.{Spot, cell_written, copied, file_written, map_written, place_written, written}
 use Rattle.hp_model.specs.files.Value.{value}
 use Rattle.hp_model.specs.machine.Kept.{IsFilled}
@@ -217,8 +216,7 @@ module _ (size : ℕ) (m : Mount) (sound : IsSoundMount m) (s : Spot) (at : IsSp
     )
 
     place_robbed : (l x : ℕ) → (l ≡ s.map_no → ⊥) → (b : Bool) → holds copy.stamp (place_at (map_in s.file l) x) ≡ b → PlaceAt robs s.file_no l x
-    place_robbed l x other true held =
-        inr (inr (lost_beside l x other held, ap (λ f. place_at (map_in f l) x) (file_here bare) ∙ dropped l x other held ∙ sym (ap (λ f. without_copy (place_at (map_in f l) x)) file_was)))
+    place_robbed l x other true held = grind (arith, common_steps, lost_beside, file_here, dropped, file_was)
     place_robbed l x other false e =
         inl (both bare (λ f. place_at (map_in f l) x) (place_beside l x other ∙ ap (λ b. if b then without_copy (place_at (map_in s.file l) x) else place_at (map_in s.file l) x) e))
 
@@ -246,9 +244,7 @@ module _ (size : ℕ) (m : Mount) (sound : IsSoundMount m) (s : Spot) (at : IsSp
 
   module _ (c : Choice) (home : ℕ) where
     shared_held : (cell : Cell Page) → is_shared s.map.sharing ≡ true → i < length s.file.cells → Always (On Held) (shared_access c size m s home i cell)
-    shared_held (Present page) shared l = idle
-    shared_held Entered shared l = on_reserved_page Held home _ (λ node. fill_held (record { node = node; bytes = zeros size }) shared l)
-    shared_held Hole shared l = on_grant_page Held c m home _ (λ node. fill_held (record { node = node; bytes = zeros size }) shared l)
+    shared_held cell shared l = grind (arith, common_steps, idle, on_reserved_page, fill_held, on_grant_page)
 
     new_held : (consumed : Bool) → place_at s.map i ≡ Live consumed None → Always (On Held) (new_copy c size m s home i consumed)
     new_held consumed is =
@@ -274,14 +270,10 @@ module _ (size : ℕ) (m : Mount) (sound : IsSoundMount m) (s : Spot) (at : IsSp
         (λ other. on_grant_page Held c m home _ (λ node. copy_held consumed consumed (Some copy) (own node) is)))
 
     private_held : (p : Place Copy) (t : Intent) → intent ≡ t → is_shared s.map.sharing ≡ false → place_at s.map i ≡ p → Always (On Held) (private_access c size m s home i p t)
-    private_held Gone t same apart is = tt
-    private_held (Live consumed (Some copy)) Read same apart is = idle
-    private_held (Live consumed (Some copy)) Write same apart is = write_held consumed copy same apart is
-    private_held (Live consumed None) t same apart is = always_test (On Held) s.map.unmapped TakenByOwner (uncopied_access c size m s home i consumed t) tt (λ e. uncopied_held consumed t is)
+    private_held p t same apart is = grind (arith, common_steps, idle, write_held, always_test, On, uncopied_held)
 
     pub access_held : i < length s.file.cells → Always (On Held) (access c size m s home i intent)
-    access_held l =
-        always_if (On Held) (is_shared s.map.sharing) _ _ (λ e. shared_held (cell_at s.file i) e l) (λ e. private_held (place_at s.map i) intent refl e refl)
+    access_held l = grind (arith, common_steps, always_if, On, shared_held, private_held)
 
   -- ---- what a store writes
 
@@ -373,22 +365,7 @@ module _ (size : ℕ) (m : Mount) (sound : IsSoundMount m) (s : Spot) (at : IsSp
       own_written = ap (λ y. place_at y i) map_edited ∙ written_at (now n s.file_no s.map_no) i o.consumed (Some o.copy) o.is offset bytes
 
       lost_still : (j l x : ℕ) → place_at (now w j l) x ≡ place_at (now n j l) x → LostAt n j l x → LostAt w j l x
-      lost_still j l x same lost = (
-        lost.0,
-        (
-          lost.1.0,
-          record {
-            index = lost.1.1.index;
-            private = lost.1.1.private;
-            owner = lost.1.1.owner;
-            held = lost.1.1.held;
-            kept = ap (is_same_copy (place_at s.map i)) own_written ∙ same_written offset bytes (place_at s.map i) (place_at (now n s.file_no s.map_no) i) ∙ lost.1.1.kept;
-            lost = ap copy_of same ∙ lost.1.1.lost;
-            marked = same_marks j l ∙ lost.1.1.marked;
-          },
-          lost.1.2,
-        ),
-      )
+      lost_still j l x same lost = grind (arith, common_steps, own_written, same_written, marked, same_marks)
 
       place_same : (j l x : ℕ) → place_at (now w j l) x ≡ place_at (now n j l) x → PlaceAt w j l x
       place_same j l x same =
@@ -421,9 +398,7 @@ module _ (size : ℕ) (m : Mount) (sound : IsSoundMount m) (s : Spot) (at : IsSp
       ]
 
       private_mark : (j l : ℕ) → LostAt n j l i → MarkAt w j l
-      private_mark j l lost =
-          inr (lost_still j l i
-          (subst (λ k. place_at (now w k l) i ≡ place_at (now n k l) i) lost.1.0 (place_apart l i lost.1.2)) lost)
+      private_mark j l lost = grind (arith, common_steps, lost_still, place_apart)
 
       private_written : Held w
       private_written = record {

@@ -230,8 +230,7 @@ module _ (size : ℕ) (m : Mount) (s : Spot) (at : IsSpot m s) (i : ℕ) where
       read_private : (p : Place Copy) → place_at s.map i ≡ p → Always (On Same) (private_access c size m s home i p Read)
       read_private Gone is = tt
       read_private (Live consumed (Some copy)) is = idle
-      read_private (Live consumed None) is =
-          always_test (On Same) s.map.unmapped TakenByOwner (uncopied_access c size m s home i consumed Read) tt (λ e. uncopied_same consumed is)
+      read_private (Live consumed None) is = grind (arith, common_steps, always_test, uncopied_same)
 
       -- ---- a write
 
@@ -276,6 +275,4 @@ module _ (size : ℕ) (m : Mount) (s : Spot) (at : IsSpot m s) (i : ℕ) where
         (λ e. write_private e (place_at s.map i) refl)
 
     pub read_same : i < length s.file.cells → Always (On Same) (access c size m s home i Read)
-    read_same l =
-        always_if (On Same) (is_shared s.map.sharing) (shared_access c size m s home i (cell_at s.file i)) (private_access c size m s home i (place_at s.map i) Read)
-        (λ e. shared_same (cell_at s.file i) l refl) (λ e. read_private e (place_at s.map i) refl)
+    read_same l = grind (arith, common_steps, always_if, shared_same, read_private)

@@ -1,7 +1,7 @@
 -- What a slot's files show after a file or a map is made, a load and a store, and what a load answers.
 use Rattle.std.proofs.Common.{arith}
 use Rattle.std.proofs.lemmas.Grind.{common_steps}
-use Rattle.std.proofs.Common.{◌≡◌, ◌⊎◌, ℕ, ◌+◌, ◌<◌, Bool, true, false, ◌&&◌, ◌==◌, not, Option, None, Some, ⊎_elim}
+use Rattle.std.proofs.Common.{◌≡◌, ◌⊎◌, ℕ, ◌+◌, ◌<◌, Bool, true, false, ◌&&◌, ◌==◌, not, Option, None, Some}
 use Rattle.std.proofs.Common.{Result as ResultOf, Ok, Err, List, [], ◌∷◌, length, replicate, refl, sym, ap, ◌∙◌, if◌then◌else◌, nat_lt, ◌-◌}
 use Rattle.std.proofs.lemmas.Bool.{cond_both}
 use Rattle.hp_model.specs.declared.answer.Answer.{Answer}
@@ -20,7 +20,7 @@ use Rattle.hp_model.specs.declared.step.Reserving.{Reserving}
 use Rattle.hp_model.specs.declared.step.Sharing.{Sharing}
 use Rattle.hp_model.specs.files.Access.{access}
 use Rattle.hp_laws.specs.Balance.{left_by}
-use Rattle.hp_model.specs.files.File.{File, Mount, at_least, entered, new_file, with_file, cell_at, has_page}
+use Rattle.hp_model.specs.files.File.{File, Mount, at_least, entered, new_file, with_file, has_page}
 use Rattle.hp_model.specs.pool.Grant.{granted}
 use Rattle.hp_model.specs.files.MakeMap.{mapped, new_map, reserves, with_new}
 use Rattle.hp_model.specs.Lists.{edit_range}
@@ -64,8 +64,7 @@ always_grant P stops c m home k o h = grind (arith, common_steps)
 -- pages of a range, whose nodes the pool answers
 pub always_fill : (P : Outcome → Type 0) → ((r : Refusal) → P (Refused r)) → (ts : List (Bool × Refusal)) (d n : ℕ) (o : List ℕ → Outcome) → ((pages : List ℕ) → P (o pages))
     → Always P (unless ts (Ask (λ nr. FillPages d n) (λ a. when_granted (o a.pages) a)))
-always_fill P stops ts d n o h =
-    always_unless P stops ts (Ask (λ nr. FillPages d n) (λ a. when_granted (o a.pages) a)) (λ a. granted_or P stops a.granted (o a.pages) (h a.pages))
+always_fill P stops ts d n o h = grind (arith, common_steps, always_unless, granted_or)
 
 pub always_gives : (P : Outcome → Type 0) (a : Answer) (old new : Slot) → P (Answered a new) → Always P (gives a old new)
 always_gives P a old new h = grind (arith, common_steps)
@@ -137,10 +136,7 @@ zero_shows : (size : ℕ) (c : Cell Page) → has_page c ≡ false → shown siz
 zero_shows size c none = grind (arith, common_steps)
 
 filled_shows : (size a b : ℕ) (pages : List ℕ) (f : File) (x : ℕ) → look size x (range_filled size a b (rising_nodes (lacking a b f) pages) f) ≡ look size x f
-filled_shows size a b pages f x =
-    ⊎_elim (λ same. ap (shown size) same)
-    (λ new. ap (shown size) new.is ∙ new.holds ∙ sym (zero_shows size (cell_at f x) new.lacked))
-    (filled_index size a b (rising_nodes (lacking a b f) pages) f (length-nodes_of (lacking a b f) pages) x)
+filled_shows size a b pages f x = grind (arith, common_steps, zero_shows, filled_index, length-nodes_of)
 
 pub filled_quiet : (size : ℕ) (m : Mount) (a b : ℕ) (pages : List ℕ) (q : ℕ × File) → IsFileAt m q.0 q.1
     → Quiet size (Some m) (Answered Done (Some (with_file m q.0 (range_filled size a b (rising_nodes (lacking a b q.1) pages) q.1))))
@@ -199,11 +195,7 @@ load_ends : (size : ℕ) (m : Mount) (s : Spot) (at : IsSpot m s) (i offset coun
     → Loads size (Some m) (Some s) i offset count (continued (λ n. Answered (bytes_answer offset count (value size (again n s).file (again n s).map i)) (Some n)) o)
 load_ends size m s at i offset count (Refused r) on = load_refused size (Some m) (Some s) i offset count r
 load_ends size m s at i offset count (Answered a None) on = absurd on
-load_ends size m s at i offset count (Answered a (Some n)) on = record {
-  quiet = (on.cells, on.maps, on.marks);
-  loaded = λ b new e. (let first : bytes_answer offset count (value size (again n s).file (again n s).map i) ≡ b = cc in
-      sym first ∙ ap (bytes_answer offset count) (on.value ∙ sym (spot_seen size m s at i)));
-}
+load_ends size m s at i offset count (Answered a (Some n)) on = grind (arith, common_steps, spot_seen)
 
 pub load_at : (size : ℕ) (c : Choice) (m : Mount) (s : Spot) → IsSpot m s → (home i offset count : ℕ)
     → Always (Loads size (Some m) (Some s) i offset count) (load c size m home i offset count s)

@@ -50,9 +50,7 @@ module _ (size : ℕ) (m : Mount) (s : Spot) (at : IsSpot m s) (i : ℕ) (n : Mo
         (λ t. refl))
 
     other_kind : is_shared s.map.sharing ≡ false → look size x (file_in after j) ≡ look size x (file_in m j)
-    other_kind e =
-        unseen (λ f. ap (λ b. look size x (if b then record f { cells = edit_at (cell_written offset bytes) f.cells i }
-        else record f { maps = edit_at (map_written i offset bytes) f.maps s.map_no })) e)
+    other_kind e = grind (arith, common_steps, unseen, look)
 
     other_file : (s.file_no == j) ≡ false → look size x (file_in after j) ≡ look size x (file_in m j)
     other_file e = ap (look size x) (edit_other edit (new_file None) n.files s.file_no j (λ same. eqb-false s.file_no j e (sym same))) ∙ is.cells j x
@@ -62,13 +60,7 @@ module _ (size : ℕ) (m : Mount) (s : Spot) (at : IsSpot m s) (i : ℕ) (n : Mo
     edits_none = cond_both (is_shared s.map.sharing) (new_file None) (new_file None) (λ f. f ≡ new_file None) (λ e. refl) (λ e. refl)
 
     here : is_shared s.map.sharing ≡ true → look size i (file_in (written n s i offset bytes) s.file_no) ≡ over offset bytes (look size i (file_in m s.file_no))
-    here e =
-        let f : File = file_in n s.file_no in
-        ap (look size i) (edit_here (file_written s i offset bytes) (new_file None) edits_none n.files s.file_no)
-        ∙ ap (λ b. look size i (if b then record f { cells = edit_at (cell_written offset bytes) f.cells i } else record f { maps = edit_at (map_written i offset bytes) f.maps s.map_no })) e
-        ∙ ap (shown size) (edit_here (cell_written offset bytes) Hole refl f.cells i)
-        ∙ present_over size offset bytes (cell_at f i) (is.present e)
-        ∙ ap (over offset bytes) (is.cells s.file_no i)
+    here e = grind (arith, common_steps, look, edit_here, edits_none, present_over)
 
     abbrev Goal : (a b d : Bool) → (j x : ℕ) → Type 0
     Goal a b d j x = look size x (file_in (written n s i offset bytes) j) ≡ (if a && (b && d) then over offset bytes (look size x (file_in m j)) else look size x (file_in m j))

@@ -28,20 +28,10 @@ module _ (m : Map) (i : ℕ) (c : Bool) (o : Option Copy) (is : place_at m i ≡
   from = not_below (nat_lt i m.start) (slice_index_or m.places (i - m.start) Gone) c o is
 
   pub written_at : place_at (map_written i offset bytes m) i ≡ place_written offset bytes (place_at m i)
-  written_at =
-      ap (λ b. if b then Gone else slice_index_or (edit_at (place_written offset bytes) m.places (i - m.start)) (i - m.start) Gone) from
-      ∙ edit_here (place_written offset bytes) Gone refl m.places (i - m.start)
-      ∙ sym (ap (λ b. place_written offset bytes (if b then Gone else slice_index_or m.places (i - m.start) Gone)) from)
+  written_at = grind (arith, common_steps, from, edit_here)
 
   pub written_off : (x : ℕ) → (x ≡ i → ⊥) → place_at (map_written i offset bytes m) x ≡ place_at m x
-  written_off x other =
-      let low = ltb-false i m.start from in
-      elim (nat_lt x m.start) as (λ b. nat_lt x m.start ≡ b → (if b then Gone else slice_index_or
-      (edit_at (place_written offset bytes) m.places (i - m.start)) (x - m.start) Gone)
-      ≡ (if b then Gone else slice_index_or m.places (x - m.start) Gone)) [
-        | true ↦ λ e. refl
-        | false ↦ λ e. edit_other (place_written offset bytes) Gone m.places (i - m.start) (x - m.start) (λ same. other (omega (arith, same, low, ltb-false x m.start e)))
-      ] refl
+  written_off x other = grind (arith, common_steps, ltb-false, from, edit_other)
 
 -- ---- a map that may lose its copies of a stamp
 
@@ -192,9 +182,7 @@ module _ (size : ℕ) (m : Mount) (sound : IsSoundMount m) (s : Spot) (at : IsSp
     edits_none = ap (λ b. if b then new_file None else new_file None) apart
 
     pub file_here : file_in after s.file_no ≡ g
-    file_here =
-        edit_here (file_written s i offset bytes) (new_file None) edits_none n.files s.file_no
-        ∙ ap (λ b. if b then record f { cells = edit_at (cell_written offset bytes) f.cells i } else g) apart
+    file_here = grind (arith, common_steps, edit_here, edits_none)
 
     pub map_other : (l : ℕ) → (l ≡ s.map_no → ⊥) → map_in g l ≡ map_in f l
     map_other l other = edit_other (map_written i offset bytes) no_map f.maps s.map_no l other
@@ -266,9 +254,7 @@ module _ (size : ℕ) (m : Mount) (sound : IsSoundMount m) (s : Spot) (at : IsSp
     tested false true true j l x ea ed eb =
         subst (λ y. Tested false true true y l x) (eqb-true s.file_no j ed)
         (subst (λ y. Tested false true true s.file_no y x) (eqb-true s.map_no l eb) (at_other x (λ same. eqb-false i x ea (sym same))))
-    tested true true true j l x ea ed eb =
-        subst (λ y. Tested true true true y l x) (eqb-true s.file_no j ed)
-        (subst (λ y. Tested true true true s.file_no y x) (eqb-true s.map_no l eb) (subst (λ y. Tested true true true s.file_no s.map_no y) (eqb-true i x ea) at_here))
+    tested true true true j l x ea ed eb = grind (arith, common_steps, eqb-true, at_here)
 
     private_seen : (j l x : ℕ) → Seen after j l x
     private_seen j l x =
@@ -317,5 +303,4 @@ module _ (size : ℕ) (m : Mount) (sound : IsSoundMount m) (s : Spot) (at : IsSp
   touched_seen n done j l x = ⊎_elim (λ copied. inl (copied.0.maps j l x)) (λ taken. in_mine n (mine n taken.apart done) j l x) done
 
   pub touched_marks : (n : Mount) → Result size m s at i n → (j l : ℕ) → marked l (file_in m j) ≡ true → marked l (file_in n j) ≡ true
-  touched_marks n done j l e =
-      ⊎_elim (λ copied. copied.0.marks j l ∙ e) (λ taken. ap (λ y. marked l (file_in y j)) taken.left ∙ back_marks taken.copy.stamp j l e) done
+  touched_marks n done j l e = grind (arith, common_steps, marked, back_marks)

@@ -113,8 +113,7 @@ stamps_at_stay n f g h = same_members (stamps_at n g) (stamps_at n f) (λ q. sta
 -- one copy more, with a stamp that no map holds
 pub stamps_grow : (stamp node : ℕ) (f g : File) → ((t : ℕ → ℕ → Bool) → file_has t g ≡ (t stamp node || file_has t f)) → is_among stamp (stamps_of f) ≡ false
     → length (distinct (stamps_of g)) ≡ length (distinct (stamps_of f)) + 1
-stamps_grow stamp node f g h new =
-    one_more_member stamp (stamps_of f) (stamps_of g) (λ q. stamps_are g q ∙ h (is_stamp q) ∙ ap (λ b. (stamp == q) || b) (sym (stamps_are f q))) new
+stamps_grow stamp node f g h new = grind (arith, common_steps, one_more_member, stamps_are)
 
 or_weaker : (a b c d : Bool) → (a ≡ true → c ≡ true) → (b ≡ true → d ≡ true) → (a || b) ≡ true → (c || d) ≡ true
 or_weaker a b c d f g e = grind (arith, common_steps)
@@ -131,9 +130,7 @@ pub weaker : (t u : ℕ → ℕ → Bool) (f : File) → ((s n : ℕ) → t s n 
 weaker t u f h = any_weaker (map_has t) (map_has u) (λ m. any_weaker (place_has t) (place_has u) (place_weaker t u h) m.places) f.maps
 
 new_at : (n stamp : ℕ) (f : File) → is_among stamp (stamps_of f) ≡ false → is_among stamp (stamps_at n f) ≡ false
-new_at n stamp f new =
-    false_from_ne_true (is_among stamp (stamps_at n f)) (λ e. both_ways (is_among stamp (stamps_of f)) new
-    (stamps_are f stamp ∙ weaker (is_stamp_at n stamp) (is_stamp stamp) f (λ s k both. (and_parts (k == n) (s == stamp) both).1) (sym (stamps_at_are n f stamp) ∙ e)))
+new_at n stamp f new = grind (arith, common_steps, false_from_ne_true, both_ways, stamps_are, weaker, and_parts, stamps_at_are)
 
 at_grow : (b : Bool) (n stamp node : ℕ) (f g : File) → (node == n) ≡ b → ((t : ℕ → ℕ → Bool) → file_has t g ≡ (t stamp node || file_has t f)) → is_among stamp (stamps_of f) ≡ false
     → length (distinct (stamps_at n g)) ≡ length (distinct (stamps_at n f)) + cond b 1 0
@@ -141,10 +138,7 @@ at_grow true n stamp node f g e h new =
     one_more_member stamp (stamps_at n f) (stamps_at n g)
     (λ q. stamps_at_are n g q ∙ h (is_stamp_at n q) ∙ ap (λ b. (b && (stamp == q)) || file_has (is_stamp_at n q) f) e ∙ ap (λ b. (stamp == q) || b) (sym (stamps_at_are n f q)))
     (new_at n stamp f new)
-at_grow false n stamp node f g e h new =
-    let same = same_members (stamps_at n g) (stamps_at n f)
-    (λ q. stamps_at_are n g q ∙ h (is_stamp_at n q) ∙ ap (λ b. (b && (stamp == q)) || file_has (is_stamp_at n q) f) e ∙ sym (stamps_at_are n f q)) in
-    omega (arith, same)
+at_grow false n stamp node f g e h new = grind (arith, common_steps, same_members, stamps_at_are)
 
 pub stamps_at_grow : (n stamp node : ℕ) (f g : File) → ((t : ℕ → ℕ → Bool) → file_has t g ≡ (t stamp node || file_has t f)) → is_among stamp (stamps_of f) ≡ false
     → length (distinct (stamps_at n g)) ≡ length (distinct (stamps_at n f)) + cond (node == n) 1 0

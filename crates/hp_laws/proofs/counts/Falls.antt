@@ -76,12 +76,7 @@ any_edit_range p f h a b xs e =
     (λ r. any_drop p a xs (any_drop p (b - a) (drop a xs) r)) e
 
 sum_by-edit_range_le : {X : Type 0} (g : X → ℕ) (f : X → X) → ((x : X) → g (f x) ≤ g x) → (a b : ℕ) (xs : List X) → sum_by g (edit_range f a b xs) ≤ sum_by g xs
-sum_by-edit_range_le g f h a b xs =
-    let all = sum_by-edit_range g f a b xs in
-    let mid = sum_by-map_le g f h (take (b - a) (drop a xs)) in
-    let ends = sum_by-take-drop g xs a in
-    let ranges = sum_by-take-drop g (drop a xs) (b - a) in
-    omega (arith, all, mid, ends, ranges)
+sum_by-edit_range_le g f h a b xs = grind (arith, common_steps, sum_by-edit_range, sum_by-map_le, sum_by-take-drop)
 
 -- ---- punched and cut
 
@@ -89,11 +84,7 @@ hole_least : (test : Cell Page → Bool) → test Hole ≡ false → test Entere
 hole_least test none same x = grind (arith, common_steps)
 
 cells_punched : (a b : ℕ) (xs : List (Cell Page)) → CellsFall xs (edit_range cell_punched a b xs)
-cells_punched a b xs = record {
-  pages = sum_by-edit_range_le (λ x. cond (has_page x) 1 0) cell_punched (hole_least has_page refl refl) a b xs;
-  waits = sum_by-edit_range_le (λ x. cond (is_waiting x) 1 0) cell_punched (hole_least is_waiting refl refl) a b xs;
-  each = λ n. sum_by-edit_range_le (λ x. cond (is_page_at n x) 1 0) cell_punched (hole_least (is_page_at n) refl refl) a b xs;
-}
+cells_punched a b xs = grind (arith, common_steps, sum_by-edit_range_le, hole_least)
 
 cut_le : (test : Cell Page → Bool) → test Hole ≡ false → (n : ℕ) (xs : List (Cell Page)) → count_by test (cells_to n xs) ≤ count_by test xs
 cut_le test none n xs = grind (arith, common_steps)
@@ -119,8 +110,7 @@ punched_has : (a b : ℕ) (t : ℕ → ℕ → Bool) (m : Map) → map_has t (ma
 punched_has a b t m = any_edit_range (place_has t) without_copy (copy_down t) (a - m.start) (b - m.start) m.places
 
 punched_owes : (a b : ℕ) (m : Map) → owner_reserves (map_punched a b m) ≤ owner_reserves m
-punched_owes a b m =
-    owed_if m.owner _ _ (sum_by-edit_range_le (λ (p : Place Copy). cond (is_unconsumed p) 1 0) without_copy copy_owes (a - m.start) (b - m.start) m.places)
+punched_owes a b m = grind (arith, common_steps, owed_if, sum_by-edit_range_le, copy_owes)
 
 pub punched_falls : (a b : ℕ) (f : File) → FileFalls f (punched a b f)
 punched_falls a b f = file_falls f (punched a b f) (cells_punched a b f.cells) (maps_fall (map_punched a b) (punched_has a b) (punched_owes a b) f.maps)
@@ -144,22 +134,17 @@ range_has : (a b : ℕ) (t : ℕ → ℕ → Bool) (m : Map) → map_has t (with
 range_has a b t m = any_edit_range (place_has t) (λ p. Gone) (gone_down t) (a - m.start) (b - m.start) m.places
 
 range_owes : (a b : ℕ) (m : Map) → owner_reserves (without_range a b m) ≤ owner_reserves m
-range_owes a b m =
-    owed_if m.owner _ _ (sum_by-edit_range_le (λ (p : Place Copy). cond (is_unconsumed p) 1 0) (λ p. Gone) gone_owes (a - m.start) (b - m.start) m.places)
+range_owes a b m = grind (arith, common_steps, owed_if, sum_by-edit_range_le, gone_owes)
 
 range_has_if : (d : Bool) (a b : ℕ) (t : ℕ → ℕ → Bool) (m : Map) → map_has t (if d then without_range a b m else m) ≡ true → map_has t m ≡ true
 range_has_if true a b t m e = range_has a b t m e
 range_has_if false a b t m e = e
 
 range_owes_if : (d : Bool) (a b : ℕ) (m : Map) → owner_reserves (if d then without_range a b m else m) ≤ owner_reserves m
-range_owes_if true a b m = range_owes a b m
-range_owes_if false a b m = omega arith
+range_owes_if d a b m = grind (arith, common_steps, range_owes)
 
 maps_filtered : (test : Map → Bool) (xs ys : List Map) → MapsFall xs ys → MapsFall xs (filter test ys)
-maps_filtered test xs ys fall = record {
-  has = λ t e. fall.has t (any_filter (map_has t) test ys e);
-  reserves = (let less = sum_by-filter_le owner_reserves test ys in let falls = fall.reserves in omega (arith, less, falls));
-}
+maps_filtered test xs ys fall = grind (arith, common_steps, any_filter, sum_by-filter_le)
 
 pub unmapped_falls : (test : Map → Bool) (a b : ℕ) (f : File) → FileFalls f (file_unmapped test a b f)
 unmapped_falls test a b f =

@@ -1,6 +1,6 @@
 -- How the counts of a file change with one page: filled, copied, copied on a write.
 use Rattle.std.proofs.lemmas.Grind.{common_steps}
-use Rattle.std.proofs.Common.{◌≡◌, ⊎_elim, subst, ◌++◌, ℕ, ◌+◌, ◌-◌, ◌<◌, Bool, true, false, ◌||◌, ◌==◌, Option}
+use Rattle.std.proofs.Common.{◌≡◌, ⊎_elim, ◌++◌, ℕ, ◌+◌, ◌-◌, ◌<◌, Bool, true, false, ◌||◌, ◌==◌, Option}
 use Rattle.std.proofs.Common.{None, Some, List, [], ◌∷◌, length, map, refl, sym, ap, ◌∙◌, cond, arith}
 use Rattle.std.specs.List.{list_any, slice_index_or, sum_by, count_by, filter_map, flat_map}
 use Rattle.std.proofs.lemmas.List.{map-append}
@@ -194,10 +194,4 @@ some_node q f e = maps_node q f.maps e
 -- in an agreed file every test of a stamp at its node finds what the stamp finds
 pub agreed_test : (t : ℕ → ℕ → Bool) (stamp node : ℕ) (f r : File) → IsAgreed f → ((u : ℕ → ℕ → Bool) → file_has u r ≡ true → file_has u f ≡ true)
     → file_has (is_stamp_at node stamp) f ≡ true → file_has (is_stamp stamp) r ≡ true → t stamp node ≡ true → file_has t r ≡ true
-agreed_test t stamp node f r agreed within here held passes =
-    let other = some_node stamp r held in
-    let same : other.0 ≡ node = agreed stamp other.0 node (within (is_stamp_at other.0 stamp) other.1) here in
-    let at_node : file_has (is_stamp_at node stamp) r ≡ true = subst (λ (n : ℕ). file_has (is_stamp_at n stamp) r ≡ true) same other.1 in
-    weaker (is_stamp_at node stamp) t r
-    (λ s n both. (let parts = and_parts (n == node) (s == stamp) both in
-    let is_n = eqb-true n node parts.0 in let is_s = eqb-true s stamp parts.1 in ap (λ x. t x n) is_s ∙ ap (λ x. t stamp x) is_n ∙ passes)) at_node
+agreed_test t stamp node f r agreed within here held passes = grind (arith, common_steps, some_node, is_stamp_at, weaker, and_parts, eqb-true)

@@ -1,6 +1,6 @@
 -- A mount stays sound where its files do, and where no number and no name comes twice.
 use Rattle.std.proofs.lemmas.Grind.{common_steps}
-use Rattle.std.proofs.Common.{◌≡◌, ℕ, ◌+◌, ◌≤◌, Bool, true, false, ◌==◌, not, None, List, [], ◌∷◌, ◌++◌, length, map, cond, arith, refl, sym, ap, ◌∙◌, subst, if◌then◌else◌, nat_lt}
+use Rattle.std.proofs.Common.{◌≡◌, ℕ, ◌+◌, ◌≤◌, Bool, true, false, ◌==◌, not, None, List, [], ◌∷◌, ◌++◌, length, map, cond, arith, refl, sym, ap, subst, if◌then◌else◌, nat_lt}
 use Rattle.std.specs.List.{count_by, filter, flat_map, sum_by}
 use Rattle.std.proofs.lemmas.Bool.{and_from, and_parts, both_ways, eq-eqb, eqb-true, ltb-false, ltb-true, not-true}
 use Rattle.std.proofs.lemmas.List.{get_or_default}
@@ -200,24 +200,12 @@ module _ (parent child task number : ℕ) where
   was = is_map (if task == child then parent else task) number
 
   kept_count : (xs : List Map) (b : Bool) → (task == child) ≡ b → count_by (is_map task number) (filter (λ x. not (is_of child x)) xs) ≤ cond b 0 (count_by (is_map task number) xs)
-  kept_count xs true e =
-      let none = filter_none (is_map task number) (λ x. not (is_of child x))
-      (λ x kept passes. both_ways (x.task == child) (not-true (x.task == child) kept)
-      (ap (λ t. t == child) (eqb-true x.task task (and_parts (x.task == task) (x.number == number) passes).0) ∙ e)) xs in
-      omega (arith, none)
+  kept_count xs true e = grind (arith, common_steps, filter_none, both_ways, not-true, eqb-true, and_parts)
   kept_count xs false e = filter_count (is_map task number) (is_map task number) (λ x. not (is_of child x)) (λ x kept passes. passes) xs
 
   made_count : (xs : List Map) (b : Bool) → (task == child) ≡ b → count_by (is_map task number) (map (map_for child) (filter (is_of parent) xs)) ≤ cond b (count_by (is_map parent number) xs) 0
-  made_count xs true e =
-      let same = count_map (is_map task number) (map_for child) (filter (is_of parent) xs) in
-      let fewer = filter_count (λ x. is_map task number (map_for child x)) (is_map parent number) (is_of parent)
-      (λ x ours passes. and_from (x.task == parent) (x.number == number) ours (and_parts (child == task) (x.number == number) passes).1) xs in
-      omega (arith, same, fewer)
-  made_count xs false e =
-      let same = count_map (is_map task number) (map_for child) (filter (is_of parent) xs) in
-      let none = filter_none (λ x. is_map task number (map_for child x)) (is_of parent)
-      (λ x ours passes. both_ways (task == child) e (eq-eqb task child (sym (eqb-true child task (and_parts (child == task) (x.number == number) passes).0)))) xs in
-      omega (arith, same, none)
+  made_count xs true e = grind (arith, common_steps, count_map, filter_count, and_from, and_parts)
+  made_count xs false e = grind (arith, common_steps, count_map, filter_none, both_ways, eq-eqb, eqb-true, and_parts)
 
   forked_count : (f : File) → count_by (is_map task number) (file_forked parent child f).maps ≤ count_by was f.maps
   forked_count f =

@@ -168,8 +168,7 @@ one_more : (x b : Bool) (s : ℕ) (rest : List ℕ) → (b ≡ false → is_amon
 one_more x b s rest h = grind (arith, common_steps)
 
 not_held : (q n : ℕ) (cs : List Copy) (b : Bool) → is_among q (held_at n cs) ≡ b → is_among q (map (λ c. c.stamp) cs) ≡ false → is_among q (held_at n cs) ≡ false
-not_held q n cs true e h = (let yes = held_among q n cs e in cc)
-not_held q n cs false e h = e
+not_held q n cs b e h = grind (arith, common_steps, held_among)
 
 abbrev Far : List ℕ → (ℕ → ℕ) → Type 0
 Far ns g = (n : ℕ) → count_by (λ k. n == k) ns ≡ 0 → g n ≡ 0

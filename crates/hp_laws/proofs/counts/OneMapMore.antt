@@ -52,18 +52,10 @@ wait_more (x ∷ xs) =
     )
 
 range_same : (test : Cell Page → Bool) → test Entered ≡ test Hole → (a b : ℕ) (xs : List (Cell Page)) → count_by test (edit_range entered a b xs) ≡ count_by test xs
-range_same test e a b xs =
-    let g = λ (x : Cell Page). bit (test x) in
-    let all = sum_by-edit_range g entered a b xs in
-    let mid = sum_by-map_same g entered (entered_same test e) (take (b - a) (drop a xs)) in
-    omega (arith, all, mid, sum_by-take-drop g xs a, sum_by-take-drop g (drop a xs) (b - a))
+range_same test e a b xs = grind (arith, common_steps, bit, sum_by-edit_range, sum_by-map_same, entered_same, sum_by-take-drop)
 
 range_waits : (a b : ℕ) (xs : List (Cell Page)) → count_by is_waiting (edit_range entered a b xs) ≡ count_by is_waiting xs + count_by is_hole (take (b - a) (drop a xs))
-range_waits a b xs =
-    let g = λ (x : Cell Page). bit (is_waiting x) in
-    let all = sum_by-edit_range g entered a b xs in
-    let mid = wait_more (take (b - a) (drop a xs)) in
-    omega (arith, all, mid, sum_by-take-drop g xs a, sum_by-take-drop g (drop a xs) (b - a))
+range_waits a b xs = grind (arith, common_steps, bit, sum_by-edit_range, wait_more, sum_by-take-drop)
 
 width : (a n : ℕ) → (a + n) - a ≡ n
 width a n = omega arith

@@ -48,11 +48,7 @@ module _ {X : Type 0} (f : X → X) (a b : ℕ) (xs : List X) (k : ℕ) (d : X) 
       ⊎_elim (λ l. get_or-edit_in f a b xs k d from to l) (λ past. beyond past ∙ sym none ∙ sym (ap f (get_or_past xs k d past))) (cases_lt k (length xs))
 
   pub ranged_out : (k < a) ⊎ (b ≤ k) → get_or (edit_range f a b xs) k d ≡ get_or xs k d
-  ranged_out out =
-      ⊎_elim
-      (λ l. ⊎_elim (λ low. get_or-edit_below f a b xs k d low l)
-      (λ high. ⊎_elim (λ low. get_or-edit_below f a b xs k d low l) (λ from. get_or-edit_past f a b xs k d from high l) (cases_lt k a)) out)
-      (λ past. beyond past ∙ sym (get_or_past xs k d past)) (cases_lt k (length xs))
+  ranged_out out = grind (arith, common_steps, get_or-edit_below, get_or-edit_past, cases_lt, beyond, get_or_past)
 
   pub ranged : f d ≡ d → get_or (edit_range f a b xs) k d ≡ (if is_in a b k then f (get_or xs k d) else get_or xs k d)
   ranged none = by_tests (nat_le a k) (nat_lt k b) refl refl
@@ -156,14 +152,7 @@ module _ (size n : ℕ) (f : File) where
       by_tests false d from to = ap (λ z. by_place size (if z && d then without_copy (place_at y x) else place_at y x) (look size x f)) from
 
   pub truncate_cut : IsCut size f (truncated n f) (map_punched n (n + length f.cells)) (nat_le n)
-  truncate_cut = record {
-    maps = refl;
-    name = refl;
-    shape = λ y. pages_same y y.unmapped (map_punched n (n + length f.cells) y).places (length-edit_range without_copy (n - y.start) (n + length f.cells - y.start) y.places);
-    marks = λ y. refl;
-    cells = λ x. cut_cells x (nat_le n x) refl;
-    seen = λ y sound x. cut_seen y sound x (nat_le n x) refl;
-  }
+  truncate_cut = grind (arith, common_steps, pages_same, places, length-edit_range, cut_cells, seen, cut_seen)
 
 -- ---- its mount
 
@@ -195,11 +184,7 @@ module _ (size : ℕ) (m : Mount) (sound : IsSoundMount m) (name : List ℕ) (q 
   cut_there j x other old = ap (λ b. cut_off (b && cut x) old) (sym (means j ∙ false_from_ne_true (q.0 == j) (λ e. other (sym (eqb-true q.0 j e)))))
 
   cells_cut : (j x : ℕ) → look size x (file_in after j) ≡ cut_off (means_file (Some m) name j && cut x) (look size x (file_in m j))
-  cells_cut j x = elim (cases_eq j q.0) as (λ _. look size x (file_in after j) ≡ cut_off (means_file (Some m) name j && cut x) (look size x (file_in m j))) [
-    | inl same ↦ subst (λ k. look size x (file_in after k) ≡ cut_off (means_file (Some m) name k && cut x) (look size x (file_in m k))) (sym same)
-        (ap (look size x) file_now ∙ is.cells x ∙ ap (λ f. cut_off (cut x) (look size x f)) (sym file_was) ∙ cut_here x (look size x (file_in m q.0)))
-    | inr other ↦ ap (look size x) (file_other j other) ∙ cut_there j x other (look size x (file_in m j))
-  ]
+  cells_cut j x = grind (arith, common_steps, cases_eq, look, file_now, file_was, cut_here, file_other, cut_there)
 
   -- the map at a place of the file
   module _ (l : ℕ) (within : l < length q.1.maps) where
@@ -274,11 +259,7 @@ module _ (size : ℕ) (m : Mount) (name : List ℕ) (q : ℕ × File) (named : f
 
   -- another name is not that of the file
   not_named : (other : List ℕ) → bytes_eq name other ≡ false → has_name other q.1 ≡ false
-  not_named other apart = by_name q.1.name (found_place (has_name name) m.files q named).passes
-    where
-      by_name : (o : Option (List ℕ)) → (elim o [ None ↦ false | Some n ↦ bytes_eq n name ]) ≡ true → (elim o [ None ↦ false | Some n ↦ bytes_eq n other ]) ≡ false
-      by_name None e = cc
-      by_name (Some n) e = subst (λ k. bytes_eq k other ≡ false) (sym ((bytes_eq-Decides n name).0 e)) apart
+  not_named other apart = grind (arith, common_steps, found_place, bytes_eq-Decides)
 
   -- the file that was found, and its maps
   abbrev moved : ℕ × File → ℕ × File

@@ -1,6 +1,6 @@
 -- What a script keeps whose events on slots only end maps of one task: a fork's, or an exit's.
 use Rattle.std.proofs.lemmas.Grind.{common_steps}
-use Rattle.std.proofs.Common.{false, ◌≡◌, inl, inr, subst, ℕ, ◌<◌, ◌≤◌, ◌==◌, Option, None, Some, Ok, Err, List, [], ◌∷◌, ◌++◌, length, refl, sym, ap, ◌∙◌, arith}
+use Rattle.std.proofs.Common.{false, ◌≡◌, inl, inr, subst, ℕ, ◌<◌, ◌≤◌, ◌==◌, None, Some, Ok, Err, List, [], ◌∷◌, ◌++◌, length, refl, sym, ap, ◌∙◌, arith}
 use Rattle.std.specs.List.{range_with_len, slice_index_or, slice_set}
 use Rattle.std.proofs.lemmas.Bool.{cases_eq, ltb-true}
 use Rattle.std.proofs.lemmas.List.{get_or-set_other, get_or-set_same}
@@ -11,7 +11,7 @@ use Rattle.hp_model.specs.declared.event.SlotEvent.{SlotEvent}
 use Rattle.hp_model.specs.declared.event.SlotEvent.TheVariants as slot
 use Rattle.hp_model.specs.declared.refusal.Refusal.{Refusal}
 use Rattle.hp_model.specs.declared.step.Step.TheVariants.{Exit, Fork}
-use Rattle.hp_model.specs.machine.Event.{IsEvent, has_maps_of, with_table}
+use Rattle.hp_model.specs.machine.Event.{IsEvent, has_maps_of}
 use Rattle.hp_model.specs.files.File.{Mount}
 use Rattle.hp_model.specs.files.Fork.{file_forked, forked}
 use Rattle.hp_model.specs.files.GiveBack.{file_without, without_task}
@@ -21,7 +21,6 @@ use Rattle.hp_model.specs.machine.Promises.{SameFiles, SameLimits, spot_on}
 use Rattle.hp_model.specs.machine.SlotEvent.{fork_tests, slot_event}
 use Rattle.hp_model.specs.files.Spot.{Spot}
 use Rattle.hp_model.specs.machine.State.{State, slot_at}
-use Rattle.hp_model.specs.machine.Table.{home_of, removed, when_known}
 use Rattle.hp_model.specs.machine.Step.{Answer_with, Do, IsScripted, IsScript, Script, Where_mapped, exit_slots, fork_slots, or_undone, script, undone, when_done}
 use Rattle.hp_laws.specs.Balance.{Always, left_by}
 use Rattle.hp_laws.proofs.names.Changes.{KeptMap, SlotKeeps}
@@ -220,8 +219,7 @@ module _ (gone : ℕ) where
   undone_of done r = exits_of done _ (tt, λ reply. tt)
 
   or_of : (done : List ℕ) (r : Reply) (next : Script) → AllOf next → AllOf (or_undone done gone r next)
-  or_of done (Err r) next all = undone_of done r
-  or_of done (Ok a) next all = all
+  or_of done r next all = grind (arith, common_steps, undone_of)
 
   forks_of : (ks done : List ℕ) (parent : ℕ) → AllOf (fork_slots ks done parent gone)
   forks_of [] done parent = tt
@@ -253,15 +251,4 @@ exits_done task r t (k ∷ ks) s is = either_way (has_maps_of task (slot_at s k)
 
 -- what a refused exit left is as it was
 pub exit_refused : (s : State) (task : ℕ) (r : Refusal) (t : State) → IsScripted s (Exit task) (Err r) t → t ≡ s
-exit_refused s task r t is = by_home (home_of s.table task) is.0 is.1 is.2.2 is.3
-  where
-    by_home : (o : Option ℕ) (q : Reply) (mid : State) → with_table s (when_known s.table o (λ home. (Ok Done, removed s.table task))) ≡ (q, mid)
-        → IsScript mid (when_done q (exit_slots (range_with_len 0 (length s.slots)) task (Answer_with (Ok Done)))) (Err r) t → t ≡ s
-    by_home None q mid e go =
-        let first = ap (λ (x : Reply × State). x.0) e in
-        let second : s ≡ mid = ap (λ (x : Reply × State). x.1) e in
-        (subst (λ x. IsScript mid (when_done x (exit_slots (range_with_len 0 (length s.slots)) task (Answer_with (Ok Done)))) (Err r) t) (sym first) go).1 ∙ sym second
-    by_home (Some home) q mid e go =
-        let first = ap (λ (x : Reply × State). x.0) e in
-        absurd (exits_done task r t (range_with_len 0 (length s.slots)) mid
-        (subst (λ x. IsScript mid (when_done x (exit_slots (range_with_len 0 (length s.slots)) task (Answer_with (Ok Done)))) (Err r) t) (sym first) go))
+exit_refused s task r t is = grind (arith, common_steps, exits_done)

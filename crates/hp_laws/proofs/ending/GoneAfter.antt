@@ -1,6 +1,6 @@
 -- What a step ends is gone: after an umount there is no mount, after an unlink no file of the name, and after an exit no map of the task on any slot.
 use Rattle.std.proofs.lemmas.Grind.{common_steps}
-use Rattle.std.proofs.Common.{◌≡◌, ⊎_elim, subst, ℕ, ◌<◌, ◌==◌, ◌||◌, Bool, true, false, not, None, Option, Some, Ok, Err, List, [], ◌∷◌, length, map, option_map, refl, sym, ap, ◌∙◌, arith}
+use Rattle.std.proofs.Common.{◌≡◌, ⊎_elim, subst, ℕ, ◌<◌, ◌==◌, ◌||◌, Bool, true, false, not, None, Some, Ok, Err, List, [], ◌∷◌, length, map, option_map, refl, sym, ap, ◌∙◌, arith}
 use Rattle.std.specs.List.{filter, list_any, range_with_len, slice_index_or, slice_set}
 use Rattle.std.proofs.lemmas.Bool.{cases_eq, cases_lt, eq-eqb, eqb-true, false_from_ne_true, ltb-true}
 use Rattle.std.proofs.lemmas.List.{get_or-set_other, get_or-set_same, get_or_past}
@@ -13,21 +13,19 @@ use Rattle.hp_model.specs.declared.event.PoolEvent.TheVariants as pool
 use Rattle.hp_model.specs.declared.event.SlotEvent.TheVariants as slot
 use Rattle.hp_model.specs.declared.event.TableEvent.TheVariants as table
 use Rattle.hp_model.specs.declared.refusal.Refusal.{Refusal}
-use Rattle.hp_model.specs.declared.refusal.Refusal.TheVariants.{NoSuchTask}
 use Rattle.hp_model.specs.declared.step.Step.{Step}
 use Rattle.hp_model.specs.declared.step.Step.TheVariants as step
-use Rattle.hp_model.specs.files.File.{File, maps_of}
+use Rattle.hp_model.specs.files.File.{File}
 use Rattle.hp_model.specs.files.GiveBack.{file_without, is_kept, without_task}
 use Rattle.hp_model.specs.files.Mapping.{Map, is_map, is_of}
 use Rattle.hp_model.specs.Lists.{is_among}
-use Rattle.hp_model.specs.machine.Event.{IsEvent, has_maps_of, with_table}
+use Rattle.hp_model.specs.machine.Event.{IsEvent, has_maps_of}
 use Rattle.hp_model.specs.machine.Gone.{IsGone}
 use Rattle.hp_model.specs.machine.Named.{spot_on}
 use Rattle.hp_model.specs.machine.Plan.{Answered, Choice, Outcome, Refused, Reply, Slot}
 use Rattle.hp_model.specs.machine.SlotEvent.{slot_event}
 use Rattle.hp_model.specs.machine.State.{State, slot_at}
-use Rattle.hp_model.specs.machine.Step.{Answer_with, IsScript, IsScripted, IsStep, exit_slots, when_done}
-use Rattle.hp_model.specs.machine.Table.{home_of, removed, when_known}
+use Rattle.hp_model.specs.machine.Step.{Answer_with, IsScript, IsScripted, IsStep, exit_slots}
 use Rattle.hp_laws.specs.Balance.{left_by}
 use Rattle.hp_laws.proofs.making.FilesMade.{any_in_files, spot_none}
 use Rattle.hp_laws.proofs.making.NewNumbers.{found_not}
@@ -75,9 +73,7 @@ none_weaker task number (x ∷ xs) none = by_test (is_of task x) refl none (λ r
 
 pub no_map_of : (task number : ℕ) (x : Slot) → has_maps_of task x ≡ false → spot_on x task number ≡ None
 no_map_of task number None none = refl
-no_map_of task number (Some m) none =
-    let has = λ (f : File). list_any (is_map task number) f.maps in
-    spot_none m (is_map task number) (found_not has m.files (sym (any_in_files (is_map task number) m.files) ∙ none_weaker task number (maps_of m) none))
+no_map_of task number (Some m) none = grind (arith, common_steps, spot_none, found_not, any_in_files, none_weaker)
 
 -- ---- slot by slot
 
@@ -123,21 +119,7 @@ module _ (task : ℕ) where
 module _ (s : State) (st : IsSettledState s) where
   pub exit_gone : (task : ℕ) (reply : Reply) (t : State) → IsScripted s (step.Exit task) reply t → IsGone s (step.Exit task) reply t
   exit_gone task (Err r) t is = tt
-  exit_gone task (Ok a) t is = by_home (home_of s.table task) is.0 is.1 is.2.2 is.3
-    where
-      by_home : (o : Option ℕ) (q : Reply) (mid : State) → with_table s (when_known s.table o (λ home. (Ok Done, removed s.table task))) ≡ (q, mid)
-          → IsScript mid (when_done q (exit_slots (range_with_len 0 (length s.slots)) task (Answer_with (Ok Done)))) (Ok a) t → IsGone s (step.Exit task) (Ok a) t
-      by_home None q mid e go =
-          let first = ap (λ (y : Reply × State). y.0) e in
-          (let never : Ok a ≡ Err NoSuchTask =
-          (subst (λ y. IsScript mid (when_done y (exit_slots (range_with_len 0 (length s.slots)) task (Answer_with (Ok Done)))) (Ok a) t) (sym first) go).0 in cc)
-      by_home (Some home) q mid e go =
-          let first = ap (λ (y : Reply × State). y.0) e in
-          let second : record s { table = removed s.table task } ≡ mid = ap (λ (y : Reply × State). y.1) e in
-          let rest = subst (λ y. IsScript mid (when_done y (exit_slots (range_with_len 0 (length s.slots)) task (Answer_with (Ok Done)))) (Ok a) t) (sym first) go in
-          let u : State = record s { table = removed s.table task } in
-          let all : Clear task mid (range_with_len 0 (length s.slots)) = subst (λ x. Clear task x (range_with_len 0 (length s.slots))) second (all_slots task u) in
-          (λ o number. no_map_of task number (slot_at t o) (exits_clear task (range_with_len 0 (length s.slots)) mid t (Ok a) all rest o))
+  exit_gone task (Ok a) t is = grind (arith, common_steps, all_slots, no_map_of, exits_clear)
 
   abbrev NoMount : Outcome → Type 0
   NoMount (Refused r) = Unit {0}

@@ -28,7 +28,7 @@ use Rattle.hp_model.specs.declared.section.Section.TheVariants.{GiveBack}
 use Rattle.hp_model.specs.pool.PoolCounts.{Pool}
 use Rattle.hp_model.specs.machine.Promises.{IsForkLeft, LeavesOthers}
 use Rattle.hp_model.specs.machine.Settled.{IsSettledState}
-use Rattle.hp_model.specs.machine.SlotEvent.{fork_tests, slot_event}
+use Rattle.hp_model.specs.machine.SlotEvent.{slot_event}
 use Rattle.hp_model.specs.machine.State.{State, slot_at}
 use Rattle.hp_model.specs.machine.Step.{Answer_with, Do, IsScripted, IsScript, Script, fork_slots, or_undone, undone, when_done}
 use Rattle.hp_model.specs.machine.Table.{Table, added, home_of, is_crowded, is_known, or_refused, removed, when_known}
@@ -72,8 +72,7 @@ plan_setting s k (Ask sec f) h =
 
 pub event_setting : (s : State) (k : ℕ) (e : SlotEvent) (reply : Reply) (t : State)
     → ((c : Choice) → Gives (slot_event s.page_size k c (slot_at s k) e)) → IsEvent s (OnSlot k e) reply t → SameSetting s t
-event_setting s k e reply t h is =
-    subst (λ (x : Reply × State). SameSetting s x.1) is.2 (plan_setting s k (slot_event s.page_size k is.0 (slot_at s k) e) (h is.0))
+event_setting s k e reply t h is = grind (arith, common_steps, plan_setting)
 
 -- ---- what becomes of a slot
 
@@ -89,16 +88,14 @@ module _ (child : ℕ) where
   exit_becomes size k c old = grind (arith, common_steps)
 
   exit_gives : (size k : ℕ) (c : Choice) (old : Slot) → Gives (slot_event size k c old (slot.ExitMaps child))
-  exit_gives size k c None = tt
-  exit_gives size k c (Some m) = gives_back Done (Some m) (Some (without_task child m))
+  exit_gives size k c old = grind (arith, common_steps, gives_back)
 
   pub fork_becomes : (parent size k : ℕ) (c : Choice) (old : Slot) → Always (BecomesBy (forked parent child) old) (slot_event size k c old (slot.ForkMaps parent child))
   fork_becomes parent size k c old = grind (arith, common_steps)
 
   fork_gives : (parent size k : ℕ) (c : Choice) (old : Slot) → Gives (slot_event size k c old (slot.ForkMaps parent child))
   fork_gives parent size k c None = tt
-  fork_gives parent size k c (Some m) = plan_unless Gives (λ r. tt) (fork_tests c m parent child) (gives Done (Some m) (Some (forked parent child m)))
-      (gives_back Done (Some m) (Some (forked parent child m)))
+  fork_gives parent size k c (Some m) = grind (arith, common_steps, plan_unless, gives_back)
 
   -- touched: the child's maps aside it is as it was; and they are there only where it is still to be undone
   record Touched (old new : Slot) (todo : Bool) : Type 0 where
@@ -125,8 +122,7 @@ module _ (child : ℕ) where
 
   -- without them it stays so
   twice : (x : Slot) → without (without x) ≡ without x
-  twice None = refl
-  twice (Some m) = ap Some (without_after child (file_without child) (twice_without child) m)
+  twice x = grind (arith, common_steps, without_after, twice_without)
 
   cleared : (old now : Slot) (todo : Bool) → Goes old now todo → Touched old (without now) false
   cleared old now todo goes = record { same = twice now ∙ same_without old now todo goes; swept = swept_clear now; clean = inr (twice now) }
@@ -137,8 +133,7 @@ module _ (child : ℕ) where
 
   -- nothing of the child is there
   bare : (now : Slot) → has_maps_of child now ≡ false → option_map swept now ≡ now → without now ≡ now
-  bare None none is = refl
-  bare (Some m) none is = ap Some (without_none child m none) ∙ is
+  bare now none is = grind (arith, common_steps, without_none)
 
   left : (old new : Slot) → Goes old new false → IsForkLeft child old new
   left old new h = grind (arith, common_steps)
@@ -214,35 +209,12 @@ module _ (s : State) (parent child home : ℕ) (unknown : is_known s.table child
 
   -- where no map of the child is left, there is nothing to be undone
   none_forking : (k : ℕ) (ks : List ℕ) (u : State) → has_maps_of child (slot_at u k) ≡ false → Forking (k ∷ ks) u → Forking ks u
-  none_forking k ks u none forking = record {
-    settled = forking.settled;
-    table = forking.table;
-    nr = forking.nr;
-    overcommit = forking.overcommit;
-    slots = λ o. elim (cases_eq o k) as (λ _. Goes child (slot_at s o) (slot_at u o) (is_among o ks)) [
-      | inl same ↦ subst (λ i. Goes child (slot_at s i) (slot_at u i) (is_among i ks)) (sym same)
-          (⊎_elim (λ as_was. inl as_was)
-          (λ touched. inr (record { same = touched.same; swept = touched.swept; clean = inr (bare child (slot_at u k) none touched.swept) })) (forking.slots k))
-      | inr other ↦ still_to_do child (slot_at s o) (slot_at u o) (is_among o (k ∷ ks)) (is_among o ks) (after_first k o ks other) (forking.slots o)
-    ];
-  }
+  none_forking k ks u none forking = grind (arith, common_steps, cases_eq, bare, still_to_do, after_first)
 
   -- ---- undone
 
   removes : (u : State) (r : Refusal) (reply : Reply) → Forking [] u → IsScript u (Do (Tasks (table.Remove child)) (λ q. Answer_with (Err r))) reply t → LeavesOthers s child t
-  removes u r reply forking is = by_home (home_of u.table child) (ap (λ x. is_some (home_of x child)) forking.table ∙ find_added child home s.table) is.0 is.1 is.2.2 is.3.1
-    where
-      by_home : (o : Option ℕ) → is_some o ≡ true → (q : Reply) (mid : State) →
-          with_table u (when_known u.table o (λ home. (Ok Done, removed u.table child))) ≡ (q, mid) → t ≡ mid → LeavesOthers s child t
-      by_home None known q mid e same = cc
-      by_home (Some at) known q mid e same =
-          let gone : record u { table = removed u.table child } ≡ mid = ap (λ (x : Reply × State). x.1) e in
-          subst (λ x. LeavesOthers s child x) (gone ∙ sym same) (record {
-            table = ap (λ x. removed x child) forking.table ∙ added_removed child home s.table unknown;
-            nr = forking.nr;
-            overcommit = forking.overcommit;
-            slots = λ k. left child (slot_at s k) (slot_at u k) (forking.slots k);
-          })
+  removes u r reply forking is = grind (arith, common_steps, find_added, added_removed, left)
 
   undone_leaves : (todo : List ℕ) (r : Refusal) (u : State) (reply : Reply) → Forking todo u → IsScript u (undone todo child r) reply t → LeavesOthers s child t
   undone_leaves [] r u reply forking is = removes u r reply forking is

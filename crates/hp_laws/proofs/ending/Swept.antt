@@ -1,6 +1,6 @@
 -- Maps of a task go: once is as often, and a child's go with what its fork made.
 use Rattle.std.proofs.lemmas.Grind.{common_steps}
-use Rattle.std.proofs.Common.{◌≡◌, ℕ, Bool, true, false, not, Some, List, [], ◌∷◌, ◌++◌, map, cond, refl, sym, ap, ◌∙◌, arith}
+use Rattle.std.proofs.Common.{◌≡◌, ℕ, Bool, true, false, not, Some, List, [], ◌∷◌, map, cond, refl, sym, ap, ◌∙◌, arith}
 use Rattle.std.specs.List.{filter, list_any}
 use Rattle.std.proofs.lemmas.Bool.{eq-eqb, or_parts}
 use Rattle.std.proofs.lemmas.List.Elements.{filter-append}
@@ -40,16 +40,7 @@ module _ (child : ℕ) where
   none_left (x ∷ xs) = rw (eq-eqb child child refl, none_left xs) refl
 
   pub forked_without : (parent : ℕ) (f : File) → file_without child (file_forked parent child f) ≡ file_without child f
-  forked_without parent f =
-      let old : List Map = filter (is_not_of child) f.maps in
-      let new : List Map = map (map_for child) (filter (is_of parent) f.maps) in
-      ap (λ (ms : List Map). record f { maps = ms })
-      (filter-append (is_not_of child) old new ∙ ap (λ ys. ys ++ filter (is_not_of child) new) (filter_twice (is_not_of child) f.maps)
-      ∙ ap (λ ys. old ++ ys) (none_left (filter (is_of parent) f.maps)) ∙ nothing_more old)
-    where
-      nothing_more : (xs : List Map) → xs ++ [] ≡ xs
-      nothing_more [] = refl
-      nothing_more (x ∷ xs) = ap (λ ys. x ∷ ys) (nothing_more xs)
+  forked_without parent f = grind (arith, common_steps, is_not_of, filter-append, filter_twice, none_left)
 
   pub twice_without : (f : File) → file_without child (file_without child f) ≡ file_without child f
   twice_without f = ap (λ (ms : List Map). record f { maps = ms }) (filter_twice (is_not_of child) f.maps)

@@ -42,10 +42,7 @@ module _ (task number a b : ℕ) where
       ap (λ c. c || list_any (is_map task number) (map (map_unmapped (is_map task number) a b) xs)) (same_test x) ∙ ap (λ c. is_map task number x || c) (any_cut xs)
 
   none_left : (ms : List Map) → list_any (is_map task number) ms ≡ false → list_any (is_map task number) (left ms) ≡ false
-  none_left ms none =
-      false_from_ne_true (list_any (is_map task number) (left ms))
-      (λ some. (let before = any_filter (is_map task number) (is_left (is_map task number)) (map (map_unmapped (is_map task number) a b) ms) some in
-      let after = sym (any_cut ms) ∙ before in cc))
+  none_left ms none = grind (arith, common_steps, false_from_ne_true, any_filter, any_cut)
 
   counted : (ms : List Map) → list_any (is_map task number) ms ≡ true → 1 ≤ count_by (is_map task number) ms
   counted ms some = (let there = any_there (is_map task number) no_map ms some in some_counted (is_map task number) no_map ms there.0 there.1 there.2)

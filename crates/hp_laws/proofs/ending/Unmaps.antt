@@ -2,7 +2,6 @@
 use Rattle.std.proofs.Common.{arith}
 use Rattle.std.proofs.lemmas.Grind.{common_steps}
 use Rattle.std.proofs.Common.{◌≡◌, inl, subst, ℕ, ◌&&◌, ◌==◌, Bool, true, false, not, Option, None, Some, List, [], ◌∷◌, map, refl, sym, ap, ◌∙◌, if◌then◌else◌}
-use Rattle.std.specs.List.{list_any}
 use Rattle.std.proofs.lemmas.Bool.{and_parts, eq-eqb, eqb-false, eqb-true, false_from_ne_true, or_left, or_right}
 use Rattle.hp_model.specs.declared.event.SlotEvent.{SlotEvent}
 use Rattle.hp_model.specs.declared.event.SlotEvent.TheVariants as slot
@@ -31,9 +30,7 @@ use Rattle.hp_laws.proofs.accesses.Shown as shows
 
 -- a map that is found passes
 pub spot_passes : (m : Mount) (test : Map → Bool) (s : Spot) → spot m test ≡ Some s → test s.map ≡ true
-spot_passes m test s e =
-    let there = some_file m test (found (λ (f : File). list_any test f.maps) m.files) s (sym (spot_in_file m test) ∙ e) in
-    ap (λ (y : Spot). test y.map) (sym there.2.2) ∙ (found_place test there.0.1.maps there.2.0 there.2.1).passes
+spot_passes m test s e = grind (arith, common_steps, some_file, spot_in_file, found_place)
 
 not_not : (c : Bool) → not c ≡ false → c ≡ true
 not_not c e = grind (arith, common_steps)
@@ -74,11 +71,7 @@ module _ (size : ℕ) (m : Mount) (task number a b : ℕ) where
 
     -- it is the one of the event's number where it passes the event's test
     same_number : test p.map ≡ true → spot m (is_map task number) ≡ Some p
-    same_number on =
-        let here = and_parts (p.map.task == task) (p.map.number == number) on in
-        let mine = and_parts (p.map.task == t) (p.map.number == u) (spot_passes m (is_map t u) p e) in
-        subst (λ x. spot m (is_map x number) ≡ Some p) (sym (eqb-true p.map.task t mine.0) ∙ eqb-true p.map.task task here.0)
-        (subst (λ x. spot m (is_map t x) ≡ Some p) (sym (eqb-true p.map.number u mine.1) ∙ eqb-true p.map.number number here.1) e)
+    same_number on = grind (arith, common_steps, and_parts, spot_passes, eqb-true)
 
     agrees : is_at (spot m (is_map task number)) p.file_no p.map_no ≡ test p.map
     agrees = by_test (test p.map) refl
@@ -205,10 +198,7 @@ module _ (size : ℕ) (m : Mount) (e : SlotEvent) (stores : (j x : ℕ) (old : L
     others = record m { files = map h m.files }
 
     not_gone : (t u : ℕ) (q : Spot) → ends_number (Some m) e t u ≡ false → spot m (is_map t u) ≡ Some q → is_not_of gone q.map ≡ true
-    not_gone t u q goes_on found =
-        let mine = eqb-true q.map.task t (and_parts (q.map.task == t) (q.map.number == u) (spot_passes m (is_map t u) q found)).0 in
-        let apart : (gone == t) ≡ false = sym (ends t u) ∙ goes_on in
-        ap not (false_from_ne_true (q.map.task == gone) (λ same. eqb-false gone t apart (sym (eqb-true q.map.task gone same) ∙ mine)))
+    not_gone t u q goes_on found = grind (arith, common_steps, eqb-true, and_parts, spot_passes, false_from_ne_true, eqb-false)
 
     pub task_keeps : SlotKeeps size (Some m) e (Some (swept others))
     task_keeps =

@@ -1,6 +1,6 @@
 -- A step leaves on its own slot the places of maps and the cells of files as they were, but for what it reaches.
 use Rattle.std.proofs.lemmas.Grind.{common_steps}
-use Rattle.std.proofs.Common.{◌≡◌, ⊎_elim, inl, inr, ◌⊎◌, ℕ, ◌+◌, ◌-◌, ◌<◌, Bool, true, false, ◌&&◌, ◌==◌, not, replicate, take, ◌≤◌}
+use Rattle.std.proofs.Common.{◌≡◌, ⊎_elim, inl, inr, ◌⊎◌, ℕ, ◌+◌, ◌-◌, ◌<◌, Bool, true, false, ◌&&◌, ◌==◌, not, replicate, ◌≤◌}
 use Rattle.std.proofs.Common.{Option, None, Some, is_some, Ok, Err, List, [], ◌∷◌, length, get_or, refl, sym, ap, ◌∙◌, subst, arith, if◌then◌else◌, nat_le, nat_lt}
 use Rattle.std.specs.List.{slice_index_or, slice_set}
 use Rattle.std.specs.Str.{bytes_eq}
@@ -8,7 +8,6 @@ use Rattle.std.proofs.lemmas.Bool.{cases_eq, cases_lt, eqb-true, leb-false, leb-
 use Rattle.std.proofs.lemmas.List.{get_or-set_other, get_or-set_same, get_or-take, get_or_append_left, get_or_past, length-append, length-replicate, length-take}
 use Rattle.std.proofs.lemmas.List.Elements.{All-get_or}
 use Rattle.hp_model.specs.declared.answer.Answer.{Answer}
-use Rattle.hp_model.specs.declared.event.PoolEvent.{PoolEvent}
 use Rattle.hp_model.specs.declared.answer.Answer.TheVariants.{Done, MapNo}
 use Rattle.hp_model.specs.declared.cell.Cell.{Cell}
 use Rattle.hp_model.specs.declared.cell.Cell.TheVariants.{Hole}
@@ -89,8 +88,7 @@ module _ (m : Mount) (sound : IsSoundMount m) (k : ℕ) (name : List ℕ) (q : �
   bare = with_file m q.0 (unlinked q.1)
 
   no_not : (b : Bool) → not b ≡ true → b ≡ false
-  no_not true e = cc
-  no_not false e = refl
+  no_not b e = grind (arith, common_steps)
 
   unlink_kept : Keeps (Some m) (step.Unlink k name) (Some (swept bare))
   unlink_kept =
@@ -107,10 +105,7 @@ module _ (m : Mount) (sound : IsSoundMount m) (k : ℕ) (name : List ℕ) (q : �
     cut_file = truncated n q.1
 
     past_cell : (i : ℕ) (c : Bool) → nat_le n i ≡ c → (cell_at cut_file i ≡ cell_at q.1 i) ⊎ ((nat_le n i ≡ true) × (cell_at cut_file i ≡ Hole))
-    past_cell i true past =
-        let long = length-take n q.1.cells in
-        let from = leb-true n i past in
-        inr (past, cell_kept 0 n q.1 i ∙ get_or_past (take n q.1.cells) i Hole (omega (arith, long, from)))
+    past_cell i true past = grind (arith, common_steps, length-take, leb-true, cell_kept, get_or_past)
     past_cell i false below = inl (cell_kept 0 n q.1 i ∙ get_or-take n q.1.cells i Hole (leb-false n i below))
 
     past_place : (y : Map) (i : ℕ) → (place_at (map_punched n (n + length q.1.cells) y) i ≡ place_at y i)
@@ -133,8 +128,7 @@ module _ (m : Mount) (sound : IsSoundMount m) (k : ℕ) (name : List ℕ) (q : �
     holed = punched a b q.1
 
     in_range : {X : Type 0} (c : Bool) (new old cut : X) → new ≡ (if c then cut else old) → (new ≡ old) ⊎ ((c ≡ true) × (new ≡ cut))
-    in_range true new old cut e = inr (refl, e)
-    in_range false new old cut e = inl e
+    in_range c new old cut e = grind (arith, common_steps)
 
     punch_kept : Keeps (Some m) (step.Punch k name a b) (Some (swept (with_file m q.0 holed)))
     punch_kept =
@@ -211,8 +205,7 @@ module _ (m : Mount) (k size : ℕ) (name : List ℕ) (a b : ℕ) (pages : List 
 -- ---- accesses
 
 some_copy : (o : Option Copy) → is_some o ≡ true → (copy : Copy) × (o ≡ Some copy)
-some_copy None e = cc
-some_copy (Some copy) e = (copy, refl)
+some_copy o e = grind (arith, common_steps)
 
 spot_sound : (n : Mount) (sound : IsSoundMount n) (q : Spot) → IsSpot n q → IsSoundMap (length q.file.cells) q.map
 spot_sound n sound q at =
@@ -302,21 +295,15 @@ module _ (size k : ℕ) (c : Choice) (m : Mount) (sound : IsSoundMount m) where
   KeptIf x n = keys n ≡ keys m → IsSoundMount n → Keeps (Some m) x (Some n)
 
   joined : (x : Step) (o : Outcome) → On (KeptIf x) o → On Stays o → KeepsTo (Some m) x o
-  joined x (Refused r) h stays = tt
-  joined x (Answered a None) h stays = absurd h
-  joined x (Answered a (Some n)) h stays = λ whole. h stays whole
+  joined x o h stays = grind (arith, common_steps)
 
   both_on : (P Q : Mount → Type 0) (o : Outcome) → On P o → On Q o → On (λ n. P n × Q n) o
-  both_on P Q (Refused r) p q = tt
-  both_on P Q (Answered a None) p q = absurd p
-  both_on P Q (Answered a (Some n)) p q = (p, q)
+  both_on P Q o p q = grind (arith, common_steps)
 
   module _ (task home number i : ℕ) where
     fault_kept : (intent : Intent) (s : Spot) (found : spot m (is_map task number) ≡ Some s) (n : Mount) → Held size m sound s (spot_is m (is_map task number) s found) i intent n
         → KeptIf (step.Fault task k number i intent) n
-    fault_kept Read s found n held same whole =
-        access_kept size m sound task number i Read s found n held (placed_same m n same) whole (step.Fault task k number i Read)
-        (λ p q j own. own) (λ p q j writes taken. (let never : Read ≡ Write = writes in cc)) (λ file j old new to. to) (λ p q writes lost. (let never : Read ≡ Write = writes in cc))
+    fault_kept Read s found n held same whole = grind (arith, common_steps, access_kept, placed_same)
     fault_kept Write s found n held same whole =
         access_kept size m sound task number i Write s found n held (placed_same m n same) whole (step.Fault task k number i Write)
         (λ p q j own. inl own) (λ p q j writes taken. inr taken) (λ file j old new to. to) (λ p q writes lost. lost)
@@ -368,14 +355,10 @@ module _ (size k : ℕ) (c : Choice) (m : Mount) (sound : IsSoundMount m) where
   given x n h = always_gives (KeepsTo (Some m) x) Done (Some m) (Some n) (λ whole. h)
 
   refused_kept : (e : SlotEvent) (r : Refusal) → KeepsOn (Some m) k e (Refused r)
-  refused_kept (slot.Unmap task number a b) r = files_same (Some m)
-  refused_kept other r = tt
+  refused_kept e r = grind (arith, common_steps, files_same)
 
   told_kept : (e : SlotEvent) (a : Answer) → tells_all e ≡ true → KeepsOn (Some m) k e (Answered a (Some m))
-  told_kept slot.Df a told = λ whole. same_keeps (Some m) (step.Df k)
-  told_kept slot.Ls a told = λ whole. same_keeps (Some m) (step.Ls k)
-  told_kept (slot.Stat name) a told = λ whole. same_keeps (Some m) (step.Stat k name)
-  told_kept other a told = cc
+  told_kept e a told = grind (arith, common_steps, same_keeps)
 
   kept_walks : Walks size k c m (λ e. Always (KeepsOn (Some m) k e))
   kept_walks = record {
@@ -435,10 +418,7 @@ slot_kept size k c (Some m) e sound =
 module _ (s : State) (st : IsSettledState s) (t : State) (tt_sound : (k : ℕ) → IsSound (slot_at t k)) where
   own_slot : (x : Step) (k : ℕ) (a : Answer) (y : Slot) → k < length s.slots → t.slots ≡ slice_set s.slots k y → KeepsTo (slot_at s k) x (Answered a y)
       → (o : ℕ) → (k == o) ≡ true → Keeps (slot_at s o) x (slot_at t o)
-  own_slot x k a y l slots keeps o on =
-      let there : slot_at t k ≡ y = ap (λ (xs : List Slot). slice_index_or xs k None) slots ∙ get_or-set_same s.slots k y None l in
-      subst (λ z. Keeps (slot_at s z) x (slot_at t z)) (eqb-true k o on)
-      (subst (λ z. Keeps (slot_at s k) x z) (sym there) (keeps (subst IsSound there (tt_sound k))))
+  own_slot x k a y l slots keeps o on = grind (arith, common_steps, get_or-set_same, eqb-true)
 
   outcome_kept : (k : ℕ) (e : SlotEvent) (o : Outcome) → is_whole (OnSlot k e) ≡ true → k < length s.slots → t.slots ≡ slice_set s.slots k (left_by (slot_at s k) o)
       → KeepsOn (slot_at s k) k e o → KeepsOwn s (slot_step k e) (reply_of o) t
@@ -465,10 +445,7 @@ module _ (s : State) (st : IsSettledState s) (t : State) (tt_sound : (k : ℕ) �
   event_kept (Tasks (table.Remove task)) reply whole is = cc
   event_kept (Tasks (table.Add task home)) (Ok a) whole is = λ o on. cc
   event_kept (Tasks (table.Find task)) (Ok a) whole is = λ o on. cc
-  event_kept (OnPool e) (Ok a) whole is = pool_kept e a
-    where
-      pool_kept : (e : PoolEvent) (a : Answer) → KeepsOwn s (step_of (OnPool e)) (Ok a) t
-      pool_kept e a = grind (arith, common_steps)
+  event_kept (OnPool e) (Ok a) whole is = grind (arith, common_steps, step_of)
   event_kept (Tasks (table.Add task home)) (Err r) whole is = tt
   event_kept (Tasks (table.Find task)) (Err r) whole is = tt
   event_kept (OnPool (pool.Nr n)) (Err r) whole is = tt
@@ -477,10 +454,7 @@ module _ (s : State) (st : IsSettledState s) (t : State) (tt_sound : (k : ℕ) �
   event_kept (OnPool pool.Nodes) (Err r) whole is = tt
 
 early_kept : (s : State) (x : Step) (r : Refusal) → KeepsOwn s x (Err r) s
-early_kept s (step.Unmap task k number a b) r = λ o. files_same (slot_at s o)
-early_kept s (step.Fork parent child) r = λ o. files_same (slot_at s o)
-early_kept s (step.Exit task) r = λ o. files_same (slot_at s o)
-early_kept s other r = tt
+early_kept s x r = grind (arith, common_steps, files_same)
 
 sound_at : (t : State) → IsSettledState t → (k : ℕ) → IsSound (slot_at t k)
 sound_at t st k = ⊎_elim (λ l. left_sound t k l st) (λ past. subst IsSound (sym (get_or_past t.slots k None past)) tt) (cases_lt k (length t.slots))

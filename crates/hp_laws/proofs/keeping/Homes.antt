@@ -9,11 +9,7 @@ use Rattle.hp_model.specs.declared.event.TableEvent.TheVariants as table
 use Rattle.hp_model.specs.machine.Table.{Table, added, home_of, is_known, removed, table_event}
 
 pub home_added : (table : Table) (new home task : ℕ) → is_known table new ≡ false → home_of (added table new home) task ≡ (if new == task then Some home else home_of table task)
-home_added [] new home task e = by_test (new == task) refl
-  where
-    by_test : (b : Bool) → (new == task) ≡ b → home_of (added [] new home) task ≡ (if new == task then Some home else None)
-    by_test true is = rw is refl
-    by_test false is = rw is refl
+home_added [] new home task e = grind (arith, common_steps)
 home_added (x ∷ xs) new home task e =
     by_tests (x.0 == task) refl (x.0 == new) refl (λ known. home_added xs new home task known)
   where
@@ -28,11 +24,7 @@ home_added (x ∷ xs) new home task e =
         rw is (rest (subst (λ b. is_some (option_map (λ (q : ℕ × ℕ). q.1) (if b then Some x else find (λ (q : ℕ × ℕ). q.0 == new) xs)) ≡ false) at e))
 
 pub home_removed : (table : Table) (gone task : ℕ) → home_of (removed table gone) task ≡ (if gone == task then None else home_of table task)
-home_removed [] gone task = by_test (gone == task)
-  where
-    by_test : (b : Bool) → home_of [] task ≡ (if b then None else home_of [] task)
-    by_test true = refl
-    by_test false = refl
+home_removed [] gone task = grind (arith, common_steps)
 home_removed (x ∷ xs) gone task = by_tests (x.0 == gone) refl (gone == task) refl (x.0 == task) refl (home_removed xs gone task)
   where
     by_tests : (a : Bool) → (x.0 == gone) ≡ a → (b : Bool) → (gone == task) ≡ b → (c : Bool) → (x.0 == task) ≡ c

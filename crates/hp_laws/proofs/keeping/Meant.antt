@@ -128,8 +128,7 @@ Idle s step reply =
     ((k j i : ℕ) (old : List ℕ) → old ≡ stored_over s step reply k j i old) × ((k j l i : ℕ) (old : List ℕ) → old ≡ seen_over s step reply k j l i old)
 
 idle_meant : (s : State) (step : Step) (reply : Reply) (t : State) → t.page_size ≡ s.page_size → t.slots ≡ s.slots → Idle s step reply → Meant s step reply t
-idle_meant s step reply t size slots idle k =
-    still_meant s step reply t k size (ap (λ (xs : List Slot). slice_index_or xs k None) slots) (idle.0 k) (idle.1 k)
+idle_meant s step reply t size slots idle k = grind (arith, common_steps, still_meant)
 
 table_idle : (s : State) (e : TableEvent) (reply : Reply) → Idle s (step_of (Tasks e)) reply
 table_idle s e reply = grind (arith, common_steps)
@@ -172,15 +171,7 @@ module _ (s : State) (h : (k : ℕ) (c : Choice) (e : SlotEvent) → IsSound (sl
     Always (KeepsSlot s.page_size (slot_at s k) e) (slot_event s.page_size k c (slot_at s k) e)) (st : IsSettledState s) where
   outcome_meant : (k : ℕ) (e : SlotEvent) (t : State) (o : Outcome) → k < length s.slots → t.page_size ≡ s.page_size → t.slots ≡ slice_set s.slots k (left_by (slot_at s k) o)
       → KeepsSlot s.page_size (slot_at s k) e o → Meant s (slot_step k e) (reply_of o) t
-  outcome_meant k e t (Refused r) l size slots keeps o =
-      still_meant s (slot_step k e) (Err r) t o size
-      (ap (λ (xs : List Slot). slice_index_or xs o None) slots ∙ set_same) (refused_stores s (slot_step k e) r o) (refused_writes s (slot_step k e) r o)
-    where
-      set_same : slice_index_or (slice_set s.slots k (slot_at s k)) o None ≡ slot_at s o
-      set_same = elim (cases_eq o k) as (λ _. slice_index_or (slice_set s.slots k (slot_at s k)) o None ≡ slot_at s o) [
-        | inl same ↦ subst (λ x. slice_index_or (slice_set s.slots k (slot_at s k)) x None ≡ slot_at s x) (sym same) (get_or-set_same s.slots k (slot_at s k) None l)
-        | inr other ↦ get_or-set_other s.slots k o (slot_at s k) None other
-      ]
+  outcome_meant k e t (Refused r) l size slots keeps o = grind (arith, common_steps, still_meant, slot_step, refused_stores, refused_writes, cases_eq, get_or-set_same, get_or-set_other)
   outcome_meant k e t (Answered a new) l size slots keeps o =
       elim (cases_eq o k) as (λ _. SlotMeant s (slot_step k e) (Ok a) t o) [
         | inl same ↦ subst (λ x. SlotMeant s (slot_step k e) (Ok a) t x) (sym same)
@@ -192,10 +183,8 @@ module _ (s : State) (h : (k : ℕ) (c : Choice) (e : SlotEvent) → IsSound (sl
       ]
 
   event_meant : (e : Event) (reply : Reply) (t : State) → is_whole e ≡ true → IsEvent s e reply t → Meant s (step_of e) reply t
-  event_meant (Tasks e) reply t whole is =
-      let left = ap (λ (q : Reply × State). q.1) is.2 in idle_meant s (step_of (Tasks e)) reply t (sym (ap (λ x. x.page_size) left)) (sym (ap (λ x. x.slots) left)) (table_idle s e reply)
-  event_meant (OnPool e) reply t whole is =
-      let left = ap (λ (q : Reply × State). q.1) is.2 in idle_meant s (step_of (OnPool e)) reply t (sym (ap (λ x. x.page_size) left)) (sym (ap (λ x. x.slots) left)) (pool_idle s e reply)
+  event_meant (Tasks e) reply t whole is = grind (arith, common_steps, idle_meant, step_of, table_idle)
+  event_meant (OnPool e) reply t whole is = grind (arith, common_steps, idle_meant, step_of, pool_idle)
   event_meant (OnSlot k e) reply t whole is =
       let l = ltb-true k (length s.slots) is.1.0 in
       let ends = event_ends (KeepsSlot s.page_size (slot_at s k) e) s k e reply t (λ c. h k c e (left_sound s k l st)) is in

@@ -5,7 +5,7 @@ use Rattle.std.proofs.Common.{◌≡◌, subst, ℕ, ◌==◌, Bool, true, false
 use Rattle.std.specs.List.{range_with_len}
 use Rattle.std.proofs.lemmas.Bool.{cond_both}
 use Rattle.hp_model.specs.declared.answer.Answer.{Answer}
-use Rattle.hp_model.specs.declared.answer.Answer.TheVariants.{Done, Home}
+use Rattle.hp_model.specs.declared.answer.Answer.TheVariants.{Done}
 use Rattle.hp_model.specs.declared.event.Event.{Event}
 use Rattle.hp_model.specs.declared.event.Event.TheVariants.{Tasks, Slot as OnSlot, Pool as OnPool}
 use Rattle.hp_model.specs.declared.event.PoolEvent.TheVariants as pool
@@ -21,7 +21,7 @@ use Rattle.hp_model.specs.declared.step.Step.{Step}
 use Rattle.hp_model.specs.declared.step.Step.TheVariants as step
 use Rattle.hp_model.specs.machine.Event.{IsEvent, has_maps_of, with_pool_reply, with_table}
 use Rattle.hp_model.specs.machine.Machine.{pool_of}
-use Rattle.hp_model.specs.machine.Plan.{Ask, Finish, Plan, Reply}
+use Rattle.hp_model.specs.machine.Plan.{Plan, Reply}
 use Rattle.hp_model.specs.machine.Settings.{IsSet, TellsNr, home_after, nr_after, only_reads, overcommit_after}
 use Rattle.hp_model.specs.machine.Settled.{IsSettledState}
 use Rattle.hp_model.specs.Profile.{most_overcommit}
@@ -29,7 +29,7 @@ use Rattle.hp_model.specs.machine.SlotEvent.{slot_event}
 use Rattle.hp_laws.proofs.ending.Fades.{exit_refused}
 use Rattle.hp_model.specs.machine.State.{State, slot_at}
 use Rattle.hp_model.specs.machine.Step.{Answer_with, IsScript, IsScripted, IsStep, exit_slots, fork_slots, or_undone, undone, when_done}
-use Rattle.hp_model.specs.machine.Table.{added, home_of, is_crowded, is_known, or_refused, removed, when_known}
+use Rattle.hp_model.specs.machine.Table.{added, home_of, is_crowded, is_known, or_refused, when_known}
 use Rattle.hp_model.specs.pool.Grant.{can_grant}
 use Rattle.hp_model.specs.pool.Pool.{section}
 use Rattle.hp_model.specs.pool.PoolCounts.{Pool}
@@ -55,8 +55,7 @@ section_numbers p (ReadAndGiveBack k) = (refl, refl)
 section_numbers p (GrantAndReturn d) = cond_both (can_grant d p) _ _ (Numbers p) (λ e. (refl, refl)) (λ e. (refl, refl))
 
 all_give : (p : Plan) → Gives p
-all_give (Finish o) = tt
-all_give (Ask sec f) = λ p. section_numbers p (sec p.nr)
+all_give p = grind (arith, common_steps, section_numbers)
 
 slot_setting : (s : State) (k : ℕ) (e : SlotEvent) (reply : Reply) (t : State) → IsEvent s (OnSlot k e) reply t → SameSetting s t
 slot_setting s k e reply t is = event_setting s k e reply t (λ c. all_give (slot_event s.page_size k c (slot_at s k) e)) is
@@ -104,12 +103,7 @@ module _ (s : State) where
   one_added : (x : Step) (a : Answer) (new home : ℕ) (u t : State) → is_known s.table new ≡ false → u ≡ record s { table = added s.table new home } → SameSetting u t
       → ((task : ℕ) → (if new == task then Some home else home_of s.table task) ≡ home_after s x (Ok a) task) → nr_after s x (Ok a) ≡ s.nr → overcommit_after s x (Ok a) ≡ s.overcommit
       → TellsNr x (Ok a) t → IsSet s x (Ok a) t
-  one_added x a new home u t unknown made same homes nr overcommit told = record {
-    homes = λ task. ap (λ tb. home_of tb task) (same.table ∙ ap (λ y. y.table) made) ∙ home_added s.table new home task unknown ∙ homes task;
-    nr = same.nr ∙ ap (λ y. y.nr) made ∙ sym nr;
-    overcommit = same.overcommit ∙ ap (λ y. y.overcommit) made ∙ sym overcommit;
-    told = told;
-  }
+  one_added x a new home u t unknown made same homes nr overcommit told = grind (arith, common_steps, home_added)
 
   connect_sets : (new home : ℕ) (reply : Reply) (t : State) → IsEvent s (Tasks (table.Add new home)) reply t → IsSet s (step.Connect new home) reply t
   connect_sets new home reply t is = by_tests (nat_le (length s.nodes) home) (is_known s.table new) refl (is_crowded s.table) reply t is.2
@@ -156,24 +150,7 @@ module _ (s : State) where
       by_home (Some home) known q mid e go = by_tests home known (is_known s.table child) refl (is_crowded s.table) q mid e go
 
   exit_sets : (gone : ℕ) (a : Answer) (t : State) → IsScripted s (step.Exit gone) (Ok a) t → IsSet s (step.Exit gone) (Ok a) t
-  exit_sets gone a t is = by_home (home_of s.table gone) is.0 is.1 is.2.2 is.3
-    where
-      by_home : (o : Option ℕ) (q : Reply) (mid : State) → with_table s (when_known s.table o (λ home. (Ok Done, removed s.table gone))) ≡ (q, mid)
-          → IsScript mid (when_done q (exit_slots (range_with_len 0 (length s.slots)) gone (Answer_with (Ok Done)))) (Ok a) t → IsSet s (step.Exit gone) (Ok a) t
-      by_home None q mid e go =
-          let first = ap (λ (y : Reply × State). y.0) e in
-          (let never : Ok a ≡ Err NoSuchTask = (subst (λ y. IsScript mid (when_done y (exit_slots (range_with_len 0 (length s.slots)) gone (Answer_with (Ok Done)))) (Ok a) t) (sym first) go).0 in cc)
-      by_home (Some home) q mid e go =
-          let first = ap (λ (y : Reply × State). y.0) e in
-          let second : record s { table = removed s.table gone } ≡ mid = ap (λ (y : Reply × State). y.1) e in
-          let same = exits_set gone (Ok a) (range_with_len 0 (length s.slots)) mid t
-          (subst (λ y. IsScript mid (when_done y (exit_slots (range_with_len 0 (length s.slots)) gone (Answer_with (Ok Done)))) (Ok a) t) (sym first) go) in
-          record {
-            homes = λ task. ap (λ tb. home_of tb task) (same.table ∙ sym (ap (λ y. y.table) second)) ∙ home_removed s.table gone task;
-            nr = same.nr ∙ sym (ap (λ y. y.nr) second);
-            overcommit = same.overcommit ∙ sym (ap (λ y. y.overcommit) second);
-            told = tt;
-          }
+  exit_sets gone a t is = grind (arith, common_steps, exits_set, home_removed)
 
   -- what of the steps leaves all as it was
   record Unset (x : Step) (reply : Reply) : Type 0 where
@@ -197,21 +174,14 @@ module _ (s : State) where
 
   event_sets : (e : Event) (reply : Reply) (t : State) → is_whole e ≡ true → IsEvent s e reply t → IsSet s (step_of e) reply t
   event_sets (Tasks (table.Add new home)) reply t whole is = connect_sets new home reply t is
-  event_sets (Tasks (table.Find task)) reply t whole is = by_home (home_of s.table task) is.2
-    where
-      by_home : (o : Option ℕ) → with_table s (when_known s.table o (λ home. (Ok (Home home), s.table))) ≡ (reply, t) → IsSet s (step.Attach task) reply t
-      by_home None e = subst (λ (q : Reply × State). IsSet s (step.Attach task) q.0 q.1) e (record { homes = λ other. refl; nr = refl; overcommit = refl; told = tt })
-      by_home (Some home) e = subst (λ (q : Reply × State). IsSet s (step.Attach task) q.0 q.1) e (record { homes = λ other. refl; nr = refl; overcommit = refl; told = tt })
+  event_sets (Tasks (table.Find task)) reply t whole is = grind (arith, common_steps)
   event_sets (Tasks (table.FindAndAdd parent child)) reply t whole is = cc
   event_sets (Tasks (table.Remove task)) reply t whole is = cc
   event_sets (OnSlot k e) reply t whole is = leaves (slot_step k e) reply t (slot_unset k e reply whole) (slot_setting s k e reply t is)
-  event_sets (OnPool (pool.Nr n)) reply t whole is =
-      subst (λ (q : Reply × State). IsSet s (step.Nr n) q.0 q.1) is.2 (record { homes = λ task. refl; nr = refl; overcommit = refl; told = refl })
+  event_sets (OnPool (pool.Nr n)) reply t whole is = grind (arith, common_steps)
   event_sets (OnPool (pool.Overcommit n)) reply t whole is = limit_sets n (nat_le n most_overcommit) reply t is.2
-  event_sets (OnPool pool.Meminfo) reply t whole is =
-      subst (λ (q : Reply × State). IsSet s step.Meminfo q.0 q.1) is.2 (record { homes = λ task. refl; nr = refl; overcommit = refl; told = tt })
-  event_sets (OnPool pool.Nodes) reply t whole is =
-      subst (λ (q : Reply × State). IsSet s step.Nodes q.0 q.1) is.2 (record { homes = λ task. refl; nr = refl; overcommit = refl; told = tt })
+  event_sets (OnPool pool.Meminfo) reply t whole is = grind (arith, common_steps)
+  event_sets (OnPool pool.Nodes) reply t whole is = grind (arith, common_steps)
 
   forked_sets : IsSettledState s → (parent child : ℕ) (reply : Reply) (t : State) → IsScripted s (step.Fork parent child) reply t → IsSet s (step.Fork parent child) reply t
   forked_sets st parent child (Ok a) t is = fork_sets parent child a t is

@@ -6,10 +6,8 @@ use Rattle.std.specs.List.{slice_index_or, slice_set}
 use Rattle.std.proofs.lemmas.Bool.{ltb-true}
 use Rattle.std.proofs.lemmas.List.{get_or-set_same}
 use Rattle.hp_model.specs.declared.event.Event.{Event}
-use Rattle.hp_model.specs.declared.event.Event.TheVariants.{Tasks, Slot as OnSlot, Pool as OnPool}
-use Rattle.hp_model.specs.declared.event.PoolEvent.TheVariants as pool
+use Rattle.hp_model.specs.declared.event.Event.TheVariants.{Slot as OnSlot}
 use Rattle.hp_model.specs.declared.event.SlotEvent.TheVariants as slot
-use Rattle.hp_model.specs.declared.event.TableEvent.TheVariants as table
 use Rattle.hp_model.specs.declared.limits.Limits.{Limits}
 use Rattle.hp_model.specs.declared.refusal.Refusal.{Refusal}
 use Rattle.hp_model.specs.declared.refusal.Refusal.TheVariants.{SlotTaken}
@@ -83,23 +81,13 @@ module _ (s : State) (k : ℕ) (options : List ℕ) (reply : Reply) (t : State) 
 
   remount_mounted : (old : Slot) → slot_at s k ≡ old → Mounts s (step.Remount k options) reply t
   remount_mounted (Some m) there = remounted m there
-  remount_mounted None there =
-      subst (λ (q : Reply × State). Mounts s (step.Remount k options) q.0 q.1)
-      (subst (λ (x : Slot). planned s k (slot_event s.page_size k is.0 x (slot.Remount options)) ≡ (reply, t)) there is.2) tt
+  remount_mounted None there = grind (arith, common_steps)
 
 -- ---- steps
 
 module _ (s : State) where
   event_mounted : (e : Event) (reply : Reply) (t : State) → is_whole e ≡ true → IsEvent s e reply t → Mounts s (step_of e) reply t
-  event_mounted (OnSlot k (slot.Mount options)) reply t whole is = by_old s k options (ltb-true k (length s.slots) is.1.0) is.0 (slot_at s k) refl reply t is.2
-  event_mounted (OnSlot k (slot.Remount options)) reply t whole is = remount_mounted s k options reply t is (slot_at s k) refl
-  event_mounted (OnSlot k (slot.ForkMaps parent child)) reply t whole is = cc
-  event_mounted (OnSlot k (slot.ExitMaps task)) reply t whole is = cc
-  event_mounted (OnSlot k other) reply t whole is = tt
-  event_mounted (Tasks (table.Add task home)) reply t whole is = tt
-  event_mounted (Tasks other) reply t whole is = tt
-  event_mounted (OnPool pool.Meminfo) reply t whole is = tt
-  event_mounted (OnPool other) reply t whole is = tt
+  event_mounted e reply t whole is = grind (arith, common_steps, by_old, ltb-true, remount_mounted)
 
   early_mounted : (x : Step) (r : Refusal) → Mounts s x (Err r) s
   early_mounted x r = grind (arith, common_steps)

@@ -94,8 +94,7 @@ module _ {X : Type 0} (t : X → Bool) where
   -- the one that was found is put again, and still passes
   again_step : (x : X) (xs : List X) (q : ℕ × X) (y : X) → ((p : ℕ × X) → found t xs ≡ Some p → found t (slice_set xs p.0 y) ≡ Some (p.0, y)) → t y ≡ true
       → (b : Bool) → t x ≡ b → (r : Option (ℕ × X)) → found t xs ≡ r → (if b then Some (0, x) else option_map one_on r) ≡ Some q → found t (slice_set (x ∷ xs) q.0 y) ≡ Some (q.0, y)
-  again_step x xs q y rest is true here r was e =
-      subst (λ (p : ℕ × X). found t (slice_set (x ∷ xs) p.0 y) ≡ Some (p.0, y)) (let same : (0, x) ≡ q = cc in same) (rw is refl)
+  again_step x xs q y rest is true here r was e = grind (arith, common_steps)
   again_step x xs q y rest is false here None was e = cc
   again_step x xs q y rest is false here (Some p) was e =
       subst (λ (p : ℕ × X). found t (slice_set (x ∷ xs) p.0 y) ≡ Some (p.0, y)) (let same : (p.0 + 1, p.1) ≡ q = cc in same)

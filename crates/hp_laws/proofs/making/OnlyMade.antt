@@ -1,6 +1,6 @@
 -- No name and no number is new on a slot but what its event makes, and no file is left that nobody has.
 use Rattle.std.proofs.lemmas.Grind.{common_steps}
-use Rattle.std.proofs.Common.{◌≡◌, ⊎_elim, ℕ, zero, suc, ◌+◌, ◌&&◌, ◌||◌, ◌==◌, Bool, true, false, not, None, Option}
+use Rattle.std.proofs.Common.{◌≡◌, ⊎_elim, ℕ, zero, suc, ◌&&◌, ◌||◌, ◌==◌, Bool, true, false, not, None}
 use Rattle.std.proofs.Common.{Some, List, [], ◌∷◌, ◌++◌, length, map, option_map, is_some, nat_lt, refl, sym, ap, ◌∙◌, arith}
 use Rattle.std.specs.List.{filter, list_all, list_any, slice_set}
 use Rattle.std.specs.Str.{bytes_eq}
@@ -19,10 +19,8 @@ use Rattle.hp_model.specs.files.Fill.{lacking, range_filled, rising_nodes}
 use Rattle.hp_model.specs.files.Fork.{file_forked}
 use Rattle.hp_model.specs.files.GiveBack.{file_unmapped, file_without, is_kept, is_left, map_unmapped, punched, swept, truncated, unlinked, without_task}
 use Rattle.hp_model.specs.files.MakeMap.{asked, mapped, new_map, next_number, with_new}
-use Rattle.hp_model.specs.files.Mapping.{Map, is_map, is_of, map_for, map_punched, without_range}
+use Rattle.hp_model.specs.files.Mapping.{Map, is_map, is_of, map_for, without_range}
 use Rattle.hp_model.specs.files.Page.{Page}
-use Rattle.hp_model.specs.files.Spot.{spot_in}
-use Rattle.hp_model.specs.Lists.{found}
 use Rattle.hp_model.specs.machine.Held.{are_held}
 use Rattle.hp_model.specs.machine.Named.{named_on, spot_on}
 use Rattle.hp_model.specs.machine.Plan.{Answered, Choice, Outcome, Refused, Slot, gives}
@@ -72,29 +70,17 @@ no_more_then made new x y z a b = grind (arith, common_steps)
 -- ---- what is found nowhere
 
 pub name_absent : (name : List ℕ) (x : Slot) → named_on x name ≡ None → any_file (has_name name) x ≡ false
-name_absent name None e = refl
-name_absent name (Some m) e = found_none (has_name name) m.files e
+name_absent name x e = grind (arith, common_steps, found_none)
 
 pub name_none : (name : List ℕ) (x : Slot) → any_file (has_name name) x ≡ false → named_on x name ≡ None
-name_none name None e = refl
-name_none name (Some m) e = found_not (has_name name) m.files e
+name_none name x e = grind (arith, common_steps, found_not)
 
 pub number_none : (task number : ℕ) (x : Slot) → any_file (has_map task number) x ≡ false → spot_on x task number ≡ None
-number_none task number None e = refl
-number_none task number (Some m) e = spot_none m (is_map task number) (found_not (has_map task number) m.files e)
+number_none task number x e = grind (arith, common_steps, spot_none, found_not)
 
 pub number_absent : (task number : ℕ) (x : Slot) → spot_on x task number ≡ None → any_file (has_map task number) x ≡ false
 number_absent task number None e = refl
-number_absent task number (Some m) e = by_file (found (has_map task number) m.files) refl (sym (spot_in_file m (is_map task number)) ∙ e)
-  where
-    by_map : (f : ℕ × File) → has_map task number f.1 ≡ true → (o : Option (ℕ × Map)) → found (is_map task number) f.1.maps ≡ o
-        → option_map (spot_in f) o ≡ None → list_any (has_map task number) m.files ≡ false
-    by_map f some None was e = (let none = found_none (is_map task number) f.1.maps was in cc)
-    by_map f some (Some q) was e = cc
-
-    by_file : (o : Option (ℕ × File)) → found (has_map task number) m.files ≡ o → in_file (is_map task number) o ≡ None → list_any (has_map task number) m.files ≡ false
-    by_file None was e = found_none (has_map task number) m.files was
-    by_file (Some f) was e = by_map f (found_place (has_map task number) m.files f was).passes (found (is_map task number) f.1.maps) refl e
+number_absent task number (Some m) e = grind (arith, common_steps, spot_in_file, found_none, in_file, found_place)
 
 -- ---- the same keys
 
@@ -171,18 +157,11 @@ module _ (made : List ℕ → Bool) (new : ℕ → ℕ → Bool) (m : Mount) whe
   }
 
   all_fewer : (h : File → File) → ((f : File) → FileFewer new f (h f)) → Fewer new m (record m { files = map h m.files })
-  all_fewer h each = record {
-    names = λ name is. any_map_down (has_name name) (has_name name) h (λ f e. (each f).names name e) m.files is;
-    numbers = λ task number off is. any_map_down (has_map task number) (has_map task number) h (λ f e. (each f).numbers task number off e) m.files is;
-  }
+  all_fewer h each = grind (arith, common_steps, any_map_down)
 
   -- what is left of it when files without a name and without maps are gone
   swept_fewer : (n : Mount) → Fewer new m n → NoMore made new (Some m) (Some (swept n))
-  swept_fewer n fewer = record {
-    held = λ e. all_filter is_kept n.files;
-    names = λ name off is. fewer.names name (any_filter (has_name name) is_kept n.files is);
-    numbers = λ task number off is. fewer.numbers task number off (any_filter (has_map task number) is_kept n.files is);
-  }
+  swept_fewer n fewer = grind (arith, common_steps, all_filter, any_filter)
 
   -- a map more
   more_fewer : (f : File) (cells : List (Cell Page)) (x : Map) → ((task number : ℕ) → new task number ≡ false → is_map task number x ≡ false)
@@ -215,16 +194,10 @@ module _ (new : ℕ → ℕ → Bool) where
   unlinked_fewer f = record { names = λ name is. cc; numbers = λ task number off is. is }
 
   truncated_fewer : (n : ℕ) (f : File) → FileFewer new f (truncated n f)
-  truncated_fewer n f = record {
-    names = λ name is. is;
-    numbers = λ task number off is. any_map_down (is_map task number) (is_map task number) (map_punched n (n + length f.cells)) (λ x e. e) f.maps is;
-  }
+  truncated_fewer n f = grind (arith, common_steps, any_map_down)
 
   punched_fewer : (a b : ℕ) (f : File) → FileFewer new f (punched a b f)
-  punched_fewer a b f = record {
-    names = λ name is. is;
-    numbers = λ task number off is. any_map_down (is_map task number) (is_map task number) (map_punched a b) (λ x e. e) f.maps is;
-  }
+  punched_fewer a b f = grind (arith, common_steps, any_map_down)
 
   unmapped_fewer : (t : Map → Bool) (a b : ℕ) (f : File) → FileFewer new f (file_unmapped t a b f)
   unmapped_fewer t a b f = record {
@@ -245,14 +218,7 @@ module _ (new : ℕ → ℕ → Bool) where
       (or_cases (is_map task number (map_for child x)) (list_any (is_map task number) (map (map_for child) xs)) e)
 
   forked_fewer : (parent child : ℕ) → ((task number : ℕ) → new task number ≡ false → (child == task) ≡ false) → (f : File) → FileFewer new f (file_forked parent child f)
-  forked_fewer parent child own f = record {
-    names = λ name is. is;
-    numbers = λ task number off is.
-        ⊎_elim (λ old. any_filter (is_map task number) (λ x. not (is_of child x)) f.maps old)
-        (λ made. (let on = is_child child task number (filter (is_of parent) f.maps) made in let no = own task number off in cc))
-        (or_cases (list_any (is_map task number) (filter (λ x. not (is_of child x)) f.maps)) (list_any (is_map task number) (map (map_for child) (filter (is_of parent) f.maps)))
-        (sym (any_append (is_map task number) (filter (λ x. not (is_of child x)) f.maps) (map (map_for child) (filter (is_of parent) f.maps))) ∙ is));
-  }
+  forked_fewer parent child own f = grind (arith, common_steps, any_filter, is_child, or_cases, any_append)
 
 -- a slot that a task's maps left
 pub without_more : (made : List ℕ → Bool) (new : ℕ → ℕ → Bool) (gone : ℕ) (x : Slot) → NoMore made new x (option_map (without_task gone) x)
@@ -280,9 +246,7 @@ MakesNo e x (Answered a y) = NoMore (made_by e) (new_by e a) x y
 
 module _ (size k : ℕ) (c : Choice) (m : Mount) where
   by_keys : (e : SlotEvent) (o : Outcome) → On (λ n. keys n ≡ keys m) o → MakesNo e (Some m) o
-  by_keys e (Refused r) on = tt
-  by_keys e (Answered a None) on = absurd on
-  by_keys e (Answered a (Some n)) on = same_keys (made_by e) (new_by e a) m n on
+  by_keys e o on = grind (arith, common_steps, same_keys)
 
   none_more : (made : List ℕ → Bool) (new : ℕ → ℕ → Bool) → NoMore made new (Some m) None
   none_more made new = record { held = λ e. refl; names = λ name off is. cc; numbers = λ task number off is. cc }

@@ -1,7 +1,7 @@
 -- What a remount of an open slot answers and leaves, at the pool that stands.
 use Rattle.std.proofs.Common.{arith}
 use Rattle.std.proofs.lemmas.Grind.{common_steps}
-use Rattle.std.proofs.Common.{◌≡◌, subst, ℕ, ◌-◌, ◌==◌, Bool, true, false, Some, Result as ResultOf, Ok, List, sym, if◌then◌else◌}
+use Rattle.std.proofs.Common.{◌≡◌, subst, ℕ, ◌-◌, ◌==◌, false, Some, Result as ResultOf, Ok, List, sym, if◌then◌else◌}
 use Rattle.std.specs.List.{slice_set}
 use Rattle.hp_model.specs.declared.event.Event.TheVariants.{Slot as OnSlot}
 use Rattle.hp_model.specs.declared.event.SlotEvent.TheVariants as slot
@@ -14,8 +14,8 @@ use Rattle.hp_model.specs.files.MountCounts.{committed_of}
 use Rattle.hp_model.specs.files.Options.{limits, wanted_of}
 use Rattle.hp_model.specs.machine.Event.{IsEvent, planned, with_outcome}
 use Rattle.hp_model.specs.machine.Machine.{pool_of, with_pool}
-use Rattle.hp_model.specs.machine.Plan.{Outcome, Refused, Reply, Slot, refuse}
-use Rattle.hp_model.specs.machine.SlotEvent.{committed_with, remount_outcome, remount_section, slot_event}
+use Rattle.hp_model.specs.machine.Plan.{Outcome, Refused, Reply}
+use Rattle.hp_model.specs.machine.SlotEvent.{committed_with, remount_outcome, remount_section}
 use Rattle.hp_model.specs.machine.State.{State, slot_at}
 use Rattle.hp_model.specs.pool.Grant.{can_grant}
 use Rattle.hp_model.specs.pool.Pool.{section}
@@ -54,15 +54,7 @@ module _ (s : State) (k : ℕ) (options : List ℕ) (m : Mount) where
       subst (λ n. EndsIn s k (ends s.nr) (with_outcome u k (ends n)).0 (with_outcome u k (ends n)).1) (sym nr) (record { replied = at.replied; slots = at.slots })
 
   pub remount_ends : slot_at s k ≡ Some m → (reply : Reply) (t : State) → IsEvent s (OnSlot k (slot.Remount options)) reply t → EndsIn s k remount_left reply t
-  remount_ends there reply t is =
-      subst (λ (q : Reply × State). EndsIn s k remount_left q.0 q.1)
-      (subst (λ (x : Slot). planned s k (slot_event s.page_size k is.0 x (slot.Remount options)) ≡ (reply, t)) there is.2) (by_test (k == 0))
-    where
-      by_test : (b : Bool)
-          → EndsIn s k (if b then Refused SlotTaken else remount_outcome m remount_told wanted)
-          (planned s k (if b then refuse SlotTaken else remounting s.page_size m options)).0 (planned s k (if b then refuse SlotTaken else remounting s.page_size m options)).1
-      by_test true = settled_ends s k (Refused SlotTaken)
-      by_test false = open_ends
+  remount_ends there reply t is = grind (arith, common_steps, remounting, settled_ends, open_ends)
 
   -- it grants what the pool can commit; and giving back is never refused
   pub told_granted : (l : Limits) → wanted ≡ Ok l → remount_told.granted ≡ false → can_grant (committed_with m l.min - committed_of m) (pool_of s) ≡ false

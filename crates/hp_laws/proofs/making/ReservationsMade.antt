@@ -25,7 +25,7 @@ use Rattle.hp_model.specs.declared.step.Step.{Step}
 use Rattle.hp_model.specs.declared.step.Step.TheVariants.{Anon as AnonStep, Map as MapStep}
 use Rattle.hp_model.specs.files.File.{File, at_least, cell_in, entered, is_entered, new_file, with_file}
 use Rattle.hp_model.specs.files.MakeMap.{asked, cells_mapped, mapped, new_map, next_number, reserves}
-use Rattle.hp_model.specs.files.Mapping.{is_unconsumed, place_at}
+use Rattle.hp_model.specs.files.Mapping.{place_at}
 use Rattle.hp_model.specs.files.Page.{Copy, Page}
 use Rattle.hp_model.specs.files.Reserved.{is_reserved}
 use Rattle.hp_model.specs.files.Spot.{Spot}
@@ -69,18 +69,12 @@ module _ (task number a n : ℕ) where
       ap is_entered (get_or-edit_in entered a (a + n) (at_least (a + n) f.cells) i Hole
       (leb-true a i both.0) (ltb-true i (a + n) both.1) (omega (arith, ltb-true i (a + n) both.1, long_enough f.cells)))
       ∙ is_in_entered (cell_in (at_least (a + n) f.cells) i)
-  range_there Private Reserve f on i there =
-      let both = and_parts (nat_le a i) (nat_lt i (a + n)) there in
-      ap is_unconsumed (place_there Private Reserve i (leb-true a i both.0) (ltb-true i (a + n) both.1))
+  range_there Private Reserve f on i there = grind (arith, common_steps, and_parts, place_there, leb-true, ltb-true)
   range_there sharing NoReserve f on i there = cc
 
   pub new_range : (sharing : Sharing) (reserving : Reserving) (f : File) (s : Spot) → s.map ≡ new_map task number a n sharing reserving
       → s.file ≡ mapped task number a n sharing reserving f → IsRange s (length f.cells) a n reserving
-  new_range sharing reserving f s map file = record {
-    pages = ap (λ (g : File). length g.cells) file ∙ cells_long sharing reserving f.cells;
-    reserved = λ on i there. ap (λ (g : File). is_reserved g s.map i) file ∙ ap (λ y. is_reserved (mapped task number a n sharing reserving f) y i) map
-        ∙ range_there sharing reserving f on i there;
-  }
+  new_range sharing reserving f s map file = grind (arith, common_steps, cells_long, range_there)
 
 -- ---- the file of a new map
 
@@ -106,18 +100,10 @@ file_mapped size k c (Some m) task home name a n sharing reserving =
     always_unless P (λ r. tt) (map_tests m task a n) (grant c m home (asked sharing reserving a n f.1) done)
     (always_grant P (λ r. tt) c m home (asked sharing reserving a n f.1) done (f, is, found_again (has_name name) m.files f g is at.passes))))
 
-abbrev file_of : Option (ℕ × File) → File
-file_of None = new_file None
-file_of (Some f) = f.1
-
 map_range : (old new : Slot) (name : List ℕ) (task number a n : ℕ) (sharing : Sharing) (reserving : Reserving)
     → IsMapped old new name task number a n sharing reserving → IsNewMap old new name (new_map task number a n sharing reserving)
     → HasRange (spot_on new task number) (pages_of_file (named_on old name)) a n reserving
-map_range old new name task number a n sharing reserving file made =
-    let s = made.1.0 in
-    let same : s.file ≡ mapped task number a n sharing reserving file.0.1 = ap file_of (sym made.1.3 ∙ file.2) in
-    subst (λ (o : Option Spot). HasRange o (pages_of_file (named_on old name)) a n reserving) (sym made.1.1)
-    (subst (λ (o : Option (ℕ × File)). IsRange s (pages_of_file o) a n reserving) (sym file.1) (new_range task number a n sharing reserving file.0.1 s made.1.2 same))
+map_range old new name task number a n sharing reserving file made = grind (arith, common_steps, new_range)
 
 anon_range : (old new : Slot) (task number n : ℕ) (sharing : Sharing) (reserving : Reserving)
     → IsNewAnon old new task number n sharing reserving → HasRange (spot_on new task number) 0 0 n reserving

@@ -217,9 +217,7 @@ module _ (m : Mount) (h : File → File) (ok : Map → Bool) (each : FilesFollow
   same_named name f = ap (λ (o : Option (List ℕ)). elim o [ None ↦ false | Some n ↦ bytes_eq n name ]) (each.names f)
 
   name_stays : (name : List ℕ) (g : ℕ × File) → file_named m name ≡ Some g → file_named after name ≡ Some (g.0, h g.1)
-  name_stays name g e =
-      found_mapped (has_name name) h m.files
-      ∙ ap (option_map (keyed h)) (found_same (λ f. has_name name (h f)) (has_name name) (same_named name) m.files ∙ e)
+  name_stays name g e = grind (arith, common_steps, found_mapped, keyed, found_same, same_named)
 
   pub edit_follows : Follows m after ok
   edit_follows = record {

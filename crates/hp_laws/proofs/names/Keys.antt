@@ -9,7 +9,7 @@ use Rattle.hp_model.specs.Lists.{found, one_on}
 use Rattle.hp_model.specs.files.Mapping.{Map, is_map}
 use Rattle.hp_model.specs.machine.Promises.{Shape, shape_of}
 use Rattle.hp_model.specs.machine.SlotEvent.{file_named}
-use Rattle.hp_model.specs.files.Spot.{Spot, spot, spot_in}
+use Rattle.hp_model.specs.files.Spot.{Spot, spot}
 use Rattle.hp_laws.proofs.making.FilesMade.{in_file, spot_in_file}
 
 -- ---- keys
@@ -75,12 +75,7 @@ key_places t ks = in_key t (found (has_key t) ks)
 
 number_in : (task number : ℕ) (o : Option (ℕ × File)) → option_map places (in_file (is_map task number) o) ≡ in_key (is_key task number) (option_map (keyed file_key) o)
 number_in task number None = refl
-number_in task number (Some f) =
-    by_found (found (is_map task number) f.1.maps) ∙ sym (ap (option_map (λ (q : ℕ × Shape). (f.0, q.0, q.1))) (found_mapped (is_key task number) shape_of f.1.maps))
-  where
-    by_found : (o : Option (ℕ × Map)) → option_map places (option_map (spot_in f) o) ≡ option_map (λ (q : ℕ × Shape). (f.0, q.0, q.1)) (option_map (keyed shape_of) o)
-    by_found None = refl
-    by_found (Some q) = refl
+number_in task number (Some f) = grind (arith, common_steps, found_mapped)
 
 pub number_places : (m : Mount) (task number : ℕ) → option_map places (spot m (is_map task number)) ≡ key_places (is_key task number) (keys m)
 number_places m task number =

@@ -1,6 +1,6 @@
 -- What names and numbers mean stands where it stood, after a file or a map more and after each access.
 use Rattle.std.proofs.lemmas.Grind.{common_steps}
-use Rattle.std.proofs.Common.{◌≡◌, subst, ℕ, ◌-◌, ◌<◌, ◌==◌, true, None, Some, List, [], ◌∷◌, ◌++◌, length, map, option_map, suc, zero, get_or, arith, refl, sym, ap, ◌∙◌}
+use Rattle.std.proofs.Common.{◌≡◌, subst, ℕ, ◌<◌, ◌==◌, true, None, Some, List, [], ◌∷◌, ◌++◌, length, map, option_map, suc, zero, get_or, arith, refl, sym, ap, ◌∙◌}
 use Rattle.std.specs.List.{slice_set}
 use Rattle.std.proofs.lemmas.Bool.{and_parts, cond_both, eqb-true}
 use Rattle.hp_model.specs.declared.answer.Answer.TheVariants.{Done}
@@ -11,13 +11,12 @@ use Rattle.hp_model.specs.declared.step.Reserving.{Reserving}
 use Rattle.hp_model.specs.declared.step.Sharing.{Sharing}
 use Rattle.hp_model.specs.files.File.{File, Mount, with_file}
 use Rattle.hp_model.specs.files.MakeMap.{mapped, new_map, next_number, with_new}
-use Rattle.hp_model.specs.Lists.{edit_at}
 use Rattle.hp_model.specs.machine.Plan.{Choice, Outcome, Answered, Plan, and_then, with_value}
 use Rattle.hp_model.specs.declared.refusal.Refusal.TheVariants.{NoSuchMap}
 use Rattle.hp_model.specs.machine.Promises.{shape_of}
 use Rattle.hp_model.specs.machine.SlotEvent.{has_name, byte_access, bytes_answer, fault, fault_tests, file_named, load, store}
-use Rattle.hp_model.specs.files.Mapping.{is_map, is_shared}
-use Rattle.hp_model.specs.files.Spot.{Spot, again, cell_written, file_written, map_written, place_written, spot, written}
+use Rattle.hp_model.specs.files.Mapping.{is_map}
+use Rattle.hp_model.specs.files.Spot.{Spot, again, file_written, spot, written}
 use Rattle.hp_model.specs.files.Value.{value}
 use Rattle.hp_model.proofs.Editing.{length-edit_at}
 use Rattle.hp_laws.proofs.names.Accessed.{access_on, bytes_on, file_put, key_edit, pages_same}
@@ -82,11 +81,7 @@ module _ (m : Mount) where
 
 -- what a store writes leaves names and numbers
 pub written_key : (s : Spot) (i offset : ℕ) (bytes : List ℕ) (f : File) → file_key (file_written s i offset bytes f) ≡ file_key f
-written_key s i offset bytes f =
-    cond_both (is_shared s.map.sharing) (record f { cells = edit_at (cell_written offset bytes) f.cells i })
-    (record f { maps = edit_at (map_written i offset bytes) f.maps s.map_no }) (λ (y : File). file_key y ≡ file_key f)
-    (λ e. refl) (λ e. ap (λ ks. (f.name, ks)) (key_edit shape_of (map_written i offset bytes)
-    (λ x. pages_same x x.unmapped (map_written i offset bytes x).places (length-edit_at (place_written offset bytes) x.places (i - x.start))) f.maps s.map_no))
+written_key s i offset bytes f = grind (arith, common_steps, cond_both, file_key, key_edit, pages_same, places, length-edit_at)
 
 module _ (c : Choice) (m : Mount) where
   abbrev Stays : Mount → Type 0

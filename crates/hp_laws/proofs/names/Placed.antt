@@ -67,14 +67,7 @@ first_later y p = ap (λ b. (p.0 + 1, if b then y else p.1)) (sym (suc_not_zero 
 
 pub found_set : {X : Type 0} (t : X → Bool) (xs : List X) (j : ℕ) (y : X) → t y ≡ t (get_or xs j y) → found t (slice_set xs j y) ≡ option_map (put_at j y) (found t xs)
 found_set t [] j y same = refl
-found_set {X = X} t (x ∷ xs) zero y same = by_head (t x) (t y) same (found t xs)
-  where
-    by_head : (b c : Bool) → c ≡ b → (r : Option (ℕ × X)) → (if c then Some (0, y) else option_map one_on r) ≡ option_map (put_at 0 y) (if b then Some (0, x) else option_map one_on r)
-    by_head true true w r = refl
-    by_head true false w r = cc
-    by_head false true w r = cc
-    by_head false false w None = refl
-    by_head false false w (Some p) = ap Some (first_later y p)
+found_set {X = X} t (x ∷ xs) zero y same = grind (arith, common_steps, first_later)
 found_set {X = X} t (x ∷ xs) (suc j) y same = by_head (t x) (found t xs) (found t (slice_set xs j y)) (found_set t xs j y same)
   where
     by_head : (b : Bool) (r s : Option (ℕ × X)) → s ≡ option_map (put_at j y) r →
@@ -95,14 +88,7 @@ module _ (ks : List FileKey) (j : ℕ) (k : FileKey) (new : Shape) (there : (d :
 
   in_more : (t : Shape → Bool) (q : ℕ × FileKey) (x : Where) (b : Bool) → (b ≡ true → q.1 ≡ k) → in_key t (Some q) ≡ Some x → in_key t (Some (q.0, if b then with_new else q.1)) ≡ Some x
   in_more t q x false is e = e
-  in_more t q x true is e =
-      by_place (found t q.1.1) refl e
-    where
-      by_place : (o : Option (ℕ × Shape)) → found t q.1.1 ≡ o → option_map (λ (p : ℕ × Shape). (q.0, p.0, p.1)) o ≡ Some x
-          → option_map (λ (p : ℕ × Shape). (q.0, p.0, p.1)) (found t (k.1 ++ new ∷ [])) ≡ Some x
-      by_place None was e = cc
-      by_place (Some p) was e =
-          ap (option_map (λ (p : ℕ × Shape). (q.0, p.0, p.1))) (found_more t k.1 (new ∷ []) p (ap (λ (f : FileKey). found t f.1) (sym (is refl)) ∙ was)) ∙ e
+  in_more t q x true is e = grind (arith, common_steps, found_more)
 
   pub lead_added : KeysLead ks (slice_set ks j with_new)
   lead_added = record { names = names; numbers = λ task number x e. numbers task number x (is_key task number new) refl e }

@@ -1,9 +1,9 @@
 -- What a step that reads answers, and that a refused step leaves the machine as it was.
 use Rattle.std.proofs.Common.{arith}
 use Rattle.std.proofs.lemmas.Grind.{common_steps}
-use Rattle.std.proofs.Common.{◌≡◌, subst, ℕ, Bool, true, false, Option, Ok, Err, List, refl, sym, ap}
+use Rattle.std.proofs.Common.{◌≡◌, ℕ, Bool, true, false, Option, Ok, Err, List, refl, sym, ap}
 use Rattle.std.specs.Bool.{MatchBool}
-use Rattle.hp_model.specs.declared.answer.Answer.TheVariants.{Home, Numbers, PerNode}
+use Rattle.hp_model.specs.declared.answer.Answer.TheVariants.{Home}
 use Rattle.hp_model.specs.declared.answer.Answer.{Answer}
 use Rattle.hp_model.specs.declared.event.Event.{Event}
 use Rattle.hp_model.specs.declared.event.Event.TheVariants.{Tasks, Slot as OnSlot, Pool as OnPool}
@@ -13,12 +13,10 @@ use Rattle.hp_model.specs.declared.event.SlotEvent.TheVariants as slot
 use Rattle.hp_model.specs.declared.event.TableEvent.TheVariants as table
 use Rattle.hp_model.specs.declared.refusal.Refusal.{Refusal}
 use Rattle.hp_model.specs.declared.step.Step.{Step}
-use Rattle.hp_model.specs.declared.step.Step.TheVariants.{Attach, Exit, Fork, Meminfo, Nodes}
+use Rattle.hp_model.specs.declared.step.Step.TheVariants.{Attach, Exit, Fork}
 use Rattle.hp_model.specs.machine.Event.{IsEvent}
-use Rattle.hp_model.specs.machine.Machine.{pool_of}
 use Rattle.hp_model.specs.machine.Plan.{Choice, Outcome, Refused, Answered, Reply, Slot}
 use Rattle.hp_model.specs.machine.Promises.{IsListed, IsRead, IsStat, IsUsage, LeavesAll, LeavesOthers, SameButNodes, AnswersWhatWas, is_late, named_on}
-use Rattle.hp_model.specs.pool.Resize.{node_counts}
 use Rattle.hp_model.specs.machine.Settled.{IsSettledState}
 use Rattle.hp_model.specs.machine.SlotEvent.{slot_event}
 use Rattle.hp_model.specs.machine.State.{State, slot_at}
@@ -44,8 +42,7 @@ module _ (s : State) (st : IsSettledState s) where
   refused_leaves e r t whole left = grind (arith, common_steps)
 
   event_leaves : (e : Event) (reply : Reply) (t : State) → is_whole e ≡ true → IsEvent s e reply t → LeavesAll s (step_of e) reply t
-  event_leaves e (Ok a) t whole is = tt
-  event_leaves e (Err r) t whole is = refused_leaves e r t whole (refusals_change_nothing s e r t st is)
+  event_leaves e reply t whole is = grind (arith, common_steps, refused_leaves, refusals_change_nothing)
 
   fork_leaves : (parent child : ℕ) (reply : Reply) (t : State) → IsScripted s (Fork parent child) reply t → LeavesAll s (Fork parent child) reply t
   fork_leaves parent child (Ok a) t is = tt
@@ -99,19 +96,12 @@ module _ (s : State) (st : IsSettledState s) where
   home_told task o known reply is = grind (arith, common_steps)
 
   event_tells : (e : Event) (reply : Reply) (t : State) → is_whole e ≡ true → IsEvent s e reply t → AnswersWhatWas s (step_of e) reply
-  event_tells (OnSlot k slot.Df) reply t whole is =
-      slot_tells (IsUsage (slot_at s k)) k slot.Df reply t (λ c. usage_told s.page_size k c (slot_at s k)) (λ a h. h) is
-  event_tells (OnSlot k slot.Ls) reply t whole is =
-      slot_tells (IsListed (slot_at s k)) k slot.Ls reply t (λ c. names_told s.page_size k c (slot_at s k)) (λ a h. h) is
-  event_tells (OnSlot k (slot.Stat name)) reply t whole is =
-      slot_tells (IsStat (named_on (slot_at s k) name)) k (slot.Stat name) reply t (λ c. stat_told s.page_size k c (slot_at s k) name) (λ a h. h) is
-  event_tells (OnSlot k (slot.Read name i offset count)) reply t whole is =
-      slot_tells (IsRead s.page_size (named_on (slot_at s k) name) i offset count) k (slot.Read name i offset count) reply t
-      (λ c. read_told s.page_size k c (slot_at s k) name i offset count) (λ a h. h) is
-  event_tells (OnPool pool.Meminfo) reply t whole is =
-      subst (λ x. AnswersWhatWas s Meminfo x) (ap (λ (q : Reply × State). q.0) is.2) (ap Numbers (counts_are_sums s st).counts)
-  event_tells (OnPool pool.Nodes) reply t whole is =
-      subst (λ x. AnswersWhatWas s Nodes x) (ap (λ (q : Reply × State). q.0) is.2) (ap (λ n. PerNode n (node_counts (pool_of s))) (rows_many s 0 s.nodes))
+  event_tells (OnSlot k slot.Df) reply t whole is = grind (arith, common_steps, slot_tells, usage_told)
+  event_tells (OnSlot k slot.Ls) reply t whole is = grind (arith, common_steps, slot_tells, names_told)
+  event_tells (OnSlot k (slot.Stat name)) reply t whole is = grind (arith, common_steps, slot_tells, stat_told)
+  event_tells (OnSlot k (slot.Read name i offset count)) reply t whole is = grind (arith, common_steps, slot_tells, read_told)
+  event_tells (OnPool pool.Meminfo) reply t whole is = grind (arith, common_steps, counts_are_sums)
+  event_tells (OnPool pool.Nodes) reply t whole is = grind (arith, common_steps, rows_many)
   event_tells (OnSlot k (slot.ForkMaps parent child)) reply t whole is = cc
   event_tells (OnSlot k (slot.ExitMaps task)) reply t whole is = cc
   event_tells (OnSlot k other) reply t whole is = tt

@@ -96,9 +96,7 @@ module _ (parent child number : ℕ) where
       by_test false is rest = rw (is, is) rest
 
   any_file : (f : File) → list_any (is_map child number) (file_forked parent child f).maps ≡ list_any (is_map parent number) f.maps
-  any_file f =
-      any_append (is_map child number) (filter (is_not_of child) f.maps) (map (map_for child) (filter (is_of parent) f.maps))
-      ∙ ap (λ b. b || list_any (is_map child number) (map (map_for child) (filter (is_of parent) f.maps))) (none_old f.maps) ∙ any_child f.maps
+  any_file f = grind (arith, common_steps, any_append, is_not_of, none_old, any_child)
 
   finds_child : (ms : List Map) (q : ℕ × Map) → found (is_map parent number) ms ≡ Some q → Finds (is_map child number) (map (map_for child) (filter (is_of parent) ms)) (map_for child q.1)
   finds_child [] q e = cc

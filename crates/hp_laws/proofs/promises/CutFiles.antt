@@ -53,9 +53,7 @@ without_none p = grind (arith, common_steps)
 
 -- a range of a map's copies is gone
 map_cut : (a b : ℕ) (y : Map) (x : ℕ) → is_in a b x ≡ true → copy_of (place_at (map_punched a b y) x) ≡ None
-map_cut a b y x within =
-    ap copy_of (place_ranged without_copy refl a b y x)
-    ∙ ap (λ c. copy_of (if c then without_copy (place_at y x) else place_at y x)) within ∙ without_none (place_at y x)
+map_cut a b y x within = grind (arith, common_steps, place_ranged, without_none)
 
 module _ (f : File) where
   -- no map changes where there is none
@@ -63,12 +61,7 @@ module _ (f : File) where
   no_map_punched a b l = grind (arith, common_steps)
 
   punch_left : (a b : ℕ) → HasLeft (punched a b f) (length f.cells) (is_in a b) (λ i. cell_punched (cell_at f i))
-  punch_left a b = record {
-    pages = length-edit_range cell_punched a b f.cells;
-    cells = λ i within. (let parts = and_parts (nat_le a i) (nat_lt i b) within in
-        ranged_in cell_punched a b f.cells i Hole refl (leb-true a i parts.0) (ltb-true i b parts.1));
-    copies = λ l i within. ap (λ (y : Map). copy_of (place_at y i)) (no_map_punched a b l) ∙ map_cut a b (map_in f l) i within;
-  }
+  punch_left a b = grind (arith, common_steps, length-edit_range, and_parts, ranged_in, leb-true, ltb-true, no_map_punched, map_cut)
 
   long : (n : ℕ) → length (cells_to n f.cells) ≡ n
   long n = grind (arith, common_steps)

@@ -1,7 +1,7 @@
 -- An access that is answered leaves its page there; and an owner takes a copy back only where no page could be had.
 use Rattle.std.proofs.Common.{arith}
 use Rattle.std.proofs.lemmas.Grind.{common_steps}
-use Rattle.std.proofs.Common.{◌≡◌, ◌⊎◌, ⊎_elim, inl, inr, subst, ℕ, ◌+◌, ◌-◌, ◌<◌, ◌&&◌, ◌||◌, ◌==◌, Bool, true, false}
+use Rattle.std.proofs.Common.{◌≡◌, ◌⊎◌, ⊎_elim, inl, inr, subst, ℕ, ◌-◌, ◌<◌, ◌&&◌, ◌||◌, Bool, true, false}
 use Rattle.std.proofs.Common.{not, None, Option, Some, Ok, Err, List, length, map, is_some, refl, sym, ap, ◌∙◌, if◌then◌else◌, nat_lt}
 use Rattle.std.specs.List.{slice_index_or, slice_set}
 use Rattle.std.proofs.lemmas.Bool.{cases_eq, cond_both, leb-false, ltb-true, or_right}
@@ -19,7 +19,7 @@ use Rattle.hp_model.specs.declared.event.TableEvent.TheVariants as table
 use Rattle.hp_model.specs.declared.place.Place.{Place}
 use Rattle.hp_model.specs.declared.place.Place.TheVariants.{Gone, Live}
 use Rattle.hp_model.specs.declared.refusal.Refusal.{Refusal}
-use Rattle.hp_model.specs.declared.refusal.Refusal.TheVariants.{BeyondEnd, CrossesPage, NoSuchMap, OutOfRange, TakenByOwner, TooMany}
+use Rattle.hp_model.specs.declared.refusal.Refusal.TheVariants.{NoSuchMap, TakenByOwner}
 use Rattle.hp_model.specs.declared.section.PoolAnswer.{PoolAnswer}
 use Rattle.hp_model.specs.declared.section.Section.TheVariants.{GrantPage}
 use Rattle.hp_model.specs.declared.step.Intent.{Intent}
@@ -31,7 +31,7 @@ use Rattle.hp_model.specs.files.CopyWrite.{copy_write, is_held_once, owner_write
 use Rattle.hp_model.specs.files.File.{File, Mount, cell_at, file_in, has_page, map_in, new_file, with_cell, with_file, with_map}
 use Rattle.hp_model.specs.files.Mapping.{Map, copy_of, is_map, is_shared, no_map, place_at, with_place}
 use Rattle.hp_model.specs.files.Page.{Copy, Page, zeros}
-use Rattle.hp_model.specs.files.Spot.{Spot, again, cell_written, copied, file_written, map_written, place_written, spot, written}
+use Rattle.hp_model.specs.files.Spot.{Spot, cell_written, copied, file_written, map_written, place_written, spot, written}
 use Rattle.hp_model.specs.files.Value.{value}
 use Rattle.hp_model.specs.Lists.{edit_at}
 use Rattle.hp_model.specs.machine.Event.{IsEvent, planned}
@@ -39,14 +39,13 @@ use Rattle.hp_model.specs.machine.Lost.{IsLostTo, is_same_copy}
 use Rattle.hp_model.specs.machine.Machine.{pool_of}
 use Rattle.hp_model.specs.machine.Named.{map_named, spot_on}
 use Rattle.hp_model.specs.machine.Pages.{IsTouched, Touches, can_have_page, has_its_page}
-use Rattle.hp_model.specs.machine.Plan.{Answered, Ask, Choice, Finish, Outcome, Plan, Refused, Reply, Slot, grant_page, refuse, reserved_page, with_value}
+use Rattle.hp_model.specs.machine.Plan.{Answered, Ask, Choice, Finish, Outcome, Plan, Refused, Reply, Slot, grant_page, reserved_page, with_value}
 use Rattle.hp_model.specs.machine.Promises.{LosesTo}
-use Rattle.hp_model.specs.machine.SlotEvent.{byte_access, bytes_answer, fault, is_beyond, is_unmapped, load, slot_event, store}
+use Rattle.hp_model.specs.machine.SlotEvent.{byte_access, fault, load, slot_event, store}
 use Rattle.hp_model.specs.machine.State.{State, slot_at}
 use Rattle.hp_model.specs.machine.Step.{IsStep}
 use Rattle.hp_model.specs.pool.Grant.{can_grant, is_full, rise}
 use Rattle.hp_model.specs.pool.Pool.{section}
-use Rattle.hp_model.specs.Profile.{most_bytes}
 use Rattle.hp_laws.specs.Balance.{left_by}
 use Rattle.hp_laws.proofs.accesses.Shown.{On, copy_own, on_follows, on_grant_page, on_reserved_page, place_other, place_put, robbed_mount}
 use Rattle.hp_laws.proofs.counts.MountMoves.{IsSpot, spot_is}
@@ -240,22 +239,13 @@ module _ (u : State) (size : ℕ) (m : Mount) (s : Spot) (at : IsSpot m s) (i : 
         (λ apart. private_left apart (place_at s.map i) intent refl)
 
     fault_left : (intent : Intent) → At u (On (Left intent)) (fault c size m home i intent s)
-    fault_left intent =
-        at_test u (On (Left intent)) (is_unmapped s i) OutOfRange _ tt
-        (at_if u (On (Left intent)) (is_beyond s i) (refuse BeyondEnd) (access c size m s home i intent) (λ e. tt) (λ e. access_left intent (leb-false (length s.file.cells) i e)))
+    fault_left intent = grind (arith, common_steps, at_test, On, at_if, access_left, leb-false)
 
     bytes_left : (offset count : ℕ) (intent : Intent) → At u (On (Left intent)) (byte_access c size m home i offset count intent s)
-    bytes_left offset count intent =
-        at_test u (On (Left intent)) (is_unmapped s i || (count == 0)) OutOfRange _ tt
-        (at_test u (On (Left intent)) (nat_lt size (offset + count)) CrossesPage _ tt
-        (at_test u (On (Left intent)) (nat_lt most_bytes count) TooMany _ tt
-        (at_if u (On (Left intent)) (is_beyond s i) (refuse BeyondEnd) (access c size m s home i intent) (λ e. tt) (λ e. access_left intent (leb-false (length s.file.cells) i e)))))
+    bytes_left offset count intent = grind (arith, common_steps, at_test, On, at_if, access_left, leb-false)
 
     load_left : (offset count : ℕ) → At u (On (Left Read)) (load c size m home i offset count s)
-    load_left offset count =
-        at_then u (On (Left Read)) (λ n. Answered (bytes_answer offset count (value size (again n s).file (again n s).map i)) (Some n))
-        (on_follows (Left Read) (Left Read) (λ n. Answered (bytes_answer offset count (value size (again n s).file (again n s).map i)) (Some n)) (λ n h. h))
-        (byte_access c size m home i offset count Read s) (bytes_left offset count Read)
+    load_left offset count = grind (arith, common_steps, at_then, On, on_follows, bytes_left)
 
     store_left : (offset : ℕ) (bytes : List ℕ) → At u (On (Left Write)) (store c size m home i offset bytes s)
     store_left offset bytes =
@@ -428,20 +418,9 @@ module _ (s : State) where
       is_taken : (o : Outcome) → Ended s s.page_size task number i intent (slot_at s k) o → t.slots ≡ slice_set s.slots k (left_by (slot_at s k) o)
           → (v w j : ℕ) (p q : Spot) → map_named s k v w ≡ Some p → map_named t k v w ≡ Some q → IsLostTo (map_named s k task number) (map_named t k task number) i p q j
           → can_have_page (pool_of s) (slot_at s k) ≡ false
-      is_taken (Refused r) it slots v w j p q was now lost =
-          let same : slot_at t k ≡ slot_at s k = left_there (slot_at s k) slots in
-          let there : Some q ≡ Some p = sym now ∙ ap (λ y. spot_on y v w) same ∙ was in
-          absurd (nothing_lost (map_named s k task number) (map_named t k task number) i p q j there lost)
+      is_taken (Refused r) it slots v w j p q was now lost = grind (arith, common_steps, left_there, nothing_lost)
       is_taken (Answered b None) it slots v w j p q was now lost = absurd it
-      is_taken (Answered b (Some n)) it slots v w j p q was now lost =
-          by_slot (slot_at s k) it was lost (sym (ap (λ y. spot_on y v w) (left_there (Some n) slots)) ∙ now)
-        where
-          by_slot : (x : Slot) → Ended s s.page_size task number i intent x (Answered b (Some n)) → spot_on x v w ≡ Some p
-              → IsLostTo (spot_on x task number) (map_named t k task number) i p q j → spot n (is_map v w) ≡ Some q → can_have_page (pool_of s) x ≡ false
-          by_slot None it was lost now = absurd it
-          by_slot (Some m) it was lost now =
-              taken s s.page_size task number i intent m n it v w j p q was now
-              (subst (λ y. IsLostTo (spot m (is_map task number)) (spot_on y task number) i p q j) (left_there (Some n) slots) lost)
+      is_taken (Answered b (Some n)) it slots v w j p q was now lost = grind (arith, common_steps, left_there, taken)
 
   reach : (x : Step) (reply : Reply) (t : State) → Touches x reply t → Takes s x t → Reaches s x reply t
   reach x reply t a b = record { touched = a; taken = b }

@@ -15,10 +15,10 @@ use Rattle.hp_model.specs.declared.event.SlotEvent.TheVariants as slot
 use Rattle.hp_model.specs.declared.event.TableEvent.TheVariants as table
 use Rattle.hp_model.specs.declared.limits.Limits.{Limits}
 use Rattle.hp_model.specs.declared.place.Place.{Place}
-use Rattle.hp_model.specs.declared.place.Place.TheVariants.{Gone, Live}
+use Rattle.hp_model.specs.declared.place.Place.TheVariants.{Live}
 use Rattle.hp_model.specs.declared.refusal.Refusal.{Refusal}
-use Rattle.hp_model.specs.declared.refusal.Refusal.TheVariants.{SlotTaken, MountFull, NoPages, NoSuchFile, NoSuchMap, NoSuchSlot}
-use Rattle.hp_model.specs.declared.refusal.Refusal.TheVariants.{OutOfMemory, OutOfRange, TakenByOwner}
+use Rattle.hp_model.specs.declared.refusal.Refusal.TheVariants.{SlotTaken, MountFull, NoPages, NoSuchFile, NoSuchMap}
+use Rattle.hp_model.specs.declared.refusal.Refusal.TheVariants.{OutOfMemory, OutOfRange}
 use Rattle.hp_model.specs.declared.section.PoolAnswer.{PoolAnswer}
 use Rattle.hp_model.specs.declared.section.Section.TheVariants.{GrantPage, FillPages}
 use Rattle.hp_model.specs.declared.step.Intent.{Intent}
@@ -28,7 +28,7 @@ use Rattle.hp_model.specs.declared.step.Sharing.{Sharing}
 use Rattle.hp_model.specs.declared.step.Step.{Step}
 use Rattle.hp_model.specs.declared.step.Step.TheVariants as step
 use Rattle.hp_model.specs.files.Access.{access, new_copy, private_access, shared_access, uncopied_access}
-use Rattle.hp_model.specs.files.CopyWrite.{copy_write, is_held_once}
+use Rattle.hp_model.specs.files.CopyWrite.{copy_write}
 use Rattle.hp_model.specs.files.File.{File, Mount, cell_at, has_page, new_file, with_file}
 use Rattle.hp_model.specs.files.MakeMap.{asked}
 use Rattle.hp_model.specs.files.Mapping.{copy_of, is_map, is_shared, place_at}
@@ -146,10 +146,7 @@ module _ (s : State) where
       new_lacks t consumed is none = grind (arith, common_steps)
 
       uncopied_lacks : (t : Intent) (consumed : Bool) → place_at p.map i ≡ Live consumed None → At (Wants t) (uncopied_access c size m p home i consumed t)
-      uncopied_lacks Write consumed is = new_lacks Write consumed is (ap (λ q. has_once (copy_of q)) is)
-        where
-          has_once : Option Copy → Bool
-          has_once o = elim o [ None ↦ false | Some copy ↦ is_held_once p.file copy.stamp ]
+      uncopied_lacks Write consumed is = grind (arith, common_steps, new_lacks)
       uncopied_lacks Read consumed is =
           at_if (Wants Read) (has_page (cell_at p.file i)) (Finish (Answered Done (Some m))) (new_copy c size m p home i consumed) (λ e. tt)
           (λ e. new_lacks Read consumed is (ap (λ q. is_some (copy_of q) || has_page (cell_at p.file i)) is ∙ e))
@@ -158,10 +155,7 @@ module _ (s : State) where
       write_lacks consumed copy is = grind (arith, common_steps)
 
       private_lacks : (t : Intent) (q : Place Copy) → place_at p.map i ≡ q → At (Wants t) (private_access c size m p home i q t)
-      private_lacks t Gone is = tt
-      private_lacks Read (Live consumed (Some copy)) is = tt
-      private_lacks Write (Live consumed (Some copy)) is = write_lacks consumed copy is
-      private_lacks t (Live consumed None) is = at_test (Wants t) p.map.unmapped TakenByOwner (uncopied_access c size m p home i consumed t) tt (uncopied_lacks t consumed is)
+      private_lacks t q is = grind (arith, common_steps, write_lacks, at_test, uncopied_lacks)
 
     access_lacks : (t : Intent) → At (Wants t) (access c size m p home i t)
     access_lacks t = at_if (Wants t) (is_shared p.map.sharing) _ _ (λ e. shared_lacks t (cell_at p.file i) e refl) (λ e. private_lacks e t (place_at p.map i) refl)
@@ -286,13 +280,7 @@ module _ (s : State) where
     mount_leads : (options : List ℕ) (x : Result Limits Refusal) → limits s.nr size (wanted_of options) ≡ x → (a : PoolAnswer) → a.granted ≡ can_grant (mount_pages c x) (pool_of s)
         → MountShort options (mount_outcome c a x)
     mount_leads options (Err r) is a told = subst (λ y. IsMountShort (pool_of s) y r) (sym is) (limits_plain s.nr size (wanted_of options) r is)
-    mount_leads options (Ok l) is a told = by_refused c.refused refl
-      where
-
-        by_refused : (refused : Bool) → c.refused ≡ refused
-            → MountShort options (if refused then Refused OutOfMemory else if not a.granted then Refused NoPages else if c.after_grant then Refused OutOfMemory
-            else Answered Done (Some (record { limits = l; files = [] })))
-        by_refused refused e = grind (arith, common_steps)
+    mount_leads options (Ok l) is a told = grind (arith, common_steps)
 
     taken_short : (p : Pool) (x : Result Limits Refusal) → IsMountShort p x SlotTaken
     taken_short p x = grind (arith, common_steps)
@@ -409,8 +397,7 @@ module _ (s : State) where
     store_meets task home number i offset bytes o h = grind (arith, common_steps)
 
     meets : (e : SlotEvent) → is_remount e ≡ false → is_whole (OnSlot k e) ≡ true → At (Meets k e) (slot_event s.page_size k c (slot_at s k) e)
-    meets (slot.Mount options) other whole =
-        turn (slot.Mount options) (MountShort c s.page_size k options) (mount_meets options) (of_mount c s.page_size k (slot_at s k) options)
+    meets (slot.Mount options) other whole = grind (arith, common_steps, turn, mount_meets, of_mount)
     meets (slot.Map task home name a n sharing reserving) other whole =
         turn (slot.Map task home name a n sharing reserving) (ShortOn (slot_at s k) (step.Map task k name a n sharing reserving))
         (map_meets task home name a n sharing reserving) (of_map c s.page_size k (slot_at s k) task home name a n sharing reserving)
@@ -480,9 +467,7 @@ module _ (reply : Reply) (t : State) where
     table_reply e r mid is = subst Plain (ap (λ (q : Reply × State). q.0) is.2) (table_plain s (length s.nodes) s.table e)
 
     fork_plain : (parent child : ℕ) → IsScripted s (step.Fork parent child) reply t → Plain reply
-    fork_plain parent child is =
-        when_plain is.0 is.1 (fork_slots (range_with_len 0 (length s.slots)) [] parent child) (table_reply (table.FindAndAdd parent child) is.0 is.1 is.2)
-        (λ u it. forks_plain parent child (range_with_len 0 (length s.slots)) [] u it) is.3
+    fork_plain parent child is = grind (arith, common_steps, when_plain, table_reply, forks_plain)
 
     exit_plain : (task : ℕ) → IsScripted s (step.Exit task) reply t → Plain reply
     exit_plain task is =
@@ -540,10 +525,7 @@ module _ (s : State) where
   event_remount : (k : ℕ) (options : List ℕ) (old : Slot) → slot_at s k ≡ old → (reply : Reply) (t : State) → IsEvent s (OnSlot k (slot.Remount options)) reply t
       → MeetsShortage s (step.Remount k options) reply
   event_remount k options (Some m) there reply t is = remount_short k options m reply t there is
-  event_remount k options None there reply t is =
-      let e = subst (λ (x : Slot). planned s k (slot_event s.page_size k is.0 x (slot.Remount options)) ≡ (reply, t)) there is.2 in
-      subst (λ r. MeetsShortage s (step.Remount k options) r) (ap (λ (q : Reply × State). q.0) e)
-      (plain_remount (slot_at s k) (limits s.nr s.page_size (wanted_of options)) NoSuchSlot refl)
+  event_remount k options None there reply t is = grind (arith, common_steps, plain_remount)
 
   event_other : (k : ℕ) (e : SlotEvent) (reply : Reply) (t : State) → is_remount s e ≡ false → is_whole (OnSlot k e) ≡ true → IsEvent s (OnSlot k e) reply t
       → MeetsShortage s (slot_step k e) reply
@@ -569,8 +551,7 @@ module _ (s : State) where
   event_short (Tasks (table.FindAndAdd parent child)) reply t whole is = cc
   event_short (Tasks (table.Remove task)) reply t whole is = cc
   event_short (OnPool (pool.Nr n)) reply t whole is = by_plain (step.Nr n) refl reply (subst Plain (ap (λ (q : Reply × State). q.0) is.2) (pool_plain (pool_of s) (pool.Nr n)))
-  event_short (OnPool (pool.Overcommit n)) reply t whole is =
-      by_plain (step.Overcommit n) refl reply (subst Plain (ap (λ (q : Reply × State). q.0) is.2) (pool_plain (pool_of s) (pool.Overcommit n)))
+  event_short (OnPool (pool.Overcommit n)) reply t whole is = grind (arith, common_steps, by_plain, pool_plain)
   event_short (OnPool pool.Meminfo) reply t whole is = by_plain step.Meminfo refl reply (subst Plain (ap (λ (q : Reply × State). q.0) is.2) (pool_plain (pool_of s) pool.Meminfo))
   event_short (OnPool pool.Nodes) reply t whole is = by_plain step.Nodes refl reply (subst Plain (ap (λ (q : Reply × State). q.0) is.2) (pool_plain (pool_of s) pool.Nodes))
 

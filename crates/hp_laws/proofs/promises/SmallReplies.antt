@@ -1,7 +1,7 @@
 -- What each step of a settled machine answers is within the limits of a reply's text.
 use Rattle.std.proofs.lemmas.Grind.{common_steps}
 use Rattle.std.proofs.Common.{◌≡◌, subst, ℕ, suc, ◌+◌, ◌^◌, ◌<◌, ◌≤◌, ◌∙◌, Bool, true, false, not, None, Some}
-use Rattle.std.proofs.Common.{Ok, Err, List, [], ◌∷◌, ◌++◌, length, refl, sym, ap, arith, cond, nat_lt, nat_le}
+use Rattle.std.proofs.Common.{Ok, List, [], ◌∷◌, ◌++◌, length, refl, sym, ap, arith, cond}
 use Rattle.std.specs.List.{filter, position_or_len, range_with_len}
 use Rattle.std.proofs.lemmas.Bool.{cond_both, leb-false, ltb-false, or_parts}
 use Rattle.std.proofs.lemmas.List.{length-map}
@@ -16,7 +16,7 @@ use Rattle.hp_model.specs.declared.event.PoolEvent.TheVariants as pool
 use Rattle.hp_model.specs.declared.event.SlotEvent.{SlotEvent}
 use Rattle.hp_model.specs.declared.event.SlotEvent.TheVariants as slot
 use Rattle.hp_model.specs.declared.event.TableEvent.TheVariants as table
-use Rattle.hp_model.specs.declared.refusal.Refusal.TheVariants.{MountFull, OutOfMemory, OutOfRange}
+use Rattle.hp_model.specs.declared.refusal.Refusal.TheVariants.{MountFull, OutOfMemory}
 use Rattle.hp_model.specs.declared.step.Step.{Step}
 use Rattle.hp_model.specs.declared.step.Step.TheVariants.{Exit, Fork}
 use Rattle.hp_model.specs.machine.Event.{IsEvent, has_maps_of}
@@ -25,19 +25,16 @@ use Rattle.hp_model.specs.files.GiveBack.{punched, truncated, unlinked, unmapped
 use Rattle.hp_model.specs.files.File.{Mount, maps_of, new_file, with_file}
 use Rattle.hp_model.specs.files.Fill.{lacking, range_filled, rising_nodes}
 use Rattle.hp_model.specs.pool.Grant.{is_full, rise}
-use Rattle.hp_model.specs.Lists.{is_among}
 use Rattle.hp_model.specs.machine.Machine.{pool_of, rows_of}
-use Rattle.hp_model.specs.files.MakeMap.{asked, mapped, next_number, numbers_of, with_new}
-use Rattle.hp_model.specs.files.Mapping.{is_of, is_map}
-use Rattle.hp_model.specs.pool.PoolCounts.{Pool}
+use Rattle.hp_model.specs.files.MakeMap.{asked, mapped, next_number, with_new}
+use Rattle.hp_model.specs.files.Mapping.{is_map}
 use Rattle.hp_model.specs.machine.Plan.{Reply, Slot, Outcome, Refused, Answered, Plan, Choice, gives}
-use Rattle.hp_model.specs.Profile.{most_overcommit, most_bytes, most_map_pages, most_maps}
+use Rattle.hp_model.specs.Profile.{most_bytes}
 use Rattle.hp_model.specs.machine.Promises.{is_usage}
 use Rattle.hp_model.specs.pool.Resize.{pool_event}
 use Rattle.hp_model.specs.machine.Settled.{IsSettledState}
 use Rattle.hp_model.specs.machine.SlotEvent.{edited}
-use Rattle.hp_model.specs.machine.SlotEvent.{are_too_many_maps}
-use Rattle.hp_model.specs.machine.SlotEvent.{is_new_task_over, load, slot_event, store, unentered}
+use Rattle.hp_model.specs.machine.SlotEvent.{load, slot_event, store, unentered}
 use Rattle.hp_model.specs.files.Spot.{Spot}
 use Rattle.hp_model.specs.machine.State.{Node, State, slot_at}
 use Rattle.hp_model.specs.machine.Step.{Answer_with, Do, IsScript, IsStep, Script, Where_mapped, exit_slots, fork_slots, or_undone, script, when_done}
@@ -69,13 +66,7 @@ filter_le p (x ∷ xs) = filter_head (p x) x (filter p xs) (length xs) (filter_l
 
 -- a map's number is at most two above the number of maps
 number_le : (task : ℕ) (m : Mount) → next_number task m ≤ length (maps_of m) + 2
-number_le task m =
-    let ns : List ℕ = numbers_of task (maps_of m) in
-    let at = count_le (λ n. not (is_among n ns)) (range_with_len 1 (length ns + 1)) in
-    let long = length-range_with_len 1 (length ns + 1) in
-    let few = filter_le (is_of task) (maps_of m) in
-    let same = length-map (filter (is_of task) (maps_of m)) (λ x. x.number) in
-    omega (arith, at, long, few, same)
+number_le task m = grind (arith, common_steps, count_le, length-range_with_len, filter_le, length-map)
 
 pub rows_many : (s : State) (a : ℕ) (xs : List Node) → length (rows_of s a xs) ≡ length xs
 rows_many s a [] = refl
@@ -87,8 +78,7 @@ module _ (s : State) (st : IsSettledState s) where
 
   pool_small : (e : PoolEvent) → IsWithinLimits (pool_event (pool_of s) e).0
   pool_small (pool.Nr n) = omega (arith, most_frames_in (pool_of s) st.pool few_rows)
-  pool_small (pool.Overcommit n) = cond_both (nat_le n most_overcommit) (Ok Done, record (pool_of s) { overcommit = n })
-      (Err OutOfRange, pool_of s) (λ (q : Reply × Pool). IsWithinLimits q.0) (λ e. tt) (λ e. tt)
+  pool_small (pool.Overcommit n) = grind (arith, common_steps, cond_both)
   pool_small pool.Meminfo = meminfo_small (pool_of s) st.pool few_rows
   pool_small pool.Nodes = nodes_small (pool_of s) st.pool few_rows
 
@@ -111,11 +101,7 @@ mount_plain : (size k : ℕ) (c : Choice) (options : List ℕ) → Always Plain 
 mount_plain size k c options = always_mount Plain (λ r. tt) (λ l. tt) c size options
 
 few_maps : (m : Mount) (task n : ℕ) → AreFewMaps m task n → next_number task m < 2 ^ 64
-few_maps m task n e =
-    let parts = or_parts (nat_lt most_map_pages n) (are_too_many_maps m task) e in
-    let more = or_parts (nat_le most_maps (length (maps_of m))) (is_new_task_over m task) parts.1 in
-    let few = leb-false most_maps (length (maps_of m)) more.0 in
-    let number = number_le task m in omega (arith, few, number)
+few_maps m task n e = grind (arith, common_steps, or_parts, leb-false, number_le)
 
 abbrev PlainUnlessTold : SlotEvent → Plan → Type 0
 PlainUnlessTold e p = tells_all e ≡ false → Always Plain p
@@ -209,8 +195,7 @@ exits_small [] task next all = all
 exits_small (k ∷ ks) task next all = ((λ r. exits_small ks task next all), exits_small ks task next all)
 
 or_undone_small : (done : List ℕ) (child : ℕ) (r : Reply) (next : Script) → Replies next → Replies (or_undone done child r next)
-or_undone_small done child (Err r) next all = exits_small done child _ (λ reply. tt)
-or_undone_small done child (Ok a) next all = all
+or_undone_small done child r next all = grind (arith, common_steps, exits_small)
 
 forks_small : (ks done : List ℕ) (parent child : ℕ) → Replies (fork_slots ks done parent child)
 forks_small [] done parent child = tt
@@ -237,8 +222,4 @@ module _ (s : State) (st : IsSettledState s) where
       (exits_small (range_with_len 0 (length s.slots)) task (Answer_with (Ok Done)) tt)) s reply t it) reply t step is
 
 pub within_limits : (s : State) (step : Step) (reply : Reply) (t : State) → IsSettledState s → IsStep s step reply t → (is_usage step ≡ true → IsWithinLimits reply) → IsWithinLimits reply
-within_limits s step reply t st is usage = by_kind (is_usage step) refl
-  where
-    by_kind : (b : Bool) → is_usage step ≡ b → IsWithinLimits reply
-    by_kind true told = usage told
-    by_kind false apart = step_small s st reply t step is apart
+within_limits s step reply t st is usage = grind (arith, common_steps, step_small)

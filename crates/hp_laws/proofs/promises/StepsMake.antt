@@ -2,7 +2,7 @@
 use Rattle.std.proofs.Common.{arith}
 use Rattle.std.proofs.lemmas.Grind.{common_steps}
 use Rattle.std.proofs.Common.{◌≡◌, ⊎_elim, subst, ℕ, ◌<◌, ◌==◌, Bool, true, false, None, Ok, Err, List, length, refl, sym, ap, ◌∙◌}
-use Rattle.std.specs.List.{slice_index_or, slice_set}
+use Rattle.std.specs.List.{slice_set}
 use Rattle.std.proofs.lemmas.Bool.{eqb-true, false_from_ne_true, ltb-true}
 use Rattle.hp_model.specs.declared.answer.Answer.{Answer}
 use Rattle.hp_model.specs.declared.event.Event.{Event}
@@ -17,7 +17,6 @@ use Rattle.hp_model.specs.machine.Named.{map_named}
 use Rattle.hp_model.specs.machine.Plan.{Answered, Outcome, Refused, Reply, Slot}
 use Rattle.hp_model.specs.machine.Promises.{IsForkLeft}
 use Rattle.hp_model.specs.machine.Settled.{IsSettledState}
-use Rattle.hp_model.specs.machine.SlotEvent.{has_name}
 use Rattle.hp_model.specs.machine.State.{State, slot_at}
 use Rattle.hp_model.specs.machine.Step.{IsScript, IsScripted, IsStep, Script, script}
 use Rattle.hp_laws.specs.Balance.{left_by}
@@ -46,17 +45,7 @@ pub record Makes (s : State) (step : Step) (reply : Reply) (t : State) : Type 0 
   pub only : MakesOnly s step reply t
 
 makes : (s : State) (step : Step) (reply : Reply) (t : State) → AllNoMore (is_made_name step reply) (is_made_number step reply) s t → Makes s step reply t
-makes s step reply t all = record {
-  held = λ o. (all o).held;
-  only = record {
-    names = λ o name off none. name_none name (slot_at t o)
-        (false_from_ne_true (any_file (has_name name) (slot_at t o))
-        (λ on. (let was = (all o).names name off on in let not = name_absent name (slot_at s o) none in cc)));
-    numbers = λ o task number off none. number_none task number (slot_at t o)
-        (false_from_ne_true (any_file (has_map task number) (slot_at t o))
-        (λ on. (let was = (all o).numbers task number off on in let not = number_absent task number (slot_at s o) none in cc)));
-  };
-}
+makes s step reply t all = grind (arith, common_steps, name_none, false_from_ne_true, any_file, name_absent, number_none, has_map, number_absent)
 
 same_makes : (s : State) (step : Step) (reply : Reply) (t : State) → t.slots ≡ s.slots → Makes s step reply t
 same_makes s step reply t same = grind (arith, common_steps)
@@ -74,11 +63,7 @@ module _ (s : State) where
       subst (λ r. Makes s (slot_step k e) r t) (sym ends.replied) (by_outcome ends.outcome ends.holds ends.slots)
     where
       by_outcome : (o : Outcome) → MakesNo e (slot_at s k) o → t.slots ≡ slice_set s.slots k (left_by (slot_at s k) o) → Makes s (slot_step k e) (reply_of o) t
-      by_outcome (Refused r) h slots =
-          makes s (slot_step k e) (Err r) t
-          (each_slot s t k (slot_at s k) (ltb-true k (length s.slots) is.1.0) slots (λ o x. NoMore (is_made_name (slot_step k e) (Err r) o) (is_made_number (slot_step k e) (Err r) o) (slot_at s o) x)
-          (no_more (is_made_name (slot_step k e) (Err r) k) (is_made_number (slot_step k e) (Err r) k) (slot_at s k))
-          (λ o. no_more (is_made_name (slot_step k e) (Err r) o) (is_made_number (slot_step k e) (Err r) o) (slot_at s o)))
+      by_outcome (Refused r) h slots = grind (arith, common_steps, makes, slot_step, each_slot, ltb-true, NoMore, no_more)
       by_outcome (Answered a new) h slots =
           makes s (slot_step k e) (Ok a) t
           (each_slot s t k new (ltb-true k (length s.slots) is.1.0) slots (λ o x. NoMore (is_made_name (slot_step k e) (Ok a) o) (is_made_number (slot_step k e) (Ok a) o) (slot_at s o) x)
@@ -111,9 +96,7 @@ of_event gone s k e reply t numbers names is =
         (more_made (made_by e) (λ name. false) (new_by e a) (λ task number. gone == task) (slot_at s k) new (λ name off. names name) (numbers a) h) as_was
 
 task_event : (gone : ℕ) (s : State) (e : Event) (reply : Reply) (t : State) → IsOf gone e → IsEvent s e reply t → OfTask gone s t
-task_event gone s (Tasks e) reply t of is = λ o.
-    subst (λ (xs : List Slot). NoMore (λ name. false) (λ task number. gone == task) (slot_at s o) (slice_index_or xs o None)) (ap (λ (q : Reply × State). q.1.slots) is.2)
-    (no_more (λ name. false) (λ task number. gone == task) (slot_at s o))
+task_event gone s (Tasks e) reply t of is = grind (arith, common_steps, NoMore, no_more)
 task_event gone s (OnSlot k (slot.ExitMaps task)) reply t of is = of_event gone s k (slot.ExitMaps task) reply t (λ a t u off. refl) (λ name. refl) is
 task_event gone s (OnSlot k (slot.ForkMaps parent child)) reply t of is =
     of_event gone s k (slot.ForkMaps parent child) reply t (λ a t u off. ap (λ c. c == t) of ∙ off) (λ name. refl) is

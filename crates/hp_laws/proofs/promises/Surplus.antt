@@ -9,7 +9,6 @@ use Rattle.hp_model.specs.declared.event.SlotEvent.{SlotEvent}
 use Rattle.hp_model.specs.declared.event.TableEvent.{TableEvent}
 use Rattle.hp_model.specs.declared.section.PoolAnswer.{PoolAnswer}
 use Rattle.hp_model.specs.declared.section.Section.{Section}
-use Rattle.hp_model.specs.declared.section.Section.TheVariants.{Grant, GrantAndReturn, GrantPage, GiveBack, ReadAndGiveBack, ReadAndGrant, TakePage, FillPages}
 use Rattle.hp_model.specs.declared.step.Step.{Step}
 use Rattle.hp_model.specs.declared.step.Step.TheVariants.{Exit, Fork}
 use Rattle.hp_model.specs.machine.Event.{IsEvent}
@@ -40,14 +39,7 @@ granted_within : (p : Pool) (d : ℕ) → can_grant d p ≡ true → p.committed
 granted_within p d e = grind (arith, common_steps)
 
 section_within : (p : Pool) (x : Section) → Within p (section p x)
-section_within p (Grant home d) = cond_both (can_grant d p) _ _ (Within p) (λ e. granted_within p d e) (λ e. omega arith)
-section_within p (GrantPage home d) = cond_both (can_grant d p) _ _ (Within p) (λ e. granted_within p d e) (λ e. omega arith)
-section_within p (TakePage home) = omega arith
-section_within p (FillPages d n) = cond_both (can_grant d p) _ _ (Within p) (λ e. granted_within p d e) (λ e. omega arith)
-section_within p (GiveBack puts k) = (let same = ap (λ (q : Pool). q.committed) (puts_are puts p) in omega (arith, same))
-section_within p (ReadAndGrant d) = cond_both (can_grant d p) _ _ (Within p) (λ e. granted_within p d e) (λ e. omega arith)
-section_within p (ReadAndGiveBack k) = omega arith
-section_within p (GrantAndReturn d) = cond_both (can_grant d p) _ _ (Within p) (λ e. omega arith) (λ e. omega arith)
+section_within p x = grind (arith, common_steps, cond_both, granted_within, puts_are)
 
 -- ---- events
 
@@ -62,9 +54,7 @@ by_pool s t q same nr overcommit le = grind (arith, common_steps)
 
 plan_commits : (s t : State) (p : Plan) → pool_of t ≡ pool_after s p → Commits s t
 plan_commits s t (Finish o) same = by_pool s t (pool_of s) same refl refl (omega arith)
-plan_commits s t (Ask sec f) same =
-    let numbers = section_numbers (pool_of s) (sec s.nr) in
-    by_pool s t (section (pool_of s) (sec s.nr)).1 same numbers.0 numbers.1 (section_within (pool_of s) (sec s.nr))
+plan_commits s t (Ask sec f) same = grind (arith, common_steps, section_numbers, by_pool, section_within)
 
 event_tied : (s : State) → IsSettledState s → (e : Event) (reply : Reply) (t : State) (is : IsEvent s e reply t) → pool_of t ≡ pool_left is.0 s e
 event_tied s st e reply t is = ap (λ (x : Reply × State). pool_of x.1) (sym is.2) ∙ (pool_is_tied is.0 s e is.1 st).0
@@ -94,8 +84,7 @@ pool_committed p e = grind (arith, common_steps)
 event_bounded : (s : State) → IsSettledState s → (e : Event) (reply : Reply) (t : State) → IsEvent s e reply t → IsBounded s t
 event_bounded s st (OnSlot k e) reply t is = bounded s t (slot_commits s st k e reply t is)
 event_bounded s st (Tasks e) reply t is = bounded s t (table_commits s st e reply t is)
-event_bounded s st (OnPool e) reply t is =
-    same_bounded s t (ap (λ (p : Pool). p.committed) (event_tied s st (OnPool e) reply t is) ∙ pool_committed (pool_of s) e)
+event_bounded s st (OnPool e) reply t is = grind (arith, common_steps, same_bounded, event_tied, pool_committed)
 
 -- of scripts that end maps of a task
 abbrev Goes : (s t : State) → Type 0

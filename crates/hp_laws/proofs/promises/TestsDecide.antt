@@ -3,7 +3,7 @@ use Rattle.std.proofs.Common.{arith}
 use Rattle.std.proofs.lemmas.Grind.{common_steps}
 use Rattle.std.specs.List.{range_with_len}
 use Rattle.std.proofs.Common.{◌≡◌, ◌⊎◌, inl, subst, ℕ, ◌+◌, ◌&&◌, ◌||◌, ◌==◌, Bool, true, false, not, None, Option, Some, is_some, Result as ResultOf, Ok, Err, List, [], ◌∷◌}
-use Rattle.std.proofs.Common.{◌++◌, length, refl, sym, ap, ◌∙◌, if◌then◌else◌, nat_le, nat_lt}
+use Rattle.std.proofs.Common.{◌++◌, length, refl, sym, ap, ◌∙◌, if◌then◌else◌, nat_lt}
 use Rattle.std.proofs.lemmas.Bool.{ltb-false}
 use Rattle.std.proofs.lemmas.List.{get_or_past}
 use Rattle.hp_model.specs.declared.answer.Answer.TheVariants.{Done}
@@ -14,8 +14,8 @@ use Rattle.hp_model.specs.declared.event.SlotEvent.TheVariants as slot
 use Rattle.hp_model.specs.declared.event.TableEvent.TheVariants as table
 use Rattle.hp_model.specs.declared.limits.Limits.{Limits}
 use Rattle.hp_model.specs.declared.refusal.Refusal.{Refusal}
-use Rattle.hp_model.specs.declared.refusal.Refusal.TheVariants.{BadName, BeyondEnd, CrossesPage, FileExists, MountFull, NoPages, NoSuchFile, NoSuchMap, NoSuchNode, NoSuchSlot, NoSuchTask}
-use Rattle.hp_model.specs.declared.refusal.Refusal.TheVariants.{NoInodes, OutOfMemory, OutOfRange, SlotTaken, TakenByOwner, TaskExists, TooMany}
+use Rattle.hp_model.specs.declared.refusal.Refusal.TheVariants.{BeyondEnd, CrossesPage, NoPages, NoSuchFile, NoSuchMap, NoSuchSlot, NoSuchTask}
+use Rattle.hp_model.specs.declared.refusal.Refusal.TheVariants.{OutOfRange, SlotTaken, TakenByOwner, TooMany}
 use Rattle.hp_model.specs.declared.step.Intent.{Intent}
 use Rattle.hp_model.specs.declared.step.Intent.TheVariants.{Read}
 use Rattle.hp_model.specs.declared.step.Sharing.{Sharing}
@@ -27,28 +27,26 @@ use Rattle.hp_model.specs.files.Mapping.{copy_of, is_map, is_shared, place_at}
 use Rattle.hp_model.specs.files.Options.{limits, wanted_of}
 use Rattle.hp_model.specs.files.Spot.{Spot, again, spot}
 use Rattle.hp_model.specs.files.Value.{value}
-use Rattle.hp_model.specs.machine.Event.{IsEvent, has_maps_of, planned, with_outcome, with_table}
-use Rattle.hp_model.specs.machine.Plan.{Answered, Choice, Finish, Outcome, Plan, Refused, Reply, Slot, continued, gives, grant, refuse, unless, with_value}
-use Rattle.hp_model.specs.machine.SlotEvent.{anon_tests, byte_access, byte_tests, bytes_answer, edited, fault, fault_tests, file_named}
-use Rattle.hp_model.specs.machine.SlotEvent.{is_bad_range, is_beyond, is_name, is_unmapped, load, fill, preallocate, preallocate_tests}
-use Rattle.hp_model.specs.machine.SlotEvent.{map_file, map_tests, mount_outcome, mount_pages, mount_section, punch}
-use Rattle.hp_model.specs.machine.SlotEvent.{remount_outcome, slot_event, store, unmap}
+use Rattle.hp_model.specs.machine.Event.{IsEvent, has_maps_of, planned, with_outcome}
+use Rattle.hp_model.specs.machine.Plan.{Answered, Choice, Outcome, Plan, Refused, Reply, Slot, continued, gives, grant, refuse, unless, with_value}
+use Rattle.hp_model.specs.machine.SlotEvent.{anon_tests, byte_access, byte_tests, bytes_answer, fault, fault_tests, file_named}
+use Rattle.hp_model.specs.machine.SlotEvent.{is_beyond, is_unmapped, load}
+use Rattle.hp_model.specs.machine.SlotEvent.{map_file, map_tests, mount_outcome, mount_pages, mount_section}
+use Rattle.hp_model.specs.machine.SlotEvent.{remount_outcome, slot_event, store}
 use Rattle.hp_model.specs.machine.State.{State, slot_at}
-use Rattle.hp_model.specs.machine.Step.{Answer_with, IsScript, IsScripted, IsStep, Script, exit_slots, finding, fork_slots, on_slot, only, or_undone, undone, when_done}
-use Rattle.hp_model.specs.machine.Table.{Table, added, home_of, is_crowded, is_known, or_refused, removed, when_known}
+use Rattle.hp_model.specs.machine.Step.{Answer_with, IsScript, IsScripted, IsStep, Script, finding, fork_slots, on_slot, only, or_undone, undone}
+use Rattle.hp_model.specs.machine.Table.{Table, home_of, or_refused}
 use Rattle.hp_model.specs.machine.Tests.{IsForkRefusedBy, IsRefusedBy, MeetsTests, cut_off_test, failed, failed_at, failed_by}
 use Rattle.hp_model.specs.machine.Tests.{failed_mount, failed_on, failed_remount, first_failed, if_there, is_short, refused_limits}
-use Rattle.hp_model.specs.files.GiveBack.{punched, unmapped_from}
-use Rattle.hp_model.specs.files.MakeMap.{asked, with_new}
+use Rattle.hp_model.specs.files.MakeMap.{asked}
 use Rattle.hp_model.specs.machine.Machine.{pool_of, with_pool}
-use Rattle.hp_model.specs.pool.Grant.{is_over}
 use Rattle.hp_model.specs.declared.section.PoolAnswer.{PoolAnswer}
 use Rattle.hp_model.specs.pool.Pool.{section}
 use Rattle.hp_model.specs.pool.PoolCounts.{Pool}
 use Rattle.hp_model.specs.pool.Resize.{pool_event}
 use Rattle.hp_model.specs.declared.step.Reserving.{Reserving}
 use Rattle.hp_model.specs.declared.event.PoolEvent.{PoolEvent}
-use Rattle.hp_model.specs.Profile.{most_bytes, most_files, most_overcommit}
+use Rattle.hp_model.specs.Profile.{most_bytes}
 use Rattle.hp_laws.proofs.ending.Fades.{exits_done}
 use Rattle.hp_laws.proofs.ending.RefusedForks.{either_with}
 use Rattle.hp_laws.proofs.promises.Shortage.{exits_lead}
@@ -56,7 +54,6 @@ use Rattle.hp_laws.proofs.steps.SlotsBalanced.{tells_nr}
 use Rattle.hp_laws.proofs.steps.Outcomes.{Always, always_if, always_then, event_ends, only_goes, reply_of}
 use Rattle.hp_laws.proofs.making.Remounts.{remount_ends, remount_told}
 use Rattle.hp_laws.proofs.accesses.SlotShows.{always_gives}
-use Rattle.hp_model.specs.files.Fill.{lacking}
 
 -- ---- outcomes
 
@@ -142,11 +139,7 @@ module _ (size k : ℕ) (c : Choice) where
 
   of_create : (old : Slot) (name : List ℕ) → Decides old (step.Create k name) (slot.Create name)
   of_create None name = refl
-  of_create (Some m) name =
-      let done : Plan = Finish (Answered Done (Some (with_new m (new_file (Some name))))) in
-      fits_tests ((not (is_name name), BadName) ∷ (is_some (file_named m name), FileExists) ∷ (nat_le most_files (length m.files), TooMany)
-      ∷ (is_over m.limits.inodes (length m.files + 1), NoInodes) ∷ []) ((false, OutOfMemory) ∷ []) (unless ((c.refused, OutOfMemory) ∷ []) done)
-      (short_test c.refused OutOfMemory done refl refl)
+  of_create (Some m) name = grind (arith, common_steps, fits_tests, short_test)
 
   of_unlink : (old : Slot) (name : List ℕ) → Decides old (step.Unlink k name) (slot.Unlink name)
   of_unlink old name = grind (arith, common_steps)
@@ -156,16 +149,11 @@ module _ (size k : ℕ) (c : Choice) where
 
   of_punch : (old : Slot) (name : List ℕ) (a b : ℕ) → Decides old (step.Punch k name a b) (slot.Punch name a b)
   of_punch None name a b = refl
-  of_punch (Some m) name a b =
-      let ts : List (Bool × Refusal) = (is_bad_range a b, OutOfRange) ∷ [] in
-      fits_there (file_named m name) NoSuchFile (λ f. first_failed ts) (punch m a b) (λ f. fits_tested ts _ (gives_short (Some m) (edited m f.0 (punched a b f.1))))
+  of_punch (Some m) name a b = grind (arith, common_steps, fits_there, fits_tested, gives_short)
 
   of_preallocate : (old : Slot) (name : List ℕ) (a b : ℕ) → Decides old (step.Preallocate k name a b) (slot.Preallocate name a b)
   of_preallocate None name a b = refl
-  of_preallocate (Some m) name a b =
-      fits_there (file_named m name) NoSuchFile (λ f. first_failed (preallocate_tests a b)) (preallocate c size m a b)
-      (λ f. fits_tested (preallocate_tests a b) _ (always_if Short (lacking a b f.1 == 0) (Finish (Answered Done (Some m))) (fill c size m a b f) (λ e. refl)
-      (λ e. short_test _ MountFull _ refl (short_test c.refused OutOfMemory _ refl (λ answer. granted_short answer.granted _ refl)))))
+  of_preallocate (Some m) name a b = grind (arith, common_steps, fits_there, fits_tested, always_if, short_test, granted_short)
 
   of_read : (old : Slot) (name : List ℕ) (i offset count : ℕ) → Decides old (step.Read k name i offset count) (slot.Read name i offset count)
   of_read old name i offset count = grind (arith, common_steps)
@@ -192,10 +180,7 @@ module _ (size k : ℕ) (c : Choice) where
 
   of_unmap : (old : Slot) (task number a b : ℕ) → Decides old (step.Unmap task k number a b) (slot.Unmap task number a b)
   of_unmap None task number a b = refl
-  of_unmap (Some m) task number a b =
-      let ts : List (Bool × Refusal) = (is_bad_range a b, OutOfRange) ∷ [] in
-      fits_there (spot m (is_map task number)) NoSuchMap (λ s. first_failed ts) (unmap m task number a b)
-      (λ s. fits_tested ts _ (gives_short (Some m) (Some (unmapped_from task number a b m))))
+  of_unmap (Some m) task number a b = grind (arith, common_steps, fits_there, fits_tested, gives_short)
 
   of_fault : (old : Slot) (task home number i : ℕ) (intent : Intent) → Decides old (step.Fault task k number i intent) (slot.Fault task home number i intent)
   of_fault None task home number i intent = refl
@@ -252,19 +237,7 @@ module _ (s : State) (reply : Reply) (t : State) where
   ks = range_with_len 0 (length s.slots)
 
   exit_meets : (task : ℕ) → IsScripted s (step.Exit task) reply t → IsRefusedBy (failed s (step.Exit task)) reply
-  exit_meets task is = by_home (home_of s.table task) is.0 is.1 is.2.2 is.3
-    where
-      never : (r : Reply) (mid : State) → IsScript mid (exit_slots ks task (Answer_with (Ok Done))) r t → is_short r ≡ true
-      never (Ok a) mid go = refl
-      never (Err r) mid go = absurd (exits_done task r t ks mid go)
-
-      by_home : (o : Option ℕ) (q : Reply) (mid : State) → with_table s (when_known s.table o (λ home. (Ok Done, removed s.table task))) ≡ (q, mid)
-          → IsScript mid (when_done q (exit_slots ks task (Answer_with (Ok Done)))) reply t → IsRefusedBy (if_there o NoSuchTask (λ home. None)) reply
-      by_home None q mid e go =
-          let first = ap (λ (x : Reply × State). x.0) e in (subst (λ x. IsScript mid (when_done x (exit_slots ks task (Answer_with (Ok Done)))) reply t) (sym first) go).0
-      by_home (Some home) q mid e go =
-          let first = ap (λ (x : Reply × State). x.0) e in
-          never reply mid (subst (λ x. IsScript mid (when_done x (exit_slots ks task (Answer_with (Ok Done)))) reply t) (sym first) go)
+  exit_meets task is = grind (arith, common_steps, exits_done)
 
   pool_meets : (e : PoolEvent) (r : Reply) → (pool_event (pool_of s) e).0 ≡ r → IsEvent s (OnPool e) reply t → reply ≡ r
   pool_meets e r same is = sym (ap (λ (q : Reply × State). q.0) is.2) ∙ same
@@ -347,30 +320,10 @@ module _ (s : State) (reply : Reply) (t : State) where
       by_reply (Ok a) mid h next it = next it
 
   fork_meets : (parent child : ℕ) → IsScripted s (step.Fork parent child) reply t → IsForkRefusedBy (failed s (step.Fork parent child)) reply
-  fork_meets parent child is = by_home (home_of s.table parent) is.0 is.1 is.2.2 is.3
-    where
-      by_tests : (home : ℕ) (known crowded : Bool) (q : Reply) (mid : State)
-          → with_table s (or_refused ((known, TaskExists) ∷ (crowded, TooMany) ∷ []) s.table (Ok Done, added s.table child home)) ≡ (q, mid)
-          → IsScript mid (when_done q (fork_slots ks [] parent child)) reply t → IsForkRefusedBy (first_failed ((known, TaskExists) ∷ (crowded, TooMany) ∷ [])) reply
-      by_tests home true crowded q mid e go =
-          (subst (λ y. IsScript mid (when_done y (fork_slots ks [] parent child)) reply t) (sym (ap (λ (x : Reply × State). x.0) e)) go).0
-      by_tests home false true q mid e go =
-          (subst (λ y. IsScript mid (when_done y (fork_slots ks [] parent child)) reply t) (sym (ap (λ (x : Reply × State). x.0) e)) go).0
-      by_tests home false false q mid e go =
-          slots_meet parent child ks [] mid (subst (λ y. IsScript mid (when_done y (fork_slots ks [] parent child)) reply t) (sym (ap (λ (x : Reply × State). x.0) e)) go)
-
-      by_home : (o : Option ℕ) (q : Reply) (mid : State)
-          → with_table s (when_known s.table o (λ home. or_refused ((is_known s.table child, TaskExists) ∷ (is_crowded s.table, TooMany) ∷ []) s.table (Ok Done, added s.table child home))) ≡ (q, mid)
-          → IsScript mid (when_done q (fork_slots ks [] parent child)) reply t
-          → IsForkRefusedBy (if_there o NoSuchTask (λ home. first_failed ((is_known s.table child, TaskExists) ∷ (is_crowded s.table, TooMany) ∷ []))) reply
-      by_home None q mid e go =
-          (subst (λ y. IsScript mid (when_done y (fork_slots ks [] parent child)) reply t) (sym (ap (λ (x : Reply × State). x.0) e)) go).0
-      by_home (Some home) q mid e go = by_tests home (is_known s.table child) (is_crowded s.table) q mid e go
+  fork_meets parent child is = grind (arith, common_steps, slots_meet)
 
   scripted_meets : (x : Step) → IsScripted s x reply t → MeetsTests s x reply
-  scripted_meets (step.Connect task home) is =
-      subst (λ r. IsRefusedBy (failed s (step.Connect task home)) r) (ap (λ (q : Reply × State). q.0) (only_goes s (Tasks (table.Add task home)) reply t is).2)
-      (table_meets ((nat_le (length s.nodes) home, NoSuchNode) ∷ (is_known s.table task, TaskExists) ∷ (is_crowded s.table, TooMany) ∷ []) s.table (added s.table task home))
+  scripted_meets (step.Connect task home) is = grind (arith, common_steps, only_goes, table_meets)
   scripted_meets (step.Attach task) is = attach_meets task (only_goes s (Tasks (table.Find task)) reply t is)
   scripted_meets (step.Fork parent child) is = fork_meets parent child is
   scripted_meets (step.Exit task) is = exit_meets task is
@@ -381,20 +334,16 @@ module _ (s : State) (reply : Reply) (t : State) where
   scripted_meets (step.Unlink k name) is = slot_meets k (step.Unlink k name) (slot.Unlink name) (λ c. of_unlink s.page_size k c (slot_at s k) name) is
   scripted_meets (step.Truncate k name n) is = slot_meets k (step.Truncate k name n) (slot.Truncate name n) (λ c. of_truncate s.page_size k c (slot_at s k) name n) is
   scripted_meets (step.Punch k name a b) is = slot_meets k (step.Punch k name a b) (slot.Punch name a b) (λ c. of_punch s.page_size k c (slot_at s k) name a b) is
-  scripted_meets (step.Preallocate k name a b) is =
-      slot_meets k (step.Preallocate k name a b) (slot.Preallocate name a b) (λ c. of_preallocate s.page_size k c (slot_at s k) name a b) is
-  scripted_meets (step.Read k name i offset count) is =
-      slot_meets k (step.Read k name i offset count) (slot.Read name i offset count) (λ c. of_read s.page_size k c (slot_at s k) name i offset count) is
+  scripted_meets (step.Preallocate k name a b) is = grind (arith, common_steps, slot_meets, of_preallocate)
+  scripted_meets (step.Read k name i offset count) is = grind (arith, common_steps, slot_meets, of_read)
   scripted_meets (step.Ls k) is = slot_meets k (step.Ls k) slot.Ls (λ c. of_ls s.page_size k c (slot_at s k)) is
   scripted_meets (step.Stat k name) is = slot_meets k (step.Stat k name) (slot.Stat name) (λ c. of_stat s.page_size k c (slot_at s k) name) is
   scripted_meets (step.Df k) is = slot_meets k (step.Df k) slot.Df (λ c. of_df s.page_size k c (slot_at s k)) is
   scripted_meets (step.Map task k name a n sharing reserving) is =
       access_meets task k (step.Map task k name a n sharing reserving) (λ home. slot.Map task home name a n sharing reserving)
       (λ home c. of_map s.page_size k c (slot_at s k) task home name a n sharing reserving) is
-  scripted_meets (step.Anon task n sharing reserving) is =
-      access_meets task 0 (step.Anon task n sharing reserving) (λ home. slot.Anon task home n sharing reserving) (λ home c. of_anon s.page_size 0 c (slot_at s 0) task home n sharing reserving) is
-  scripted_meets (step.Unmap task k number a b) is =
-      access_meets task k (step.Unmap task k number a b) (λ home. slot.Unmap task number a b) (λ home c. of_unmap s.page_size k c (slot_at s k) task number a b) is
+  scripted_meets (step.Anon task n sharing reserving) is = grind (arith, common_steps, access_meets, of_anon)
+  scripted_meets (step.Unmap task k number a b) is = grind (arith, common_steps, access_meets, of_unmap)
   scripted_meets (step.Fault task k number i intent) is =
       access_meets task k (step.Fault task k number i intent) (λ home. slot.Fault task home number i intent) (λ home c. of_fault s.page_size k c (slot_at s k) task home number i intent) is
   scripted_meets (step.Load task k number i offset count) is =
@@ -404,9 +353,7 @@ module _ (s : State) (reply : Reply) (t : State) where
       access_meets task k (step.Store task k number i offset bytes) (λ home. slot.Store task home number i offset bytes)
       (λ home c. of_store s.page_size k c (slot_at s k) task home number i offset bytes) is
   scripted_meets (step.Nr n) is = ap is_short (pool_meets (pool.Nr n) _ refl (only_goes s (OnPool (pool.Nr n)) reply t is))
-  scripted_meets (step.Overcommit n) is =
-      subst (λ r. IsRefusedBy (failed s (step.Overcommit n)) r) (ap (λ (q : Reply × State). q.0) (only_goes s (OnPool (pool.Overcommit n)) reply t is).2)
-      (overcommit_meets n (nat_le n most_overcommit) (record (pool_of s) { overcommit = n }) (pool_of s))
+  scripted_meets (step.Overcommit n) is = grind (arith, common_steps, only_goes, overcommit_meets)
   scripted_meets step.Meminfo is = ap is_short (pool_meets pool.Meminfo _ refl (only_goes s (OnPool pool.Meminfo) reply t is))
   scripted_meets step.Nodes is = ap is_short (pool_meets pool.Nodes _ refl (only_goes s (OnPool pool.Nodes) reply t is))
 

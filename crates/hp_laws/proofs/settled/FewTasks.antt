@@ -14,10 +14,10 @@ use Rattle.hp_model.specs.declared.step.Sharing.{Sharing}
 use Rattle.hp_model.specs.files.Access.{access}
 use Rattle.hp_model.specs.files.File.{File, Mount, maps_of, new_file, with_file}
 use Rattle.hp_model.specs.files.Fork.{forked}
-use Rattle.hp_model.specs.files.GiveBack.{file_unmapped, file_without, is_kept, is_left, map_unmapped, punched, swept, truncated, unlinked, without_task}
+use Rattle.hp_model.specs.files.GiveBack.{file_unmapped, file_without, is_kept, punched, swept, truncated, unlinked, without_task}
 use Rattle.hp_model.specs.Lists.{distinct, is_among}
 use Rattle.hp_model.specs.files.MakeMap.{mapped, new_map, next_number, tasks_of, with_new}
-use Rattle.hp_model.specs.files.Mapping.{Map, is_map, is_of, map_punched, without_range}
+use Rattle.hp_model.specs.files.Mapping.{Map, is_map, is_of, map_punched}
 use Rattle.hp_model.specs.machine.Plan.{Answered, Choice, Outcome, Slot, gives}
 use Rattle.hp_model.specs.machine.Promises.{Shape, shape_of}
 use Rattle.hp_model.specs.machine.SlotEvent.{byte_access, fault_tests}
@@ -182,11 +182,7 @@ module _ (size k : ℕ) (c : Choice) (m : Mount) (few : Few m) where
   each_few h le = less_few (swept (record m { files = map h m.files })) (λ t. (let each = each_le t m h (le t) in omega (arith, each, swept_le t (record m { files = map h m.files }))))
 
   unmap_le : (test : Map → Bool) (a b t : ℕ) (f : File) → count_by (is_of t) (file_unmapped test a b f).maps ≤ count_by (is_of t) f.maps
-  unmap_le test a b t f =
-      let cut : Map → Map = map_unmapped test a b in
-      let gone = sum_by-filter_le (λ (x : Map). bit (is_of t x)) (is_left test) (map cut f.maps) in
-      let kept = kept_tasks t cut (λ x. cond_both (test x) (without_range a b x) x (λ (y : Map). y.task ≡ x.task) (λ e. refl) (λ e. refl)) f.maps in
-      omega (arith, gone, kept)
+  unmap_le test a b t f = grind (arith, common_steps, sum_by-filter_le, bit, kept_tasks, cond_both)
 
   -- a file with a map more, made after these tests
   mapped_le : (task number a n : ℕ) (sharing : Sharing) (reserving : Reserving) (xs : List Map) (t : ℕ) →

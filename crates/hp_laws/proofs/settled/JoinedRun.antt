@@ -47,8 +47,7 @@ settles s k o old new r is h = grind (arith, common_steps)
 
 goes : (s : State) (k : ℕ) (p : Plan) (asked : Option Asked) (new : Slot) (r : Reply) (q : Pool) → Tells p → Goes p asked (slot_at s k) r new → PoolGoes (pool_of s) asked q
     → planned s k p ≡ (r, with_slot (with_pool s q) k new)
-goes s k (Finish o) None new r q tells h pool =
-    settles s k o (slot_at s k) new r refl h ∙ ap (λ (x : State). (r, with_slot x k new)) (sym (pool_back s) ∙ ap (λ x. with_pool s x) pool)
+goes s k (Finish o) None new r q tells h pool = grind (arith, common_steps, settles, pool_back)
 goes s k (Finish o) (Some a) new r q tells h pool = absurd h
 goes s k (Ask sec f) None new r q tells h pool = absurd h
 goes s k (Ask sec f) (Some a) new r q tells h pool =

@@ -8,10 +8,10 @@ use Rattle.std.proofs.lemmas.Bool.{or_left, or_right, true_from_ne_false, both_w
 use Rattle.std.proofs.lemmas.List.Folds.{list_any_at}
 use Rattle.std.proofs.lemmas.List.Sums.{sum_by-set}
 use Rattle.hp_model.specs.files.CopyWrite.{is_held_once, robbed, drop_stamp, holds}
-use Rattle.hp_model.specs.files.File.{with_map, has_page, File}
+use Rattle.hp_model.specs.files.File.{with_map, File}
 use Rattle.hp_model.specs.Lists.{is_among, edit_at}
 use Rattle.hp_model.specs.files.Mapping.{with_place, without_copy, Map, place_at, is_unconsumed}
-use Rattle.hp_model.specs.files.MountCounts.{owner_reserves, stamps_of, is_waiting, is_page_at}
+use Rattle.hp_model.specs.files.MountCounts.{owner_reserves, stamps_of}
 use Rattle.hp_model.specs.files.Page.{Page, Copy}
 use Rattle.hp_model.specs.machine.Sound.{place_has, map_has, file_has, is_stamp}
 use Rattle.hp_model.specs.files.Spot.{cell_written, place_written, map_written}
@@ -44,9 +44,7 @@ module _ (f : File) (k : ℕ) (m : Map) (i : ℕ) (c : Bool) (old new : Copy) (h
       (ap (place_has t) at.is ∙ or_false (t old.stamp old.page.node)))
 
   after_has : (t : ℕ → ℕ → Bool) → file_has t after ≡ (t new.stamp new.page.node || file_has t rest)
-  after_has t =
-      any_two (map_has t) (t new.stamp new.page.node) f.maps k (with_place m i (Live c (Some new))) (with_place m i (Live c None)) here.within
-      (any_two (place_has t) (t new.stamp new.page.node) m.places (i - m.start) (Live c (Some new)) (Live c None) at.within (or_false (t new.stamp new.page.node)))
+  after_has t = grind (arith, common_steps, any_two, at, or_false)
 
   held_still : is_held_once f old.stamp ≡ false → file_has (is_stamp old.stamp) rest ≡ true
   held_still more =
@@ -89,8 +87,7 @@ dropped_down : (t : ℕ → ℕ → Bool) (b : Bool) (p : Place Copy) → place_
 dropped_down t b p e = grind (arith, common_steps)
 
 robbed_if : (t : ℕ → ℕ → Bool) (stamp : ℕ) (b : Bool) (m : Map) → map_has t (if b then record m { unmapped = true; places = map (drop_stamp stamp) m.places } else m) ≡ true → map_has t m ≡ true
-robbed_if t stamp true m e = any_map_down (place_has t) (place_has t) (drop_stamp stamp) (λ p. dropped_down t (holds stamp p) p) m.places e
-robbed_if t stamp false m e = e
+robbed_if t stamp b m e = grind (arith, common_steps, any_map_down, dropped_down)
 
 robbed_down : (t : ℕ → ℕ → Bool) (stamp : ℕ) (m : Map) → map_has t (robbed stamp m) ≡ true → map_has t m ≡ true
 robbed_down t stamp m e = robbed_if t stamp (list_any (holds stamp) m.places) m e
@@ -107,8 +104,7 @@ kept_place t stamp p e = grind (arith, common_steps)
 
 kept_map : (t : ℕ → ℕ → Bool) (stamp : ℕ) (b : Bool) (m : Map) → map_has (but stamp t) m ≡ true
     → map_has (but stamp t) (if b then record m { unmapped = true; places = map (drop_stamp stamp) m.places } else m) ≡ true
-kept_map t stamp true m e = any_map_up (place_has (but stamp t)) (place_has (but stamp t)) (drop_stamp stamp) (kept_place t stamp) m.places e
-kept_map t stamp false m e = e
+kept_map t stamp b m e = grind (arith, common_steps, any_map_up, kept_place)
 
 robbed_keeps : (t : ℕ → ℕ → Bool) (stamp : ℕ) (m : Map) → map_has (but stamp t) m ≡ true → map_has (but stamp t) (robbed stamp m) ≡ true
 robbed_keeps t stamp m e = kept_map t stamp (list_any (holds stamp) m.places) m e
@@ -117,9 +113,7 @@ which_place : (t : ℕ → ℕ → Bool) (stamp : ℕ) (p : Place Copy) → plac
 which_place t stamp p e = grind (arith, common_steps)
 
 which : (t : ℕ → ℕ → Bool) (stamp : ℕ) (f : File) → file_has t f ≡ true → (file_has (but stamp t) f ≡ true) ⊎ (file_has (only stamp t) f ≡ true)
-which t stamp f e =
-    any_either (map_has t) (map_has (but stamp t)) (map_has (only stamp t))
-    (λ m. any_either (place_has t) (place_has (but stamp t)) (place_has (only stamp t)) (which_place t stamp) m.places) f.maps e
+which t stamp f e = grind (arith, common_steps, any_either, which_place)
 
 -- a copy that passes
 pub record Holds (t : ℕ → ℕ → Bool) (has : (ℕ → ℕ → Bool) → Bool) : Type 0 where
@@ -216,21 +210,11 @@ place_owes : (offset : ℕ) (bytes : List ℕ) (p : Place Copy) → bit (is_unco
 place_owes offset bytes p = grind (arith, common_steps)
 
 map_owes : (i offset : ℕ) (bytes : List ℕ) (m : Map) → owner_reserves (map_written i offset bytes m) ≡ owner_reserves m
-map_owes i offset bytes m =
-    ap (λ n. cond m.owner n 0) (sum_by-edit_at (λ (p : Place Copy). cond (is_unconsumed p) 1 0) (place_written offset bytes) (place_owes offset bytes) m.places (i - m.start))
+map_owes i offset bytes m = grind (arith, common_steps, sum_by-edit_at, place_owes)
 
 pub writes : (b : Bool) (k i offset : ℕ) (bytes : List ℕ) (f : File)
     → FileGrows f (if b then record f { cells = edit_at (cell_written offset bytes) f.cells i } else record f { maps = edit_at (map_written i offset bytes) f.maps k }) 0 0 0
-writes true k i offset bytes f =
-    let count = λ (test : Cell Page → Bool) (h : (p q : Page) → p.node ≡ q.node → test (Present p) ≡ test (Present q)).
-    sum_by-edit_at (λ x. cond (test x) 1 0) (cell_written offset bytes) (cell_same offset bytes test h) f.cells i in
-    let pages = count has_page (λ p q e. refl) in
-    let waits = count is_waiting (λ p q e. refl) in
-    record {
-      pages = omega (arith, pages);
-      usage = omega (arith, pages, waits);
-      each = λ n. omega (arith, count (is_page_at n) (λ p q e. ap (λ x. x == n) e), spent (0 == n));
-    }
+writes true k i offset bytes f = grind (arith, common_steps, sum_by-edit_at, cell_same, spent)
 writes false k i offset bytes f =
     let g : File = record f { maps = edit_at (map_written i offset bytes) f.maps k } in
     let has = λ (t : ℕ → ℕ → Bool). any_edit_at (map_has t) (map_written i offset bytes)
