@@ -229,8 +229,7 @@ module _ (size : ℕ) (m : Mount) (s : Spot) (at : IsSpot m s) (i : ℕ) where
 
       read_private : (p : Place Copy) → place_at s.map i ≡ p → Always (On Same) (private_access c size m s home i p Read)
       read_private Gone is = tt
-      read_private (Live consumed (Some copy)) is = idle
-      read_private (Live consumed None) is = grind (arith, common_steps, always_test, uncopied_same)
+      read_private p is = grind (arith, common_steps, idle, always_test, uncopied_same)
 
       -- ---- a write
 

@@ -75,9 +75,7 @@ always_mount P stops h c size options a = by_limits (limits a.nr size (wanted_of
   where
     by_tests : (refused granted late : Bool) (o : Outcome) → P o → P (if refused then Refused OutOfMemory else if not granted then Refused NoPages else if late then Refused OutOfMemory else o)
     by_tests true granted late o g = stops OutOfMemory
-    by_tests false false late o g = stops NoPages
-    by_tests false true true o g = stops OutOfMemory
-    by_tests false true false o g = g
+    by_tests refused granted late o g = grind (arith, common_steps)
 
     by_limits : (r : ResultOf Limits Refusal) → P (mount_outcome c a r)
     by_limits (Err e) = stops e
@@ -225,13 +223,12 @@ Stores size old o i offset bytes (Answered a new) =
 
 store_ends : (size : ℕ) (m : Mount) (sound : IsSoundMount m) (s : Spot) (at : IsSpot m s) (i offset : ℕ) (bytes : List ℕ) (o : Outcome) → On (Result size m s at i) o
     → Stores size (Some m) (Some s) i offset bytes (continued (λ n. Answered Done (Some (written n s i offset bytes))) o)
-store_ends size m sound s at i offset bytes (Refused r) on = tt
-store_ends size m sound s at i offset bytes (Answered a None) on = absurd on
 store_ends size m sound s at i offset bytes (Answered a (Some n)) on = (
   λ j x. stored size m s at i n (ready size m s at i n on) offset bytes (i == x) (is_shared s.map.sharing) (s.file_no == j) j x refl refl refl,
   store_seen size m sound s at i offset bytes n on,
   store_marks size m sound s at i offset bytes n on,
 )
+store_ends size m sound s at i offset bytes o on = grind (arith, common_steps)
 
 pub store_at : (size : ℕ) (c : Choice) (m : Mount) → IsSoundMount m → (s : Spot) → IsSpot m s → (home i offset : ℕ) (bytes : List ℕ)
     → Always (Stores size (Some m) (Some s) i offset bytes) (store c size m home i offset bytes s)

@@ -55,8 +55,7 @@ module _ {X : Type 0} (f : X → X) (a b : ℕ) (xs : List X) (k : ℕ) (d : X) 
     where
       by_tests : (x y : Bool) → nat_le a k ≡ x → nat_lt k b ≡ y → get_or (edit_range f a b xs) k d ≡ (if x && y then f (get_or xs k d) else get_or xs k d)
       by_tests true true from to = ranged_in none (leb-true a k from) (ltb-true k b to)
-      by_tests true false from to = ranged_out (inr (ltb-false k b to))
-      by_tests false y from to = ranged_out (inl (leb-false a k from))
+      by_tests x y from to = grind (arith, common_steps, ranged_out, ltb-false, leb-false)
 
 -- of a map's places
 pub place_ranged : (g : Place Copy → Place Copy) → g Gone ≡ Gone → (a b : ℕ) (y : Map) (i : ℕ)
@@ -73,10 +72,7 @@ place_ranged g none a b y i = by_start (nat_lt i y.start) refl
         let low = leb-true a i from in
         let high = ltb-true i b to in
         ranged_in g (a - y.start) (b - y.start) y.places (i - y.start) Gone none (omega (arith, low, above)) (omega (arith, high, above))
-    by_tests above true false from to =
-        let high = ltb-false i b to in ranged_out g (a - y.start) (b - y.start) y.places (i - y.start) Gone (inr (omega (arith, high, above)))
-    by_tests above false d from to =
-        let low = leb-false a i from in ranged_out g (a - y.start) (b - y.start) y.places (i - y.start) Gone (inl (omega (arith, low, above)))
+    by_tests above c d from to = grind (arith, common_steps, ltb-false, ranged_out, leb-false)
 
     by_start : (c : Bool) → nat_lt i y.start ≡ c
         → (if c then Gone else get_or (edit_range g (a - y.start) (b - y.start) y.places) (i - y.start) Gone)
@@ -146,10 +142,7 @@ module _ (size n : ℕ) (f : File) where
       by_tests : (c d : Bool) → nat_le n x ≡ c → nat_lt x (n + length f.cells) ≡ d
           → by_place size (if nat_le n x && d then without_copy (place_at y x) else place_at y x) (if c then zeros size else look size x f) ≡ (if c then zeros size else value size f y x)
       by_tests true true from to = ap (λ z. by_place size (if z && true then without_copy (place_at y x) else place_at y x) (zeros size)) from ∙ no_copy size (place_at y x) (zeros size)
-      by_tests true false from to =
-          let high = ltb-false x (n + length f.cells) to in
-          ap (λ z. by_place size (if z && false then without_copy (place_at y x) else place_at y x) (zeros size)) from ∙ none_beyond y sound x (omega (arith, high)) (zeros size)
-      by_tests false d from to = ap (λ z. by_place size (if z && d then without_copy (place_at y x) else place_at y x) (look size x f)) from
+      by_tests c d from to = grind (arith, common_steps, ltb-false, none_beyond, look)
 
   pub truncate_cut : IsCut size f (truncated n f) (map_punched n (n + length f.cells)) (nat_le n)
   truncate_cut = grind (arith, common_steps, pages_same, places, length-edit_range, cut_cells, seen, cut_seen)

@@ -6,7 +6,7 @@ use Rattle.std.proofs.lemmas.Bool.{cases_eq, ltb-true}
 use Rattle.std.proofs.lemmas.List.{get_or-set_other, get_or-set_same}
 use Rattle.hp_model.specs.declared.answer.Answer.TheVariants.{Done}
 use Rattle.hp_model.specs.declared.event.Event.{Event}
-use Rattle.hp_model.specs.declared.event.Event.TheVariants.{Tasks, Slot as OnSlot, Pool as OnPool}
+use Rattle.hp_model.specs.declared.event.Event.TheVariants.{Tasks, Slot as OnSlot}
 use Rattle.hp_model.specs.declared.event.SlotEvent.{SlotEvent}
 use Rattle.hp_model.specs.declared.event.SlotEvent.TheVariants as slot
 use Rattle.hp_model.specs.declared.refusal.Refusal.{Refusal}
@@ -185,8 +185,7 @@ module _ (gone : ℕ) where
       slot_fades s k (slot.ForkMaps parent child) reply t
       (λ c. subst (λ x. Always (FadesTo s.page_size gone (slot_at s k)) (slot_event s.page_size k c (slot_at s k) (slot.ForkMaps parent x))) (sym of)
       (forks s.page_size gone k c (slot_at s k) parent)) is
-  event_fades s (OnSlot k other) reply t of is = absurd of
-  event_fades s (OnPool e) reply t of is = absurd of
+  event_fades s e reply t of is = grind (arith, common_steps)
 
   all_then : (s m t : State) → AllFade gone s m → AllFade gone m t → AllFade gone s t
   all_then s m t a b = record {

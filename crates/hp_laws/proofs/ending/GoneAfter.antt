@@ -8,10 +8,8 @@ use Rattle.std.proofs.lemmas.List.Folds.{list_any_at}
 use Rattle.std.proofs.lemmas.List.FromFn.{get_or-range_with_len, length-range_with_len}
 use Rattle.hp_model.specs.declared.answer.Answer.TheVariants.{Done}
 use Rattle.hp_model.specs.declared.event.Event.{Event}
-use Rattle.hp_model.specs.declared.event.Event.TheVariants.{Tasks, Slot as OnSlot, Pool as OnPool}
-use Rattle.hp_model.specs.declared.event.PoolEvent.TheVariants as pool
+use Rattle.hp_model.specs.declared.event.Event.TheVariants.{Slot as OnSlot}
 use Rattle.hp_model.specs.declared.event.SlotEvent.TheVariants as slot
-use Rattle.hp_model.specs.declared.event.TableEvent.TheVariants as table
 use Rattle.hp_model.specs.declared.refusal.Refusal.{Refusal}
 use Rattle.hp_model.specs.declared.step.Step.{Step}
 use Rattle.hp_model.specs.declared.step.Step.TheVariants as step
@@ -153,13 +151,7 @@ module _ (s : State) (st : IsSettledState s) where
       let old = slot_at s k in
       let ends = event_ends (Ends task number a b old) s k (slot.Unmap task number a b) reply t (λ c. unmap_ends task number a b s.page_size k c old (left_sound s k l st)) is in
       subst (λ r. IsGone s (step.Unmap task k number a b) r t) (sym ends.replied) (number_gone t k task number a b l ends.outcome ends.holds ends.slots)
-  event_gone (OnSlot k (slot.ExitMaps task)) reply t whole is = cc
-  event_gone (OnSlot k (slot.ForkMaps parent child)) reply t whole is = cc
-  event_gone (OnSlot k other) reply t whole is = tt
-  event_gone (Tasks (table.Remove task)) reply t whole is = cc
-  event_gone (Tasks other) reply t whole is = tt
-  event_gone (OnPool pool.Meminfo) reply t whole is = tt
-  event_gone (OnPool other) reply t whole is = tt
+  event_gone e reply t whole is = grind (arith, common_steps)
 
   early_gone : (x : Step) (r : Refusal) → IsGone s x (Err r) s
   early_gone x r = grind (arith, common_steps)

@@ -7,10 +7,8 @@ use Rattle.std.proofs.lemmas.Bool.{and_parts, eq-eqb, eqb-true, ltb-true}
 use Rattle.std.proofs.lemmas.List.{get_or-set_same}
 use Rattle.hp_model.specs.declared.answer.Answer.TheVariants.{Done}
 use Rattle.hp_model.specs.declared.event.Event.{Event}
-use Rattle.hp_model.specs.declared.event.Event.TheVariants.{Tasks, Slot as OnSlot, Pool as OnPool}
-use Rattle.hp_model.specs.declared.event.PoolEvent.TheVariants as pool
+use Rattle.hp_model.specs.declared.event.Event.TheVariants.{Slot as OnSlot}
 use Rattle.hp_model.specs.declared.event.SlotEvent.TheVariants as slot
-use Rattle.hp_model.specs.declared.event.TableEvent.TheVariants as table
 use Rattle.hp_model.specs.declared.place.Place.TheVariants.{Gone}
 use Rattle.hp_model.specs.declared.refusal.Refusal.{Refusal}
 use Rattle.hp_model.specs.declared.refusal.Refusal.TheVariants.{NoSuchMap, OutOfRange}
@@ -87,13 +85,7 @@ module _ (s : State) where
   event_cuts (OnSlot k (slot.Unmap owner gone a b)) reply t whole is =
       let ends = event_ends (CutsTo owner gone a b (slot_at s k)) s k (slot.Unmap owner gone a b) reply t (λ c. unmap_leaves owner gone a b s.page_size k c (slot_at s k)) is in
       subst (λ r. Unmaps s (step.Unmap owner k gone a b) r t) (sym ends.replied) (step_cuts t k owner gone a b (ltb-true k (length s.slots) is.1.0) ends.outcome ends.holds ends.slots)
-  event_cuts (OnSlot k (slot.ForkMaps parent child)) reply t whole is = cc
-  event_cuts (OnSlot k (slot.ExitMaps task)) reply t whole is = cc
-  event_cuts (OnSlot k other) reply t whole is = tt
-  event_cuts (Tasks (table.Add task home)) reply t whole is = tt
-  event_cuts (Tasks other) reply t whole is = tt
-  event_cuts (OnPool pool.Meminfo) reply t whole is = tt
-  event_cuts (OnPool other) reply t whole is = tt
+  event_cuts e reply t whole is = grind (arith, common_steps)
 
   early_cuts : (x : Step) (r : Refusal) → Unmaps s x (Err r) s
   early_cuts x r = grind (arith, common_steps)

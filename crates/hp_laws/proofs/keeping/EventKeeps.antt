@@ -1,7 +1,7 @@
 -- A step leaves on its own slot the places of maps and the cells of files as they were, but for what it reaches.
 use Rattle.std.proofs.lemmas.Grind.{common_steps}
 use Rattle.std.proofs.Common.{◌≡◌, ⊎_elim, inl, inr, ◌⊎◌, ℕ, ◌+◌, ◌-◌, ◌<◌, Bool, true, false, ◌&&◌, ◌==◌, not, replicate, ◌≤◌}
-use Rattle.std.proofs.Common.{Option, None, Some, is_some, Ok, Err, List, [], ◌∷◌, length, get_or, refl, sym, ap, ◌∙◌, subst, arith, if◌then◌else◌, nat_le, nat_lt}
+use Rattle.std.proofs.Common.{Option, None, Some, is_some, Err, List, [], ◌∷◌, length, get_or, refl, sym, ap, ◌∙◌, subst, arith, if◌then◌else◌, nat_le, nat_lt}
 use Rattle.std.specs.List.{slice_index_or, slice_set}
 use Rattle.std.specs.Str.{bytes_eq}
 use Rattle.std.proofs.lemmas.Bool.{cases_eq, cases_lt, eqb-true, leb-false, leb-true, ltb-false, ltb-true}
@@ -12,11 +12,9 @@ use Rattle.hp_model.specs.declared.answer.Answer.TheVariants.{Done, MapNo}
 use Rattle.hp_model.specs.declared.cell.Cell.{Cell}
 use Rattle.hp_model.specs.declared.cell.Cell.TheVariants.{Hole}
 use Rattle.hp_model.specs.declared.event.Event.{Event}
-use Rattle.hp_model.specs.declared.event.Event.TheVariants.{Tasks, Slot as OnSlot, Pool as OnPool}
-use Rattle.hp_model.specs.declared.event.PoolEvent.TheVariants as pool
+use Rattle.hp_model.specs.declared.event.Event.TheVariants.{Slot as OnSlot}
 use Rattle.hp_model.specs.declared.event.SlotEvent.{SlotEvent}
 use Rattle.hp_model.specs.declared.event.SlotEvent.TheVariants as slot
-use Rattle.hp_model.specs.declared.event.TableEvent.TheVariants as table
 use Rattle.hp_model.specs.declared.refusal.Refusal.{Refusal}
 use Rattle.hp_model.specs.declared.refusal.Refusal.TheVariants.{BeyondEnd, OutOfMemory, OutOfRange, MountFull}
 use Rattle.hp_model.specs.declared.step.Intent.{Intent}
@@ -25,8 +23,8 @@ use Rattle.hp_model.specs.declared.step.Reserving.{Reserving}
 use Rattle.hp_model.specs.declared.step.Sharing.{Sharing}
 use Rattle.hp_model.specs.declared.step.Step.{Step}
 use Rattle.hp_model.specs.declared.step.Step.TheVariants as step
-use Rattle.hp_model.specs.declared.step.Reserving.TheVariants.{NoReserve, Reserve}
-use Rattle.hp_model.specs.declared.step.Sharing.TheVariants.{Private, Shared}
+use Rattle.hp_model.specs.declared.step.Reserving.TheVariants.{Reserve}
+use Rattle.hp_model.specs.declared.step.Sharing.TheVariants.{Shared}
 use Rattle.hp_model.specs.files.Access.{access}
 use Rattle.hp_model.specs.files.File.{File, Mount, at_least, cell_at, cell_punched, entered, has_page, new_file, with_file}
 use Rattle.hp_model.specs.Lists.{edit_range}
@@ -165,8 +163,7 @@ module _ (m : Mount) (task k : ℕ) (name : List ℕ) (a n : ℕ) (q : ℕ × Fi
       → (cell_at (mapped task number a n sharing reserving q.1) i ≡ cell_at q.1 i) ⊎ MapCell sharing reserving q.0 i (cell_at q.1 i) (cell_at (mapped task number a n sharing reserving q.1) i)
   map_cell number Shared Reserve i =
       ⊎_elim (λ same. inl same) (λ on. inr (ap (λ b. b && is_in a (a + n) i) (means_it m name q named q.1) ∙ on.0, on.1)) (entered_cell i (nat_le a i) (nat_lt i (a + n)) refl refl)
-  map_cell number Shared NoReserve i = inl (long_cell i)
-  map_cell number Private reserving i = inl (long_cell i)
+  map_cell number sharing reserving i = grind (arith, common_steps, long_cell)
 
   map_kept : (sharing : Sharing) (reserving : Reserving)
       → Keeps (Some m) (step.Map task k name a n sharing reserving) (Some (with_file m q.0 (mapped task (next_number task m) a n sharing reserving q.1)))
@@ -429,29 +426,14 @@ module _ (s : State) (st : IsSettledState s) (t : State) (tt_sound : (k : ℕ) �
       (subst (λ x. KeepsFiles (slot_at s k) x) (sym (get_or-set_same s.slots k (left_by (slot_at s k) o) None l)) keeps))
       (λ other. subst (λ x. KeepsFiles (slot_at s z) x) (sym (get_or-set_other s.slots k z (left_by (slot_at s k) o) None other)) (files_same (slot_at s z)))
       (cases_eq z k))
-  outcome_kept k (slot.ForkMaps parent child) o whole l slots keeps = cc
-  outcome_kept k (slot.ExitMaps task) o whole l slots keeps = cc
-  outcome_kept k e (Refused r) whole l slots keeps = tt
-  outcome_kept k (slot.Anon task home n sharing reserving) (Answered a y) whole l slots keeps = λ o on.
-      own_slot (step.Anon task n sharing reserving) k a y l slots keeps o (ap (λ z. z == o) (eqb-true k 0 whole) ∙ on)
-  outcome_kept k e (Answered a y) whole l slots keeps = λ o on. own_slot (slot_step k e) k a y l slots keeps o on
+  outcome_kept k e o whole l slots keeps = grind (arith, common_steps, own_slot, eqb-true, slot_step)
 
   event_kept : (e : Event) (reply : Reply) → is_whole e ≡ true → IsEvent s e reply t → KeepsOwn s (step_of e) reply t
   event_kept (OnSlot k e) reply whole is =
       let l = ltb-true k (length s.slots) is.1.0 in
       let ends = event_ends (KeepsOn (slot_at s k) k e) s k e reply t (λ c. slot_kept s.page_size k c (slot_at s k) e (left_sound s k l st)) is in
       subst (λ r. KeepsOwn s (slot_step k e) r t) (sym ends.replied) (outcome_kept k e ends.outcome whole l ends.slots ends.holds)
-  event_kept (Tasks (table.FindAndAdd parent child)) reply whole is = cc
-  event_kept (Tasks (table.Remove task)) reply whole is = cc
-  event_kept (Tasks (table.Add task home)) (Ok a) whole is = λ o on. cc
-  event_kept (Tasks (table.Find task)) (Ok a) whole is = λ o on. cc
-  event_kept (OnPool e) (Ok a) whole is = grind (arith, common_steps, step_of)
-  event_kept (Tasks (table.Add task home)) (Err r) whole is = tt
-  event_kept (Tasks (table.Find task)) (Err r) whole is = tt
-  event_kept (OnPool (pool.Nr n)) (Err r) whole is = tt
-  event_kept (OnPool (pool.Overcommit n)) (Err r) whole is = tt
-  event_kept (OnPool pool.Meminfo) (Err r) whole is = tt
-  event_kept (OnPool pool.Nodes) (Err r) whole is = tt
+  event_kept e reply whole is = grind (arith, common_steps, step_of)
 
 early_kept : (s : State) (x : Step) (r : Refusal) → KeepsOwn s x (Err r) s
 early_kept s x r = grind (arith, common_steps, files_same)

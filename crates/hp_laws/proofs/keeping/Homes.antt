@@ -1,8 +1,7 @@
 -- Where tasks have their homes after a change of the table.
 use Rattle.std.proofs.Common.{arith}
 use Rattle.std.proofs.lemmas.Grind.{common_steps}
-use Rattle.std.proofs.Common.{◌≡◌, subst, ℕ, ◌==◌, Bool, true, false, None, Some, Ok, [], ◌∷◌, is_some, option_map, refl, sym, ◌∙◌, if◌then◌else◌}
-use Rattle.std.specs.List.{find}
+use Rattle.std.proofs.Common.{◌≡◌, ℕ, ◌==◌, Bool, true, false, None, Some, Ok, [], ◌∷◌, refl, ◌∙◌, if◌then◌else◌}
 use Rattle.std.proofs.lemmas.Bool.{eq-eqb, eqb-true, false_from_ne_true}
 use Rattle.hp_model.specs.declared.answer.Answer.{Answer}
 use Rattle.hp_model.specs.declared.event.TableEvent.TheVariants as table
@@ -17,11 +16,7 @@ home_added (x ∷ xs) new home task e =
         → (is_known xs new ≡ false → home_of (added xs new home) task ≡ (if new == task then Some home else home_of xs task))
         → home_of (added (x ∷ xs) new home) task ≡ (if new == task then Some home else home_of (x ∷ xs) task)
     by_tests b is true at rest = (let known : is_known (x ∷ xs) new ≡ true = rw at refl in cc)
-    by_tests true is false at rest =
-        let apart : (new == task) ≡ false =
-        false_from_ne_true (new == task) (λ same. (let wrong : (x.0 == new) ≡ true = eq-eqb x.0 new (eqb-true x.0 task is ∙ sym (eqb-true new task same)) in cc)) in rw (is, apart) refl
-    by_tests false is false at rest =
-        rw is (rest (subst (λ b. is_some (option_map (λ (q : ℕ × ℕ). q.1) (if b then Some x else find (λ (q : ℕ × ℕ). q.0 == new) xs)) ≡ false) at e))
+    by_tests b is c at rest = grind (arith, common_steps, false_from_ne_true, eq-eqb, eqb-true)
 
 pub home_removed : (table : Table) (gone task : ℕ) → home_of (removed table gone) task ≡ (if gone == task then None else home_of table task)
 home_removed [] gone task = grind (arith, common_steps)
@@ -31,14 +26,7 @@ home_removed (x ∷ xs) gone task = by_tests (x.0 == gone) refl (gone == task) r
         → home_of (removed xs gone) task ≡ (if gone == task then None else home_of xs task)
         → home_of (removed (x ∷ xs) gone) task ≡ (if gone == task then None else home_of (x ∷ xs) task)
     by_tests true left true same c at rest = rw (left, same) (rest ∙ rw same refl)
-    by_tests true left false apart true at rest =
-        (let wrong : (gone == task) ≡ true = eq-eqb gone task (sym (eqb-true x.0 gone left) ∙ eqb-true x.0 task at) in cc)
-    by_tests true left false apart false at rest = rw (left, apart, at) (rest ∙ rw apart refl)
-    by_tests false stays true same true at rest =
-        (let wrong : (x.0 == gone) ≡ true = eq-eqb x.0 gone (eqb-true x.0 task at ∙ sym (eqb-true gone task same)) in cc)
-    by_tests false stays true same false at rest = rw (stays, same, at) (rest ∙ rw same refl)
-    by_tests false stays false apart true at rest = rw (stays, apart, at) refl
-    by_tests false stays false apart false at rest = rw (stays, apart, at) (rest ∙ rw apart refl)
+    by_tests a other b other' c at rest = grind (arith, common_steps, eq-eqb, eqb-true)
 
 -- a child that is added is not its parent
 pub child_is_another : (nodes parent child : ℕ) (t u : Table) (a : Answer) → table_event nodes t (table.FindAndAdd parent child) ≡ (Ok a, u) → parent ≡ child → ⊥

@@ -183,12 +183,11 @@ module _ (s : State) (h : (k : ℕ) (c : Choice) (e : SlotEvent) → IsSound (sl
       ]
 
   event_meant : (e : Event) (reply : Reply) (t : State) → is_whole e ≡ true → IsEvent s e reply t → Meant s (step_of e) reply t
-  event_meant (Tasks e) reply t whole is = grind (arith, common_steps, idle_meant, step_of, table_idle)
-  event_meant (OnPool e) reply t whole is = grind (arith, common_steps, idle_meant, step_of, pool_idle)
   event_meant (OnSlot k e) reply t whole is =
       let l = ltb-true k (length s.slots) is.1.0 in
       let ends = event_ends (KeepsSlot s.page_size (slot_at s k) e) s k e reply t (λ c. h k c e (left_sound s k l st)) is in
       subst (λ r. Meant s (slot_step k e) r t) (sym ends.replied) (outcome_meant k e t ends.outcome l ends.size ends.slots ends.holds)
+  event_meant e reply t whole is = grind (arith, common_steps, idle_meant, step_of, table_idle, pool_idle)
 
   pub step_meant : (reply : Reply) (t : State) (step : Step) → IsStep s step reply t → Meant s step reply t
   step_meant reply t step is =

@@ -49,8 +49,6 @@ module _ (size k : ℕ) (c : Choice) (m : Mount) where
 
   module _ (e : SlotEvent) (stores : (j x : ℕ) (old : List ℕ) → old ≡ stored_by size (Some m) e j x old) (sees : (j l x : ℕ) (old : List ℕ) → old ≡ seen_by size (Some m) e j l x old) where
     quiet_keeps : (o : Outcome) → Quiet size (Some m) o → On (Placed m) o → KeepsSlot size (Some m) e o
-    quiet_keeps (Refused r) quiet stays = tt
-    quiet_keeps (Answered a None) quiet stays = absurd stays
     quiet_keeps (Answered a (Some n)) quiet stays =
         by_place size m n e (record {
           names = λ name f goes_on named. stays.names name f named;
@@ -59,6 +57,7 @@ module _ (size k : ℕ) (c : Choice) (m : Mount) where
           maps = λ task number x p found. inl (quiet.1 p.file_no p.map_no x ∙ sees p.file_no p.map_no x (seen_on size (Some m) p.file_no p.map_no x));
           marks = λ task number p found marked. quiet.2 p.file_no p.map_no ∙ marked;
         })
+    quiet_keeps o quiet stays = grind (arith, common_steps)
 
   on_placed : (p : Plan) → Always (On (λ n. keys n ≡ keys m)) p → Always (On (Placed m)) p
   on_placed p all = placed_on c m p all
@@ -85,8 +84,6 @@ module _ (size k : ℕ) (c : Choice) (m : Mount) where
     same_quiet (Answered a (Some n)) on = (on.cells, on.maps, on.marks)
 
     touched : IsSoundMount m → (o : Outcome) → On (Result size m s at i) o → On (λ n. keys n ≡ keys m) o → KeepsSlot size (Some m) (slot.Fault task home number i Write) o
-    touched sound (Refused r) done same = tt
-    touched sound (Answered a None) done same = absurd done
     touched sound (Answered a (Some n)) done same =
         let stays = placed_same m n same in
         by_place size m n (slot.Fault task home number i Write) (record {
@@ -99,6 +96,7 @@ module _ (size k : ℕ) (c : Choice) (m : Mount) where
               (touched_seen size m sound s at i 0 [] n done p.file_no p.map_no x);
           marks = λ t u p e marked. touched_marks size m sound s at i 0 [] n done p.file_no p.map_no marked;
         })
+    touched sound o done same = grind (arith, common_steps)
 
     fault_keeps : IsSoundMount m → (intent : Intent) → Always (KeepsSlot size (Some m) (slot.Fault task home number i intent)) (fault c size m home i intent s)
     fault_keeps sound Read =
@@ -121,8 +119,6 @@ module _ (size k : ℕ) (c : Choice) (m : Mount) where
 
     stored_keeps : (offset : ℕ) (bytes : List ℕ) (o : Outcome) → Stores size (Some m) (spot_on (Some m) task number) i offset bytes o → On (Placed m) o
         → KeepsSlot size (Some m) (slot.Store task home number i offset bytes) o
-    stored_keeps offset bytes (Refused r) stored stays = tt
-    stored_keeps offset bytes (Answered a None) stored stays = absurd stays
     stored_keeps offset bytes (Answered a (Some n)) stored stays =
         by_place size m n (slot.Store task home number i offset bytes) (record {
           names = λ name f goes_on named. stays.names name f named;
@@ -131,6 +127,7 @@ module _ (size k : ℕ) (c : Choice) (m : Mount) where
           maps = λ t u x p e. stored.1 p.file_no p.map_no x;
           marks = λ t u p e marked. stored.2 p.file_no p.map_no marked;
         })
+    stored_keeps offset bytes o stored stays = grind (arith, common_steps)
 
     store_keeps : IsSoundMount m → (offset : ℕ) (bytes : List ℕ) → Always (KeepsSlot size (Some m) (slot.Store task home number i offset bytes)) (store c size m home i offset bytes s)
     store_keeps sound offset bytes =

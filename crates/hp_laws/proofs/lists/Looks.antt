@@ -57,10 +57,9 @@ module _ {X Y : Type 0} (g : X → Y) (d : X) where
 
 pub edit_other : {X : Type 0} (f : X → X) (d : X) (xs : List X) (k j : ℕ) → (j ≡ k → ⊥) → get_or (edit_at f xs k) j d ≡ get_or xs j d
 edit_other f d [] k j other = refl
-edit_other f d (x ∷ xs) zero zero other = absurd (other refl)
 edit_other f d (x ∷ xs) zero (suc j) other = refl
-edit_other f d (x ∷ xs) (suc k) zero other = refl
 edit_other f d (x ∷ xs) (suc k) (suc j) other = edit_other f d xs k j (λ same. other (ap suc same))
+edit_other f d (x ∷ xs) k zero other = grind (arith, common_steps)
 
 pub edit_here : {X : Type 0} (f : X → X) (d : X) → f d ≡ d → (xs : List X) (k : ℕ) → get_or (edit_at f xs k) k d ≡ f (get_or xs k d)
 edit_here f d e [] k = sym e
@@ -80,7 +79,6 @@ edit_past f (x ∷ xs) (suc k) l = ap (λ ys. x ∷ ys) (edit_past f xs k (omega
 -- an edit that a look does not see
 pub same_edit : {X Y : Type 0} (g : X → Y) (d : X) (f : X → X) → ((x : X) → g (f x) ≡ g x) → (xs : List X) (k j : ℕ) → g (get_or (edit_at f xs k) j d) ≡ g (get_or xs j d)
 same_edit g d f h [] k j = refl
-same_edit g d f h (x ∷ xs) zero zero = h x
 same_edit g d f h (x ∷ xs) zero (suc j) = refl
-same_edit g d f h (x ∷ xs) (suc k) zero = refl
 same_edit g d f h (x ∷ xs) (suc k) (suc j) = same_edit g d f h xs k j
+same_edit g d f h (x ∷ xs) k zero = grind (arith, common_steps)

@@ -32,9 +32,7 @@ nodes_all n counts is = grind (arith, common_steps, length-nodes_from, take-appe
 
 count_same : (n node : ℕ) (b : Bool) → (node == n) ≡ b → (k : ℕ) → count_of n (replicate k node) ≡ cond b k 0
 count_same n node true is zero = refl
-count_same n node false is zero = refl
-count_same n node true is (suc k) = grind (arith, common_steps, bit, count_cons)
-count_same n node false is (suc k) = grind (arith, common_steps, bit, count_cons)
+count_same n node b is k = grind (arith, common_steps, bit, count_cons)
 
 pub count_join : (n : ℕ) (xs ys : List ℕ) → count_of n (xs ++ ys) ≡ count_of n xs + count_of n ys
 count_join n xs ys = sum_by-append (λ k. cond (k == n) 1 0) xs ys

@@ -15,9 +15,7 @@ use Rattle.hp_model.specs.declared.step.Sharing.{Sharing}
 use Rattle.hp_model.specs.declared.step.Step.{Step}
 use Rattle.hp_model.specs.declared.step.Step.TheVariants.{Anon as AnonStep, Create as CreateStep, Map as MapStep, Preallocate}
 use Rattle.hp_model.specs.declared.event.Event.{Event}
-use Rattle.hp_model.specs.declared.event.Event.TheVariants.{Tasks, Slot as OnSlot, Pool as OnPool}
-use Rattle.hp_model.specs.declared.event.PoolEvent.TheVariants as pool
-use Rattle.hp_model.specs.declared.event.TableEvent.TheVariants as table
+use Rattle.hp_model.specs.declared.event.Event.TheVariants.{Slot as OnSlot}
 use Rattle.hp_model.specs.files.File.{File, Mount, maps_of, new_file, with_file, at_least, has_page}
 use Rattle.hp_model.specs.Lists.{found, one_on}
 use Rattle.hp_model.specs.files.MakeMap.{asked, mapped, new_map, next_number, numbers_of, with_new}
@@ -227,8 +225,7 @@ found_none {X = X} t (x ∷ xs) e = by_head (t x) refl (found t xs) refl e (foun
     by_head : (b : Bool) → t x ≡ b → (r : Option (ℕ × X)) → found t xs ≡ r → (if b then Some (0, x) else option_map one_on r) ≡ None →
         (found t xs ≡ None → list_any t xs ≡ false) → list_any t (x ∷ xs) ≡ false
     by_head true is r was e rest = cc
-    by_head false is None was e rest = rw (is, rest was) refl
-    by_head false is (Some p) was e rest = cc
+    by_head b is r was e rest = grind (arith, common_steps)
 
 create_made : (size k : ℕ) (c : Choice) (old : Slot) (name : List ℕ) → Always (FileMade old name) (slot_event size k c old (slot.Create name))
 create_made size k c None name = tt
@@ -283,13 +280,7 @@ module _ (s : State) where
       let ends = event_ends (AnonMade (slot_at s k) task n sharing reserving) s k e reply t (λ c. anon_made s.page_size k c (slot_at s k) task home n sharing reserving) is in
       subst (λ x. Makes s (AnonStep task n sharing reserving) x t) (sym ends.replied)
       (anon_makes t k (ltb-true k (length s.slots) is.1.0) task n sharing reserving ends.outcome (eqb-true k 0 whole) ends.holds ends.slots)
-  event_makes (OnSlot k (slot.ForkMaps parent child)) reply t whole is = cc
-  event_makes (OnSlot k (slot.ExitMaps task)) reply t whole is = cc
-  event_makes (OnSlot k other) reply t whole is = tt
-  event_makes (Tasks (table.Add task home)) reply t whole is = tt
-  event_makes (Tasks other) reply t whole is = tt
-  event_makes (OnPool pool.Meminfo) reply t whole is = tt
-  event_makes (OnPool other) reply t whole is = tt
+  event_makes e reply t whole is = grind (arith, common_steps)
 
   pub step_makes : (reply : Reply) (t : State) (step : Step) → IsStep s step reply t → Makes s step reply t
   step_makes reply t step is = by_event s (λ step reply t. Makes s step reply t) (λ step r early. makes_none s step r) event_makes

@@ -37,9 +37,7 @@ first_or_none t a (suc k) = by_test (t a) refl (first_or_none t (a + 1) k)
   where
     by_test : (b : Bool) → t a ≡ b → FirstOrNone t (a + 1) (range_with_len (a + 1) k) → FirstOrNone t a (range_with_len a (suc k))
     by_test true is rest = inl (rw is (subst (λ x. t x ≡ true) {x = a} {y = a + 0} (omega arith) is))
-    by_test false is (inl e) = inl (rw is (subst (λ x. t x ≡ true) {x = a + 1 + position_or_len t (range_with_len (a + 1) k)}
-        {y = a + (1 + position_or_len t (range_with_len (a + 1) k))} (omega arith) e))
-    by_test false is (inr none) = inr (λ q e. ⊎_elim (λ here. subst (λ x. t x ≡ false) (eqb-true a q here) is) (λ later. none q later) (or_cases (a == q) (is_among q (range_with_len (a + 1) k)) e))
+    by_test b is other = grind (arith, common_steps, eqb-true, or_cases)
 
 not_not : (b : Bool) → not b ≡ true → b ≡ false
 not_not b e = grind (arith, common_steps)

@@ -9,18 +9,16 @@ use Rattle.hp_model.specs.declared.answer.Answer.TheVariants.{MapNo}
 use Rattle.hp_model.specs.declared.cell.Cell.{Cell}
 use Rattle.hp_model.specs.declared.cell.Cell.TheVariants.{Hole}
 use Rattle.hp_model.specs.declared.event.Event.{Event}
-use Rattle.hp_model.specs.declared.event.Event.TheVariants.{Tasks, Slot as OnSlot, Pool as OnPool}
-use Rattle.hp_model.specs.declared.event.PoolEvent.TheVariants as pool
+use Rattle.hp_model.specs.declared.event.Event.TheVariants.{Slot as OnSlot}
 use Rattle.hp_model.specs.declared.event.SlotEvent.TheVariants as slot
-use Rattle.hp_model.specs.declared.event.TableEvent.TheVariants as table
 use Rattle.hp_model.specs.declared.place.Place.{Place}
 use Rattle.hp_model.specs.declared.place.Place.TheVariants.{Live}
 use Rattle.hp_model.specs.declared.refusal.Refusal.{Refusal}
 use Rattle.hp_model.specs.declared.refusal.Refusal.TheVariants.{NoSuchFile}
 use Rattle.hp_model.specs.declared.step.Reserving.{Reserving}
-use Rattle.hp_model.specs.declared.step.Reserving.TheVariants.{NoReserve, Reserve}
+use Rattle.hp_model.specs.declared.step.Reserving.TheVariants.{Reserve}
 use Rattle.hp_model.specs.declared.step.Sharing.{Sharing}
-use Rattle.hp_model.specs.declared.step.Sharing.TheVariants.{Private, Shared}
+use Rattle.hp_model.specs.declared.step.Sharing.TheVariants.{Shared}
 use Rattle.hp_model.specs.declared.step.Step.{Step}
 use Rattle.hp_model.specs.declared.step.Step.TheVariants.{Anon as AnonStep, Map as MapStep}
 use Rattle.hp_model.specs.files.File.{File, at_least, cell_in, entered, is_entered, new_file, with_file}
@@ -69,8 +67,7 @@ module _ (task number a n : ℕ) where
       ap is_entered (get_or-edit_in entered a (a + n) (at_least (a + n) f.cells) i Hole
       (leb-true a i both.0) (ltb-true i (a + n) both.1) (omega (arith, ltb-true i (a + n) both.1, long_enough f.cells)))
       ∙ is_in_entered (cell_in (at_least (a + n) f.cells) i)
-  range_there Private Reserve f on i there = grind (arith, common_steps, and_parts, place_there, leb-true, ltb-true)
-  range_there sharing NoReserve f on i there = cc
+  range_there sharing reserving f on i there = grind (arith, common_steps, and_parts, place_there, leb-true, ltb-true)
 
   pub new_range : (sharing : Sharing) (reserving : Reserving) (f : File) (s : Spot) → s.map ≡ new_map task number a n sharing reserving
       → s.file ≡ mapped task number a n sharing reserving f → IsRange s (length f.cells) a n reserving
@@ -133,13 +130,7 @@ module _ (s : State) where
       let ends = event_ends (FileMapped (slot_at s k) name task a n sharing reserving) s k e reply t (λ c. file_mapped s.page_size k c (slot_at s k) task home name a n sharing reserving) is in
       subst (λ x. MapsFile s (MapStep task k name a n sharing reserving) x t) (sym ends.replied)
       (file_maps t k (ltb-true k (length s.slots) is.1.0) task name a n sharing reserving ends.outcome ends.holds ends.slots)
-  event_maps (OnSlot k (slot.ForkMaps parent child)) reply t whole is = cc
-  event_maps (OnSlot k (slot.ExitMaps task)) reply t whole is = cc
-  event_maps (OnSlot k other) reply t whole is = tt
-  event_maps (Tasks (table.Add task home)) reply t whole is = tt
-  event_maps (Tasks other) reply t whole is = tt
-  event_maps (OnPool pool.Meminfo) reply t whole is = tt
-  event_maps (OnPool other) reply t whole is = tt
+  event_maps e reply t whole is = grind (arith, common_steps)
 
   step_maps : (reply : Reply) (t : State) (step : Step) → IsStep s step reply t → MapsFile s step reply t
   step_maps reply t step is = by_event s (λ step reply t. MapsFile s step reply t) (λ step r early. maps_none s step r) event_maps

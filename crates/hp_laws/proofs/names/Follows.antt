@@ -195,10 +195,7 @@ found_fewer {X = X} t u less (x ∷ xs) q e passes = by_head (t x) refl (found t
         → (if b then Some (0, x) else option_map one_on r) ≡ Some q → found u (x ∷ xs) ≡ Some q
     by_head true is r was rest e =
         let same : (0, x) ≡ q = cc in subst (λ (p : ℕ × X). found u (x ∷ xs) ≡ Some p) same (rw (subst (λ (p : ℕ × X). u p.1 ≡ true) (sym same) passes) refl)
-    by_head false is None was rest e = cc
-    by_head false is (Some p) was rest e =
-        let same : (p.0 + 1, p.1) ≡ q = cc in
-        subst (λ (w : ℕ × X). found u (x ∷ xs) ≡ Some w) same (rw (not_first is, rest p was (subst (λ (w : ℕ × X). u w.1 ≡ true) (sym same) passes)) refl)
+    by_head b is r was rest e = grind (arith, common_steps, not_first)
 
 -- each file has its name and cells, and a map that passes is found in it still
 pub record FilesFollow (h : File → File) (ok : Map → Bool) : Type 0 where

@@ -45,8 +45,7 @@ found_mapped {X = X} t key (x ∷ xs) = by_head (t (key x)) (found (λ x. t (key
     by_head : (b : Bool) (r : Option (ℕ × X)) → found t (map key xs) ≡ option_map (keyed key) r
         → (if b then Some (0, key x) else option_map one_on (found t (map key xs))) ≡ option_map (keyed key) (if b then Some (0, x) else option_map one_on r)
     by_head true r e = refl
-    by_head false None e = ap (option_map one_on) e
-    by_head false (Some q) e = ap (option_map one_on) e
+    by_head b r e = grind (arith, common_steps)
 
 pub found_same : {X : Type 0} (t u : X → Bool) → ((x : X) → t x ≡ u x) → (xs : List X) → found t xs ≡ found u xs
 found_same t u h xs = grind (arith, common_steps)

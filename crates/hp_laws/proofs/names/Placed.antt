@@ -33,8 +33,7 @@ found_more {X = X} t (x ∷ xs) ys q e = by_head (t x) (found t xs) refl (λ p w
     by_head : (b : Bool) (r : Option (ℕ × X)) → found t xs ≡ r → ((p : ℕ × X) → found t xs ≡ Some p → found t (xs ++ ys) ≡ Some p)
         → (if b then Some (0, x) else option_map one_on r) ≡ Some q → (if b then Some (0, x) else option_map one_on (found t (xs ++ ys))) ≡ Some q
     by_head true r was rest e = e
-    by_head false None was rest e = cc
-    by_head false (Some p) was rest e = ap (option_map one_on) (rest p was) ∙ e
+    by_head b r was rest e = grind (arith, common_steps)
 
 pub lead_more : (ks more : List FileKey) → KeysLead ks (ks ++ more)
 lead_more ks more =
@@ -73,8 +72,7 @@ found_set {X = X} t (x ∷ xs) (suc j) y same = by_head (t x) (found t xs) (foun
     by_head : (b : Bool) (r s : Option (ℕ × X)) → s ≡ option_map (put_at j y) r →
         (if b then Some (0, x) else option_map one_on s) ≡ option_map (put_at (suc j) y) (if b then Some (0, x) else option_map one_on r)
     by_head true r s rest = ap (λ b. Some (0, if b then y else x)) (sym (zero_not_suc j))
-    by_head false None s rest = ap (option_map one_on) rest
-    by_head false (Some p) s rest = ap (option_map one_on) rest ∙ ap Some (later j y p)
+    by_head b r s rest = grind (arith, common_steps, later)
 
 -- ---- a file gets one map more, of a key that is not there yet
 

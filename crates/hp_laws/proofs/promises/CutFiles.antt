@@ -11,10 +11,8 @@ use Rattle.hp_model.specs.declared.answer.Answer.TheVariants.{Done}
 use Rattle.hp_model.specs.declared.cell.Cell.{Cell}
 use Rattle.hp_model.specs.declared.cell.Cell.TheVariants.{Hole}
 use Rattle.hp_model.specs.declared.event.Event.{Event}
-use Rattle.hp_model.specs.declared.event.Event.TheVariants.{Tasks, Slot as OnSlot, Pool as OnPool}
-use Rattle.hp_model.specs.declared.event.PoolEvent.TheVariants as pool
+use Rattle.hp_model.specs.declared.event.Event.TheVariants.{Slot as OnSlot}
 use Rattle.hp_model.specs.declared.event.SlotEvent.TheVariants as slot
-use Rattle.hp_model.specs.declared.event.TableEvent.TheVariants as table
 use Rattle.hp_model.specs.declared.place.Place.{Place}
 use Rattle.hp_model.specs.declared.refusal.Refusal.{Refusal}
 use Rattle.hp_model.specs.declared.refusal.Refusal.TheVariants.{NoSuchFile, OutOfRange}
@@ -155,13 +153,7 @@ module _ (s : State) (st : IsSettledState s) where
       (λ c. punch_cuts s.page_size k c (slot_at s k) name a b) is in
       subst (λ r. Cuts s (step.Punch k name a b) r t) (sym ends.replied)
       (is_cut t k l name (pages_of_file was) (is_in a b) (λ i. cell_punched (cell_of was i)) (step.Punch k name a b) (λ r. tt) (λ x h. h) ends.outcome ends.holds ends.slots)
-  event_cuts (OnSlot k (slot.ForkMaps parent child)) reply t whole is = cc
-  event_cuts (OnSlot k (slot.ExitMaps task)) reply t whole is = cc
-  event_cuts (OnSlot k other) reply t whole is = tt
-  event_cuts (Tasks (table.Add task home)) reply t whole is = tt
-  event_cuts (Tasks other) reply t whole is = tt
-  event_cuts (OnPool pool.Meminfo) reply t whole is = tt
-  event_cuts (OnPool other) reply t whole is = tt
+  event_cuts e reply t whole is = grind (arith, common_steps)
 
   pub step_cuts : (reply : Reply) (t : State) (x : Step) → IsStep s x reply t → Cuts s x reply t
   step_cuts reply t x is = by_event s (λ x reply t. Cuts s x reply t) (λ x r early. uncut x r s) event_cuts (λ parent child reply t it. tt) (λ task reply t it. tt) reply t x is

@@ -11,11 +11,9 @@ use Rattle.hp_model.specs.declared.answer.Answer.TheVariants.{Done}
 use Rattle.hp_model.specs.declared.cell.Cell.{Cell}
 use Rattle.hp_model.specs.declared.cell.Cell.TheVariants.{Entered, Hole, Present}
 use Rattle.hp_model.specs.declared.event.Event.{Event}
-use Rattle.hp_model.specs.declared.event.Event.TheVariants.{Tasks, Slot as OnSlot, Pool as OnPool}
-use Rattle.hp_model.specs.declared.event.PoolEvent.TheVariants as pool
+use Rattle.hp_model.specs.declared.event.Event.TheVariants.{Slot as OnSlot}
 use Rattle.hp_model.specs.declared.event.SlotEvent.{SlotEvent}
 use Rattle.hp_model.specs.declared.event.SlotEvent.TheVariants as slot
-use Rattle.hp_model.specs.declared.event.TableEvent.TheVariants as table
 use Rattle.hp_model.specs.declared.place.Place.{Place}
 use Rattle.hp_model.specs.declared.place.Place.TheVariants.{Gone, Live}
 use Rattle.hp_model.specs.declared.refusal.Refusal.{Refusal}
@@ -373,8 +371,7 @@ module _ (u : State) (size task number i : ℕ) (intent : Intent) (m n : Mount) 
     where
       held : (o a : Option Spot) → IsLostTo o a i p q j → (is_some (copy_of (place_at p.map j)) ≡ true) × (copy_of (place_at q.map j) ≡ None)
       held None a lost = absurd lost
-      held (Some o) None lost = absurd lost
-      held (Some o) (Some a) lost = (same_copy (place_at o.map i) (place_at p.map j) lost.1.held, lost.1.lost)
+      held (Some o) a lost = grind (arith, common_steps, same_copy)
 
       kept : ((j l x : ℕ) → has_copy m j l x ≡ true → has_copy n j l x ≡ true) → ⊥
       kept keeps =
@@ -407,20 +404,18 @@ module _ (s : State) where
       -- of the slot, as it was and as it is
       is_touched : (o : Outcome) → Ended s s.page_size task number i intent (slot_at s k) o → t.slots ≡ slice_set s.slots k (left_by (slot_at s k) o)
           → (a : Answer) → reply_of o ≡ Ok a → IsTouched intent (map_named t k task number) i
-      is_touched (Refused r) it slots a answered = cc
-      is_touched (Answered b None) it slots a answered = absurd it
       is_touched (Answered b (Some n)) it slots a answered = by_slot (slot_at s k) it
         where
           by_slot : (x : Slot) → Ended s s.page_size task number i intent x (Answered b (Some n)) → IsTouched intent (map_named t k task number) i
           by_slot None it = absurd it
           by_slot (Some m) it = subst (λ y. IsTouched intent (spot_on y task number) i) (sym (left_there (Some n) slots)) (touched s s.page_size task number i intent m n it)
+      is_touched o it slots a answered = grind (arith, common_steps)
 
       is_taken : (o : Outcome) → Ended s s.page_size task number i intent (slot_at s k) o → t.slots ≡ slice_set s.slots k (left_by (slot_at s k) o)
           → (v w j : ℕ) (p q : Spot) → map_named s k v w ≡ Some p → map_named t k v w ≡ Some q → IsLostTo (map_named s k task number) (map_named t k task number) i p q j
           → can_have_page (pool_of s) (slot_at s k) ≡ false
       is_taken (Refused r) it slots v w j p q was now lost = grind (arith, common_steps, left_there, nothing_lost)
-      is_taken (Answered b None) it slots v w j p q was now lost = absurd it
-      is_taken (Answered b (Some n)) it slots v w j p q was now lost = grind (arith, common_steps, left_there, taken)
+      is_taken o it slots v w j p q was now lost = grind (arith, common_steps, left_there, taken)
 
   reach : (x : Step) (reply : Reply) (t : State) → Touches x reply t → Takes s x t → Reaches s x reply t
   reach x reply t a b = record { touched = a; taken = b }
@@ -474,13 +469,7 @@ module _ (s : State) where
       (by_reply Write (map_named t k task number) i (step.Store task k number i offset bytes) t (λ a there. there) (λ r. tt) reply
       (λ a answered. is_touched t k l task number i Write ends.outcome ends.holds ends.slots a (sym ends.replied ∙ answered)))
       (on_slot t k task number i (is_taken t k l task number i Write ends.outcome ends.holds ends.slots))
-  event_reaches (OnSlot k (slot.ForkMaps parent child)) reply t whole is = cc
-  event_reaches (OnSlot k (slot.ExitMaps task)) reply t whole is = cc
-  event_reaches (OnSlot k other) reply t whole is = reach (slot_step k other) reply t tt (λ o v w j p q was now lost. absurd lost)
-  event_reaches (Tasks (table.Add task home)) reply t whole is = reach (step.Connect task home) reply t tt (λ o v w j p q was now lost. absurd lost)
-  event_reaches (Tasks other) reply t whole is = reach (step_of (Tasks other)) reply t tt (λ o v w j p q was now lost. absurd lost)
-  event_reaches (OnPool pool.Meminfo) reply t whole is = reach step.Meminfo reply t tt (λ o v w j p q was now lost. absurd lost)
-  event_reaches (OnPool other) reply t whole is = reach (step_of (OnPool other)) reply t tt (λ o v w j p q was now lost. absurd lost)
+  event_reaches e reply t whole is = grind (arith, common_steps, reach, slot_step, step_of)
 
   pub step_reaches : (reply : Reply) (t : State) (x : Step) → IsStep s x reply t → Reaches s x reply t
   step_reaches reply t x is =

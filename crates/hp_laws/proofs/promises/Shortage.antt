@@ -397,7 +397,6 @@ module _ (s : State) where
     store_meets task home number i offset bytes o h = grind (arith, common_steps)
 
     meets : (e : SlotEvent) → is_remount e ≡ false → is_whole (OnSlot k e) ≡ true → At (Meets k e) (slot_event s.page_size k c (slot_at s k) e)
-    meets (slot.Mount options) other whole = grind (arith, common_steps, turn, mount_meets, of_mount)
     meets (slot.Map task home name a n sharing reserving) other whole =
         turn (slot.Map task home name a n sharing reserving) (ShortOn (slot_at s k) (step.Map task k name a n sharing reserving))
         (map_meets task home name a n sharing reserving) (of_map c s.page_size k (slot_at s k) task home name a n sharing reserving)
@@ -415,8 +414,7 @@ module _ (s : State) where
     meets (slot.Store task home number i offset bytes) other whole =
         turn (slot.Store task home number i offset bytes) (ShortOn (slot_at s k) (step.Store task k number i offset bytes))
         (store_meets task home number i offset bytes) (of_store c s.page_size k (slot_at s k) task home number i offset bytes)
-    meets (slot.Remount options) other whole = cc
-    meets e other whole = of_plain e refl
+    meets e other whole = grind (arith, common_steps, turn, mount_meets, of_mount, of_plain)
 
 -- ---- the table and the pool
 
@@ -534,14 +532,7 @@ module _ (s : State) where
 
   early_short : (x : Step) (r : Refusal) → is_early r ≡ true → MeetsShortage s x (Err r)
   early_short (step.Mount k options) r early = plain_mount (limits s.nr s.page_size (wanted_of options)) r (early_pages r early)
-  early_short (step.Remount k options) r early = plain_remount (slot_at s k) (limits s.nr s.page_size (wanted_of options)) r (early_pages r early)
-  early_short (step.Preallocate k name a b) r early = plain_on (slot_at s k) (step.Preallocate k name a b) r (early_pages r early)
-  early_short (step.Map task k name a n sharing reserving) r early = plain_on (slot_at s k) (step.Map task k name a n sharing reserving) r (early_pages r early)
-  early_short (step.Anon task n sharing reserving) r early = plain_on (slot_at s 0) (step.Anon task n sharing reserving) r (early_pages r early)
-  early_short (step.Fault task k number i t) r early = plain_on (slot_at s k) (step.Fault task k number i t) r (early_pages r early)
-  early_short (step.Load task k number i offset count) r early = plain_on (slot_at s k) (step.Load task k number i offset count) r (early_pages r early)
-  early_short (step.Store task k number i offset bytes) r early = plain_on (slot_at s k) (step.Store task k number i offset bytes) r (early_pages r early)
-  early_short x r early = early_pages r early
+  early_short x r early = grind (arith, common_steps, plain_remount, early_pages, plain_on)
 
   event_short : (e : Event) (reply : Reply) (t : State) → is_whole e ≡ true → IsEvent s e reply t → MeetsShortage s (step_of e) reply
   event_short (OnSlot k (slot.Remount options)) reply t whole is = event_remount k options (slot_at s k) refl reply t is

@@ -72,8 +72,7 @@ module _ (s : State) where
 
   event_makes : (e : Event) (reply : Reply) (t : State) → is_whole e ≡ true → IsEvent s e reply t → Makes s (step_of e) reply t
   event_makes (OnSlot k e) reply t whole is = slot_step_makes k e reply t whole is
-  event_makes (Tasks e) reply t whole is = same_makes s (step_of (Tasks e)) reply t (sym (ap (λ (q : Reply × State). q.1.slots) is.2))
-  event_makes (OnPool e) reply t whole is = same_makes s (step_of (OnPool e)) reply t (sym (ap (λ (q : Reply × State). q.1.slots) is.2))
+  event_makes e reply t whole is = grind (arith, common_steps, same_makes, step_of)
 
 -- ---- a fork and an exit
 

@@ -83,8 +83,7 @@ pool_committed p e = grind (arith, common_steps)
 
 event_bounded : (s : State) → IsSettledState s → (e : Event) (reply : Reply) (t : State) → IsEvent s e reply t → IsBounded s t
 event_bounded s st (OnSlot k e) reply t is = bounded s t (slot_commits s st k e reply t is)
-event_bounded s st (Tasks e) reply t is = bounded s t (table_commits s st e reply t is)
-event_bounded s st (OnPool e) reply t is = grind (arith, common_steps, same_bounded, event_tied, pool_committed)
+event_bounded s st e reply t is = grind (arith, common_steps, bounded, table_commits, same_bounded, event_tied, pool_committed)
 
 -- of scripts that end maps of a task
 abbrev Goes : (s t : State) → Type 0

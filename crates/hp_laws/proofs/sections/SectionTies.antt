@@ -138,10 +138,9 @@ record Took (p q : Pool) (n : ℕ) : Type 0 where
 
 one_more : (us : List ℕ) (i k : ℕ) → slice_index_or us k 0 ≤ slice_index_or (edit_at (λ x. x + 1) us i) k 0
 one_more [] i k = omega arith
-one_more (u ∷ us) zero zero = omega arith
 one_more (u ∷ us) zero (suc k) = omega arith
-one_more (u ∷ us) (suc i) zero = omega arith
 one_more (u ∷ us) (suc i) (suc k) = one_more us i k
+one_more (u ∷ us) i zero = grind (arith, common_steps)
 
 sum_more : (us : List ℕ) (i : ℕ) → i < length us → sum (edit_at (λ x. x + 1) us i) ≡ sum us + 1
 sum_more [] i l = absurd (omega (arith, l))

@@ -12,11 +12,11 @@ use Rattle.hp_model.specs.declared.answer.Answer.TheVariants.{Done}
 use Rattle.hp_model.specs.declared.entry.PoolEntry.{PoolEntry}
 use Rattle.hp_model.specs.declared.entry.PoolEntry.TheVariants.{OfPool, OfSlot}
 use Rattle.hp_model.specs.declared.event.PoolEvent.{PoolEvent}
-use Rattle.hp_model.specs.declared.event.PoolEvent.TheVariants.{Nr, Overcommit, Meminfo, Nodes}
+use Rattle.hp_model.specs.declared.event.PoolEvent.TheVariants.{Nr}
 use Rattle.hp_model.specs.declared.event.SlotEvent.{SlotEvent}
 use Rattle.hp_model.specs.declared.event.SlotEvent.TheVariants as slot
 use Rattle.hp_model.specs.declared.event.TableEvent.{TableEvent}
-use Rattle.hp_model.specs.declared.event.TableEvent.TheVariants.{Add, Find, FindAndAdd, Remove}
+use Rattle.hp_model.specs.declared.event.TableEvent.TheVariants.{Remove}
 use Rattle.hp_model.specs.declared.refusal.Refusal.TheVariants.{NoSuchTask, TaskExists, TooMany}
 use Rattle.hp_model.specs.files.File.{Mount}
 use Rattle.hp_model.specs.files.MakeMap.{tasks_of}
@@ -70,9 +70,6 @@ shorter p f (x ∷ xs) e = go (p x) (shorter p f xs) e
     go false rest e = (let l = rest e in omega (arith, l))
 
 pub table_places : (nodes : ℕ) (t : Table) (e : TableEvent) → length t ≤ most_tasks → Keeps t (removes_task t e) (table_event nodes t e)
-table_places nodes t (Add task home) few = grind (arith, common_steps, cond_both, same_table, adds)
-table_places nodes t (Find task) few = grind (arith, common_steps, same_table)
-table_places nodes t (FindAndAdd parent child) few = grind (arith, common_steps, same_table, adds)
 table_places nodes t (Remove task) few = at (home_of t task) refl
   where
     at : (o : Option ℕ) → home_of t task ≡ o → Keeps t (is_some o) (when_known t o (λ home. (Ok Done, removed t task)))
@@ -80,6 +77,7 @@ table_places nodes t (Remove task) few = at (home_of t task) refl
     at (Some home) is =
         let less = shorter {X = ℕ × ℕ} (λ e. e.0 == task) (λ e. e.1) t (ap is_some is) in
         record { enough = omega (arith, less, few); less = λ e. less }
+table_places nodes t e few = grind (arith, common_steps, cond_both, same_table, adds)
 
 -- ---- a slot
 
@@ -180,9 +178,7 @@ given_less puts k p q s held is some =
 
 event_frames : (p : Pool) (e : PoolEvent) → IsSettledPool p → frames_of (pool_event p e).1.nodes.rows ≡ frames_of p.nodes.rows
 event_frames p (Nr n) s = same_frames (set_nr n p).nodes.rows p.nodes.rows (set_leads n p s).frames
-event_frames p (Overcommit n) s = grind (arith, common_steps, cond_both)
-event_frames p Meminfo s = refl
-event_frames p Nodes s = refl
+event_frames p e s = grind (arith, common_steps, cond_both)
 
 pub step_frames : (p q : Pool) (e : PoolEntry) → IsSettledPool p → IsPoolStep p e q → frames_of q.nodes.rows ≡ frames_of p.nodes.rows
 step_frames p q (OfSlot sec a) s step = section_frames p sec a q step

@@ -1,11 +1,11 @@
 -- The counts of a settled machine are sums over files and maps, and limits and minimums hold.
 use Rattle.std.proofs.lemmas.Grind.{common_steps}
-use Rattle.std.proofs.Common.{◌≡◌, ⊎_elim, inl, subst, ℕ, ◌+◌, ◌<◌, ◌≤◌, None, List, length, sym, ap, ◌∙◌, arith}
+use Rattle.std.proofs.Common.{◌≡◌, ⊎_elim, subst, ℕ, ◌+◌, ◌<◌, ◌≤◌, None, List, length, sym, ap, ◌∙◌, arith}
 use Rattle.std.specs.List.{sum, slice_set, slice_index_or, range_with_len}
 use Rattle.std.proofs.lemmas.Bool.{ltb-true}
 use Rattle.std.proofs.lemmas.List.Sums.{sum-map}
 use Rattle.hp_model.specs.declared.event.Event.{Event}
-use Rattle.hp_model.specs.declared.event.Event.TheVariants.{Tasks, Slot as OnSlot, Pool as OnPool}
+use Rattle.hp_model.specs.declared.event.Event.TheVariants.{Slot as OnSlot}
 use Rattle.hp_laws.specs.Balance.{IsBalanced, IsLimited, left_by}
 use Rattle.hp_model.specs.machine.Plan.{IsWithinLimit, slot_usage}
 use Rattle.hp_model.specs.machine.Event.{after, CanHappen, planned}
@@ -74,12 +74,11 @@ at_slot : (xs : List Slot) (k j : ℕ) (n : Slot) → k < length xs → j < leng
 at_slot xs k j n lk lj h = grind (arith, common_steps)
 
 event_limited : (c : Choice) (s : State) (e : Event) (j : ℕ) → CanHappen c s e → j < length s.slots → IsSettledState s → IsLimited (slot_at s j) (slot_at (after c s e).1 j)
-event_limited c s (Tasks e) j can lj st = inl (omega arith)
-event_limited c s (OnPool e) j can lj st = inl (omega arith)
 event_limited c s (OnSlot k e) j can lj st =
     let lk : k < length s.slots = ltb-true k (length s.slots) can.0 in
     let it = plan_limited s k (slot_event s.page_size k c (slot_at s k) e) (slots_are_balanced s.page_size k c (slot_at s k) e can.2 (left_sound s k lk st)) in
     subst (λ (xs : List Slot). IsLimited (slot_at s j) (slice_index_or xs j None)) (sym it.1.1) (at_slot s.slots k j it.0 lk lj it.1.0)
+event_limited c s e j can lj st = grind (arith, common_steps)
 
 pub limits_hold : LimitsHold
 limits_hold s e reply t k l st is risen =

@@ -10,7 +10,7 @@ use Rattle.std.proofs.lemmas.List.Sums.{sum_by-append, sum_by-cons}
 use Rattle.std.proofs.lemmas.Slice.Eq.{bytes_eq-Decides}
 use Rattle.hp_model.specs.declared.answer.Answer.TheVariants.{Done}
 use Rattle.hp_model.specs.declared.cell.Cell.{Cell}
-use Rattle.hp_model.specs.declared.cell.Cell.TheVariants.{Entered, Hole, Present}
+use Rattle.hp_model.specs.declared.cell.Cell.TheVariants.{Present}
 use Rattle.hp_model.specs.declared.event.SlotEvent.TheVariants as slot
 use Rattle.hp_model.specs.declared.limits.Limits.{Limits}
 use Rattle.hp_model.specs.declared.place.Place.{Place}
@@ -30,7 +30,7 @@ use Rattle.hp_model.specs.Lists.{edit_at, is_among}
 use Rattle.hp_model.specs.files.MakeMap.{mapped, new_map, next_number}
 use Rattle.hp_model.specs.files.Mapping.{Map, copy_of, is_map, is_of, is_shared, is_unconsumed, map_punched, no_map, place_at, with_place, without_range}
 use Rattle.hp_model.specs.files.MountCounts.{stamps_of}
-use Rattle.hp_model.specs.files.Page.{Copy, Page, overwritten, zeros}
+use Rattle.hp_model.specs.files.Page.{Copy, Page, overwritten}
 use Rattle.hp_model.specs.machine.Plan.{Ask, Answered, Choice, Finish, Outcome, Slot, unless}
 use Rattle.hp_model.specs.machine.Sound.{HasCopy, IsSound, IsSoundFile, IsSoundMap, IsSoundMount, is_stamp}
 use Rattle.hp_model.specs.machine.SlotEvent.{byte_access, fault, file_named, has_name, is_beyond, on_mount}
@@ -131,8 +131,7 @@ module _ (m : Mount) (sound : IsSoundMount m) (s : Spot) (at : IsSpot m s) where
 
     shared_sound : is_shared s.map.sharing ≡ true → (intent : Intent) (cell : Cell Page) → Always (On (Left intent i)) (shared_access c size m s home i cell)
     shared_sound e intent (Present page) = shared_left e intent m sound
-    shared_sound e intent Entered = on_reserved_page (Left intent i) home _ (λ node. filled_left e intent (record { node = node; bytes = zeros size }))
-    shared_sound e intent Hole = on_grant_page (Left intent i) c m home _ (λ node. filled_left e intent (record { node = node; bytes = zeros size }))
+    shared_sound e intent cell = grind (arith, common_steps, on_reserved_page, filled_left, on_grant_page)
 
     module _ (apart : is_shared s.map.sharing ≡ false) where
       -- the place gets a copy with the new stamp
@@ -178,9 +177,7 @@ module _ (m : Mount) (sound : IsSoundMount m) (s : Spot) (at : IsSpot m s) where
 
       private_sound : (intent : Intent) (p : Place Copy) → place_at s.map i ≡ p → Always (On (Left intent i)) (private_access c size m s home i p intent)
       private_sound intent Gone is = tt
-      private_sound Read (Live consumed (Some copy)) is = sound
-      private_sound Write (Live consumed (Some copy)) is = write_sound consumed copy is
-      private_sound intent (Live consumed None) is = grind (arith, common_steps, always_if, On, uncopied_sound)
+      private_sound intent p is = grind (arith, common_steps, write_sound, always_if, On, uncopied_sound)
 
     access_sound : (intent : Intent) → Always (On (Left intent i)) (access c size m s home i intent)
     access_sound intent =

@@ -171,9 +171,7 @@ module _ (size k : ℕ) (c : Choice) (m : Mount) (few : Few m) where
 
       fits : (a b : Bool) → (a ≡ true → b ≡ true) → (not a && nat_le most_tasks (length (tasks_of m))) ≡ false → cond b (length (tasks_of m)) (length (tasks_of m) + 1) ≤ most_tasks
       fits true true h e = few
-      fits true false h e = (let f = h refl in cc)
-      fits false true h e = few
-      fits false false h e = (let l = leb-false most_tasks (length (tasks_of m)) e in omega (arith, l))
+      fits a b h e = grind (arith, common_steps, leb-false)
 
   edited_few : (q : ℕ × File) (g : File) → IsFileAt m q.0 q.1 → ((t : ℕ) → count_by (is_of t) g.maps ≤ count_by (is_of t) q.1.maps) → Few (swept (with_file m q.0 g))
   edited_few q g at le = less_few (swept (with_file m q.0 g)) (λ t. (let set = set_le t m q.0 q.1 g at (le t) in omega (arith, set, swept_le t (with_file m q.0 g))))

@@ -47,13 +47,12 @@ settles s k o old new r is h = grind (arith, common_steps)
 
 goes : (s : State) (k : ℕ) (p : Plan) (asked : Option Asked) (new : Slot) (r : Reply) (q : Pool) → Tells p → Goes p asked (slot_at s k) r new → PoolGoes (pool_of s) asked q
     → planned s k p ≡ (r, with_slot (with_pool s q) k new)
-goes s k (Finish o) None new r q tells h pool = grind (arith, common_steps, settles, pool_back)
 goes s k (Finish o) (Some a) new r q tells h pool = absurd h
-goes s k (Ask sec f) None new r q tells h pool = absurd h
 goes s k (Ask sec f) (Some a) new r q tells h pool =
     let by : section (pool_of s) (sec a.answer.nr) ≡ (a.answer, q) = ap (λ x. section (pool_of s) x) h.0 ∙ pool in
     let is : section (pool_of s) (sec s.nr) ≡ (a.answer, q) = ap (λ x. section (pool_of s) x) (tells (pool_of s) a.answer q by) ∙ by in
     ap (λ x. asked_pool s k x f) is ∙ settles (with_pool s q) k (f a.answer) (slot_at s k) new r refl h.1
+goes s k p None new r q tells h pool = grind (arith, common_steps, settles, pool_back)
 
 leaves : (s : State) (p : Plan) (asked : Option Asked) (q : Pool) (new : Slot) (r : Reply) → Tells p → (old : Slot) → Goes p asked old r new → PoolGoes (pool_of s) asked q → pool_after s p ≡ q
 leaves s (Finish o) None q new r tells old h pool = pool

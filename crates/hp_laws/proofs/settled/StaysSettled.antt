@@ -8,7 +8,7 @@ use Rattle.std.proofs.lemmas.List.Elements.{All-cons, All-nil, All-head, All-tai
 use Rattle.std.proofs.lemmas.List.Sums.{sum_by-cons}
 use Rattle.hp_model.specs.declared.answer.Answer.TheVariants.{Done}
 use Rattle.hp_model.specs.declared.event.Event.{Event}
-use Rattle.hp_model.specs.declared.event.Event.TheVariants.{Tasks, Slot as OnSlot, Pool as OnPool}
+use Rattle.hp_model.specs.declared.event.Event.TheVariants.{Tasks}
 use Rattle.hp_model.specs.declared.event.PoolEvent.{PoolEvent}
 use Rattle.hp_model.specs.declared.event.PoolEvent.TheVariants.{Nr, Overcommit, Meminfo, Nodes}
 use Rattle.hp_model.specs.declared.node.NodeRow.{NodeRow}
@@ -119,8 +119,7 @@ module _ (s : State) (st : IsSettledState s) where
 
 pub pool_is_tied : PoolIsTied
 pool_is_tied c s (Tasks e) can st = (refl, with_tasks s st (table_event (length s.nodes) s.table e).1)
-pool_is_tied c s (OnSlot k e) can st = grind (arith, common_steps, ltb-true, left_sound, plan_tied, slots_are_balanced, slots_stay_sound)
-pool_is_tied c s (OnPool e) can st = pool_moves s st e
+pool_is_tied c s other can st = grind (arith, common_steps, ltb-true, left_sound, plan_tied, slots_are_balanced, slots_stay_sound, pool_moves)
 
 -- ---- runs
 

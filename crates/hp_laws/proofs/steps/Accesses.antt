@@ -101,9 +101,7 @@ module _ (c : Choice) (size : ℕ) (m : Mount) (s : Spot) (at : IsSpot m s) (agr
 
   private_balanced : (p : Place Copy) (intent : Intent) → place_at s.map i ≡ p → IsBalanced (Some m) (private_access c size m s home i p intent)
   private_balanced Gone intent is = stays (Some m)
-  private_balanced (Live consumed (Some copy)) Read is = stays (Some m)
-  private_balanced (Live consumed (Some copy)) Write is = copy_balanced consumed copy is
-  private_balanced (Live consumed None) intent is = grind (arith, common_steps, cond_both, stays, uncopied_balanced)
+  private_balanced p intent is = grind (arith, common_steps, stays, copy_balanced, cond_both, uncopied_balanced)
 
   pub access_balanced : (intent : Intent) → i < length s.file.cells → IsBalanced (Some m) (access c size m s home i intent)
   access_balanced intent l = grind (arith, common_steps, cond_both, shared_balanced, private_balanced)

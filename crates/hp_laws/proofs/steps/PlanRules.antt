@@ -108,9 +108,7 @@ module _ (W : Plan → Type 0) where
 
       plan_private : (p : Place Copy) (intent : Intent) → W (private_access c size m s home i p intent)
       plan_private Gone intent = rules.done (Refused OutOfRange)
-      plan_private (Live consumed (Some copy)) Read = rules.done (Answered Done (Some m))
-      plan_private (Live consumed (Some copy)) Write = plan_copy consumed copy
-      plan_private (Live consumed None) intent = grind (arith, common_steps, either, plan_uncopied)
+      plan_private p intent = grind (arith, common_steps, plan_copy, either, plan_uncopied)
 
       plan_access : (intent : Intent) → W (access c size m s home i intent)
       plan_access intent = grind (arith, common_steps, either, plan_shared, plan_private)

@@ -6,7 +6,7 @@ use Rattle.std.specs.Prelude.{max}
 use Rattle.hp_model.specs.declared.answer.Answer.{Answer}
 use Rattle.hp_model.specs.declared.answer.Answer.TheVariants.{Done}
 use Rattle.hp_model.specs.declared.event.Event.{Event}
-use Rattle.hp_model.specs.declared.event.Event.TheVariants.{Tasks, Slot as OnSlot, Pool as OnPool}
+use Rattle.hp_model.specs.declared.event.Event.TheVariants.{Tasks, Slot as OnSlot}
 use Rattle.hp_model.specs.declared.event.PoolEvent.{PoolEvent}
 use Rattle.hp_model.specs.declared.event.SlotEvent.{SlotEvent}
 use Rattle.hp_model.specs.declared.event.SlotEvent.TheVariants as slot
@@ -208,8 +208,7 @@ pool_refused p e r = grind (arith, common_steps)
 
 event_refused : (c : Choice) (s : State) (e : Event) (r : Refusal) (t : State) → IsSettledState s → after c s e ≡ (Err r, t) → MatchBool (is_late e r) (SameButNodes s t) (t ≡ s)
 event_refused c s (Tasks e) r t st is = grind (arith, common_steps, table_refused)
-event_refused c s (OnSlot k e) r t st is = slot_refused s k c e r t st is
-event_refused c s (OnPool e) r t st is = grind (arith, common_steps, pool_refused, pool_back)
+event_refused c s e r t st is = grind (arith, common_steps, slot_refused, pool_refused, pool_back)
 
 pub refusals_change_nothing : RefusalsChangeNothing
 refusals_change_nothing s e r t st is = event_refused is.0 s e r t st is.2
