@@ -3,7 +3,6 @@ use Rattle.std.proofs.Common.{arith}
 use Rattle.std.proofs.lemmas.Grind.{common_steps}
 use Rattle.std.proofs.Common.{◌≡◌, subst, ℕ, ◌==◌, Bool, true, false, None, Option, Some, Ok, Err, List, [], ◌∷◌, ◌++◌, length, nat_le, refl, sym, ap, ◌∙◌, if◌then◌else◌}
 use Rattle.std.specs.List.{range_with_len}
-use Rattle.std.proofs.lemmas.Bool.{cond_both}
 use Rattle.hp_model.specs.declared.answer.Answer.{Answer}
 use Rattle.hp_model.specs.declared.answer.Answer.TheVariants.{Done}
 use Rattle.hp_model.specs.declared.event.Event.{Event}
@@ -16,7 +15,7 @@ use Rattle.hp_model.specs.declared.refusal.Refusal.{Refusal}
 use Rattle.hp_model.specs.declared.refusal.Refusal.TheVariants.{NoSuchNode, NoSuchTask, OutOfRange, TaskExists, TooMany}
 use Rattle.hp_model.specs.declared.section.PoolAnswer.{PoolAnswer}
 use Rattle.hp_model.specs.declared.section.Section.{Section}
-use Rattle.hp_model.specs.declared.section.Section.TheVariants.{Grant, GrantAndReturn, GrantPage, GiveBack, ReadAndGiveBack, ReadAndGrant, TakePage, FillPages}
+use Rattle.hp_model.specs.declared.section.Section.TheVariants.{GiveBack}
 use Rattle.hp_model.specs.declared.step.Step.{Step}
 use Rattle.hp_model.specs.declared.step.Step.TheVariants as step
 use Rattle.hp_model.specs.machine.Event.{IsEvent, has_maps_of, with_pool_reply, with_table}
@@ -30,7 +29,6 @@ use Rattle.hp_laws.proofs.ending.Fades.{exit_refused}
 use Rattle.hp_model.specs.machine.State.{State, slot_at}
 use Rattle.hp_model.specs.machine.Step.{Answer_with, IsScript, IsScripted, IsStep, exit_slots, fork_slots, or_undone, undone, when_done}
 use Rattle.hp_model.specs.machine.Table.{added, home_of, is_crowded, is_known, or_refused, when_known}
-use Rattle.hp_model.specs.pool.Grant.{can_grant}
 use Rattle.hp_model.specs.pool.Pool.{section}
 use Rattle.hp_model.specs.pool.PoolCounts.{Pool}
 use Rattle.hp_laws.proofs.steps.Outcomes.{either_way}
@@ -45,14 +43,8 @@ abbrev pub Numbers : Pool → PoolAnswer × Pool → Type 0
 Numbers p q = (q.1.nr ≡ p.nr) × (q.1.overcommit ≡ p.overcommit)
 
 pub section_numbers : (p : Pool) (x : Section) → Numbers p (section p x)
-section_numbers p (Grant home d) = cond_both (can_grant d p) _ _ (Numbers p) (λ e. (refl, refl)) (λ e. (refl, refl))
-section_numbers p (GrantPage home d) = cond_both (can_grant d p) _ _ (Numbers p) (λ e. (refl, refl)) (λ e. (refl, refl))
-section_numbers p (TakePage home) = (refl, refl)
-section_numbers p (FillPages d n) = cond_both (can_grant d p) _ _ (Numbers p) (λ e. (refl, refl)) (λ e. (refl, refl))
 section_numbers p (GiveBack puts k) = (ap (λ (q : Pool). q.nr) (puts_are puts p), ap (λ (q : Pool). q.overcommit) (puts_are puts p))
-section_numbers p (ReadAndGrant d) = cond_both (can_grant d p) _ _ (Numbers p) (λ e. (refl, refl)) (λ e. (refl, refl))
-section_numbers p (ReadAndGiveBack k) = (refl, refl)
-section_numbers p (GrantAndReturn d) = cond_both (can_grant d p) _ _ (Numbers p) (λ e. (refl, refl)) (λ e. (refl, refl))
+section_numbers p x = grind (arith, common_steps)
 
 all_give : (p : Plan) → Gives p
 all_give p = grind (arith, common_steps, section_numbers)
@@ -174,14 +166,9 @@ module _ (s : State) where
 
   event_sets : (e : Event) (reply : Reply) (t : State) → is_whole e ≡ true → IsEvent s e reply t → IsSet s (step_of e) reply t
   event_sets (Tasks (table.Add new home)) reply t whole is = connect_sets new home reply t is
-  event_sets (Tasks (table.Find task)) reply t whole is = grind (arith, common_steps)
-  event_sets (Tasks (table.FindAndAdd parent child)) reply t whole is = cc
-  event_sets (Tasks (table.Remove task)) reply t whole is = cc
   event_sets (OnSlot k e) reply t whole is = leaves (slot_step k e) reply t (slot_unset k e reply whole) (slot_setting s k e reply t is)
-  event_sets (OnPool (pool.Nr n)) reply t whole is = grind (arith, common_steps)
   event_sets (OnPool (pool.Overcommit n)) reply t whole is = limit_sets n (nat_le n most_overcommit) reply t is.2
-  event_sets (OnPool pool.Meminfo) reply t whole is = grind (arith, common_steps)
-  event_sets (OnPool pool.Nodes) reply t whole is = grind (arith, common_steps)
+  event_sets e reply t whole is = grind (arith, common_steps)
 
   forked_sets : IsSettledState s → (parent child : ℕ) (reply : Reply) (t : State) → IsScripted s (step.Fork parent child) reply t → IsSet s (step.Fork parent child) reply t
   forked_sets st parent child (Ok a) t is = fork_sets parent child a t is

@@ -140,11 +140,7 @@ module _ (s : State) where
   both_range (Ok (MapNo number)) t (MapStep task k name a n sharing reserving) file made =
       map_range (slot_at s k) (slot_at t k) name task number a n sharing reserving file made
   both_range (Ok (MapNo number)) t (AnonStep task n sharing reserving) file made = anon_range (slot_at s 0) (slot_at t 0) task number n sharing reserving made
-  both_range (Ok other) t (MapStep task k name a n sharing reserving) file made = absurd file
-  both_range (Err r) t (MapStep task k name a n sharing reserving) file made = tt
-  both_range (Ok other) t (AnonStep task n sharing reserving) file made = absurd made
-  both_range (Err r) t (AnonStep task n sharing reserving) file made = tt
-  both_range reply t other file made = tt
+  both_range reply t step file made = grind (arith, common_steps)
 
   pub step_ranges : (reply : Reply) (t : State) (step : Step) → IsStep s step reply t → Ranges s step reply t
   step_ranges reply t step is = both_range reply t step (step_maps reply t step is) (step_makes s reply t step is)

@@ -96,19 +96,12 @@ module _ (s : State) (st : IsSettledState s) where
   home_told task o known reply is = grind (arith, common_steps)
 
   event_tells : (e : Event) (reply : Reply) (t : State) → is_whole e ≡ true → IsEvent s e reply t → AnswersWhatWas s (step_of e) reply
-  event_tells (OnSlot k slot.Df) reply t whole is = grind (arith, common_steps, slot_tells, usage_told)
-  event_tells (OnSlot k slot.Ls) reply t whole is = grind (arith, common_steps, slot_tells, names_told)
-  event_tells (OnSlot k (slot.Stat name)) reply t whole is = grind (arith, common_steps, slot_tells, stat_told)
-  event_tells (OnSlot k (slot.Read name i offset count)) reply t whole is = grind (arith, common_steps, slot_tells, read_told)
   event_tells (OnPool pool.Meminfo) reply t whole is = grind (arith, common_steps, counts_are_sums)
   event_tells (OnPool pool.Nodes) reply t whole is = grind (arith, common_steps, rows_many)
-  event_tells (OnSlot k (slot.ForkMaps parent child)) reply t whole is = cc
-  event_tells (OnSlot k (slot.ExitMaps task)) reply t whole is = cc
-  event_tells (OnSlot k other) reply t whole is = tt
-  event_tells (OnPool other) reply t whole is = tt
   event_tells (Tasks (table.Find task)) reply t whole is = home_told task (home_of s.table task) refl reply (ap (λ (q : Reply × State). q.0) (sym is.2))
-  event_tells (Tasks (table.Add task home)) reply t whole is = tt
-  event_tells (Tasks other) reply t whole is = tt
+  event_tells (OnSlot k (slot.ForkMaps parent child)) reply t whole is = cc
+  event_tells (OnSlot k e) reply t whole is = grind (arith, common_steps, slot_tells, usage_told, names_told, stat_told, read_told)
+  event_tells e reply t whole is = grind (arith, common_steps)
 
   pub step_tells : (reply : Reply) (t : State) (step : Step) → IsStep s step reply t → AnswersWhatWas s step reply
   step_tells reply t step is = by_event s (λ step reply t. AnswersWhatWas s step reply) (λ step r early. nothing_told s step r) event_tells

@@ -2,7 +2,7 @@
 use Rattle.std.proofs.Common.{arith}
 use Rattle.std.proofs.lemmas.Grind.{common_steps}
 use Rattle.std.proofs.Common.{◌≡◌, subst, ℕ, ◌-◌, ◌&&◌, ◌||◌, ◌==◌, Bool, true, false, not, Option, None, Some, is_some, Result, Ok, Err, List, [], ◌∷◌}
-use Rattle.std.proofs.Common.{◌++◌, length, refl, sym, ap, ◌∙◌, if◌then◌else◌, nat_lt}
+use Rattle.std.proofs.Common.{◌++◌, length, refl, sym, ap, ◌∙◌, if◌then◌else◌}
 use Rattle.std.proofs.lemmas.Bool.{and_parts, cond_both, eqb-true}
 use Rattle.std.specs.List.{range_with_len}
 use Rattle.hp_model.specs.declared.answer.Answer.TheVariants.{Done}
@@ -18,7 +18,7 @@ use Rattle.hp_model.specs.declared.place.Place.{Place}
 use Rattle.hp_model.specs.declared.place.Place.TheVariants.{Live}
 use Rattle.hp_model.specs.declared.refusal.Refusal.{Refusal}
 use Rattle.hp_model.specs.declared.refusal.Refusal.TheVariants.{SlotTaken, MountFull, NoPages, NoSuchFile, NoSuchMap}
-use Rattle.hp_model.specs.declared.refusal.Refusal.TheVariants.{OutOfMemory, OutOfRange}
+use Rattle.hp_model.specs.declared.refusal.Refusal.TheVariants.{OutOfMemory}
 use Rattle.hp_model.specs.declared.section.PoolAnswer.{PoolAnswer}
 use Rattle.hp_model.specs.declared.section.Section.TheVariants.{GrantPage, FillPages}
 use Rattle.hp_model.specs.declared.step.Intent.{Intent}
@@ -43,21 +43,19 @@ use Rattle.hp_model.specs.machine.Plan.{Answered, Ask, Choice, Finish, Outcome, 
 use Rattle.hp_model.specs.machine.Plan.{refuse, unless, when_granted, with_value}
 use Rattle.hp_model.specs.machine.Promises.{is_for_pages}
 use Rattle.hp_model.specs.machine.Short.{IsMountShort, IsRemountShortOn, IsShort, IsShortOn, MeetsShortage, asked_of, asks, has_own, page_for}
-use Rattle.hp_model.specs.machine.SlotEvent.{anon_tests, create_tests, edited, is_bad_range, mount_section, punch, read}
-use Rattle.hp_model.specs.machine.SlotEvent.{read_tests, stat, fill, preallocate, preallocate_tests, preallocated, unentered}
-use Rattle.hp_model.specs.machine.SlotEvent.{truncate, umount_tests, unlink, byte_access, byte_tests, bytes_answer, fault, fault_tests}
+use Rattle.hp_model.specs.machine.SlotEvent.{anon_tests, mount_section}
+use Rattle.hp_model.specs.machine.SlotEvent.{fill, preallocate, preallocate_tests, preallocated, unentered}
+use Rattle.hp_model.specs.machine.SlotEvent.{byte_access, byte_tests, bytes_answer, fault, fault_tests}
 use Rattle.hp_model.specs.machine.SlotEvent.{committed_with, file_named, load, map_anon, map_file, map_tests, mount_outcome, mount_pages, remount_outcome, slot_event, store}
 use Rattle.hp_model.specs.machine.State.{State, slot_at}
 use Rattle.hp_model.specs.machine.Step.{Answer_with, IsScript, IsScripted, IsStep, Script, exit_slots, fork_slots, or_undone, undone, when_done}
 use Rattle.hp_model.specs.machine.Table.{Table, table_event}
 use Rattle.hp_model.specs.pool.Resize.{pool_event}
-use Rattle.hp_model.specs.Profile.{most_file_pages}
 use Rattle.hp_model.specs.declared.event.PoolEvent.{PoolEvent}
 use Rattle.hp_model.specs.declared.event.TableEvent.{TableEvent}
 use Rattle.hp_model.specs.pool.Grant.{can_grant, is_full, rise}
 use Rattle.hp_model.specs.pool.Pool.{section}
 use Rattle.hp_model.specs.pool.PoolCounts.{Pool}
-use Rattle.hp_model.specs.files.GiveBack.{punched, truncated, unlinked, without_task}
 use Rattle.hp_laws.specs.Laws.{KeepsGoing}
 use Rattle.hp_laws.proofs.making.Remounts.{remount_ends, remount_told, told_granted}
 use Rattle.hp_laws.proofs.accesses.SlotShows.{always_gives}
@@ -301,9 +299,6 @@ module _ (s : State) where
     given : (old new : Slot) → At KeepsGoing (gives Done old new)
     given old new = at_any KeepsGoing (gives Done old new) (always_gives KeepsGoing Done old new tt)
 
-    of_name : (m : Mount) (name : List ℕ) (f : ℕ × File → Plan) → ((q : ℕ × File) → At KeepsGoing (f q)) → At KeepsGoing (with_value (file_named m name) NoSuchFile f)
-    of_name m name f h = grind (arith, common_steps)
-
     of_unmap : (old : Slot) (task number a b : ℕ) → At KeepsGoing (slot_event size k c old (slot.Unmap task number a b))
     of_unmap old task number a b = grind (arith, common_steps)
 
@@ -322,31 +317,9 @@ module _ (s : State) where
     is_plain e = true
 
     goes_event : (old : Slot) (e : SlotEvent) → is_plain e ≡ true → At KeepsGoing (slot_event size k c old e)
-    goes_event None (slot.Mount options) plain = cc
-    goes_event None (slot.Remount options) plain = cc
-    goes_event None e plain = refl
-    goes_event (Some m) (slot.Mount options) plain = cc
-    goes_event (Some m) (slot.Remount options) plain = cc
-    goes_event (Some m) (slot.Preallocate name a b) plain = cc
-    goes_event (Some m) (slot.Map task home name a n sharing reserving) plain = cc
-    goes_event (Some m) (slot.Anon task home n sharing reserving) plain = cc
-    goes_event (Some m) (slot.Fault task home number i t) plain = cc
-    goes_event (Some m) (slot.Load task home number i offset count) plain = cc
-    goes_event (Some m) (slot.Store task home number i offset bytes) plain = cc
-    goes_event (Some m) slot.Umount plain = goes_tests (umount_tests k m) refl _ (given (Some m) None)
-    goes_event (Some m) (slot.Create name) plain = goes_tests (create_tests c m name) refl _ tt
-    goes_event (Some m) (slot.Unlink name) plain = of_name m name (unlink m) (λ q. given (Some m) (edited m q.0 (unlinked q.1)))
-    goes_event (Some m) (slot.Truncate name n) plain =
-        of_name m name (truncate m n) (λ q. goes_tests ((nat_lt most_file_pages n, OutOfRange) ∷ []) refl _ (given (Some m) (edited m q.0 (truncated n q.1))))
-    goes_event (Some m) (slot.Punch name a b) plain =
-        of_name m name (punch m a b) (λ q. goes_tests ((is_bad_range a b, OutOfRange) ∷ []) refl _ (given (Some m) (edited m q.0 (punched a b q.1))))
-    goes_event (Some m) (slot.Read name i offset count) plain = of_name m name (read size m i offset count) (λ q. goes_tests (read_tests size i offset count q.1) refl _ tt)
-    goes_event (Some m) slot.Ls plain = goes_tests ((c.refused, OutOfMemory) ∷ []) refl _ tt
-    goes_event (Some m) (slot.Stat name) plain = of_name m name (stat m) (λ q. tt)
+    goes_event None e plain = grind (arith, common_steps)
     goes_event (Some m) slot.Df plain = tt
-    goes_event (Some m) (slot.Unmap task number a b) plain = of_unmap (Some m) task number a b
-    goes_event (Some m) (slot.ForkMaps parent child) plain = of_fork (Some m) parent child
-    goes_event (Some m) (slot.ExitMaps task) plain = given (Some m) (Some (without_task task m))
+    goes_event (Some m) e plain = grind (arith, common_steps, goes_tests, given, of_unmap, of_fork)
 
   -- ---- steps of one event
 
@@ -537,14 +510,10 @@ module _ (s : State) where
   event_short : (e : Event) (reply : Reply) (t : State) → is_whole e ≡ true → IsEvent s e reply t → MeetsShortage s (step_of e) reply
   event_short (OnSlot k (slot.Remount options)) reply t whole is = event_remount k options (slot_at s k) refl reply t is
   event_short (OnSlot k e) reply t whole is = event_other k e reply t refl whole is
-  event_short (Tasks (table.Add task home)) reply t whole is = by_plain (step.Connect task home) refl reply (table_reply reply t s (table.Add task home) reply t is)
-  event_short (Tasks (table.Find task)) reply t whole is = by_plain (step.Attach task) refl reply (table_reply reply t s (table.Find task) reply t is)
   event_short (Tasks (table.FindAndAdd parent child)) reply t whole is = cc
-  event_short (Tasks (table.Remove task)) reply t whole is = cc
-  event_short (OnPool (pool.Nr n)) reply t whole is = by_plain (step.Nr n) refl reply (subst Plain (ap (λ (q : Reply × State). q.0) is.2) (pool_plain (pool_of s) (pool.Nr n)))
+  event_short (Tasks e) reply t whole is = grind (arith, common_steps, by_plain, table_reply)
   event_short (OnPool (pool.Overcommit n)) reply t whole is = grind (arith, common_steps, by_plain, pool_plain)
-  event_short (OnPool pool.Meminfo) reply t whole is = by_plain step.Meminfo refl reply (subst Plain (ap (λ (q : Reply × State). q.0) is.2) (pool_plain (pool_of s) pool.Meminfo))
-  event_short (OnPool pool.Nodes) reply t whole is = by_plain step.Nodes refl reply (subst Plain (ap (λ (q : Reply × State). q.0) is.2) (pool_plain (pool_of s) pool.Nodes))
+  event_short (OnPool e) reply t whole is = grind (arith, common_steps, by_plain, pool_plain)
 
   pub step_short : (reply : Reply) (t : State) (x : Step) → IsStep s x reply t → MeetsShortage s x reply
   step_short reply t x is =

@@ -1,21 +1,20 @@
 -- The number of nodes never changes.
 use Rattle.std.proofs.Common.{arith}
 use Rattle.std.proofs.lemmas.Grind.{common_steps}
-use Rattle.std.proofs.Common.{◌≡◌, ℕ, zero, suc, ◌+◌, ◌-◌, true, false, List, [], ◌∷◌, length, refl, ap, ◌∙◌}
+use Rattle.std.proofs.Common.{◌≡◌, ℕ, zero, suc, ◌+◌, ◌-◌, List, [], ◌∷◌, length, refl, ap, ◌∙◌}
 use Rattle.std.proofs.lemmas.Bool.{cond_both}
 use Rattle.std.proofs.lemmas.List.{length-map, length-set}
 use Rattle.hp_model.specs.declared.event.PoolEvent.{PoolEvent}
 use Rattle.hp_model.specs.declared.event.PoolEvent.TheVariants.{Nr}
 use Rattle.hp_model.specs.declared.node.Kind.TheVariants.{Free, Idle}
 use Rattle.hp_model.specs.declared.node.NodeRow.{NodeRow}
-use Rattle.hp_model.specs.pool.Grant.{can_grant, granted, surplus_times}
+use Rattle.hp_model.specs.pool.Grant.{granted, surplus_times}
 use Rattle.hp_model.specs.machine.Machine.{pool_of, with_pool, rows_of, node_of}
 use Rattle.hp_model.specs.pool.NodeRows.{NodeRows, at_row, row_at, near, put_row, take_row, taken_times}
-use Rattle.hp_model.specs.pool.NodeRows.{add_surplus_row, total_of, given_back, surp_of}
-use Rattle.hp_model.specs.pool.Pool.{section, filled_by, granted_at, no_pages, pages_taken, nr_answer, takes_of, kept_times, puts_from, released, trimmed, give_back_times}
-use Rattle.hp_model.specs.declared.section.PoolAnswer.{PoolAnswer}
+use Rattle.hp_model.specs.pool.NodeRows.{add_surplus_row, total_of, given_back}
+use Rattle.hp_model.specs.pool.Pool.{section, kept_times, puts_from, give_back_times}
 use Rattle.hp_model.specs.declared.section.Section.{Section}
-use Rattle.hp_model.specs.declared.section.Section.TheVariants.{Grant, GrantPage, TakePage, FillPages, GiveBack, ReadAndGrant, ReadAndGiveBack, GrantAndReturn}
+use Rattle.hp_model.specs.declared.section.Section.TheVariants.{GrantPage, TakePage}
 use Rattle.hp_model.specs.pool.PoolCounts.{Pool}
 use Rattle.hp_model.specs.pool.Resize.{pool_event, raised, raise_times, lowered, lower_times}
 use Rattle.hp_model.specs.machine.State.{State, Node}
@@ -60,28 +59,13 @@ long_puts : (node : ℕ) (ks : List ℕ) (p : Pool) → length (puts_from node k
 long_puts node [] p = refl
 long_puts node (k ∷ ks) p = long_puts (node + 1) ks (kept_times node k p) ∙ long_kept_times node k p
 
-long_settled : (p : Pool) → length (trimmed p).nodes.rows ≡ length p.nodes.rows
-long_settled p = long_give_back_times (surp_of p.nodes.rows - (p.committed - p.nr)) p.nodes
-
 long_granted : (home d : ℕ) (p : Pool) → length (granted home d p).nodes.rows ≡ length p.nodes.rows
 long_granted home d p = long_surplus_times home (p.committed + d - total_of p.nodes.rows) p.nodes
 
-abbrev Long : Pool → PoolAnswer × Pool → Type 0
-Long p x = length x.1.nodes.rows ≡ length p.nodes.rows
-
 pub long_section : (p : Pool) (s : Section) → length (section p s).1.nodes.rows ≡ length p.nodes.rows
-long_section p (Grant home d) = cond_both (can_grant d p) (granted_at 0, granted home d p) (no_pages, p) (Long p) (λ e. long_granted home d p) (λ e. refl)
-long_section p (GrantPage home d) = grind (arith, common_steps, cond_both, long_row, long_granted)
 long_section p (TakePage home) = long_row take_row (near Free home p.nodes.rows) p.nodes.rows
-long_section p (FillPages d n) =
-    cond_both (can_grant d p) (filled_by (takes_of n (granted 0 d p)), pages_taken n (granted 0 d p)) (no_pages, p) (Long p)
-    (λ e. long_taken_times n (granted 0 d p).nodes ∙ long_granted 0 d p) (λ e. refl)
-long_section p (GiveBack puts k) = long_settled (released k (puts_from 0 puts p)) ∙ long_puts 0 puts p
-long_section p (ReadAndGrant d) = grind (arith, common_steps, cond_both, long_granted)
-long_section p (ReadAndGiveBack k) = long_settled (released k p)
-long_section p (GrantAndReturn d) =
-    cond_both (can_grant d p) (nr_answer true p, trimmed (released d (granted 0 d p))) (nr_answer false p, p) (Long p)
-    (λ e. long_settled (released d (granted 0 d p)) ∙ long_granted 0 d p) (λ e. refl)
+long_section p (GrantPage home d) = grind (arith, common_steps, cond_both, long_row, long_granted)
+long_section p s = grind (arith, common_steps, long_surplus_times, long_taken_times, long_give_back_times, long_puts)
 
 pub long_event : (p : Pool) (e : PoolEvent) → length (pool_event p e).1.nodes.rows ≡ length p.nodes.rows
 long_event p (Nr n) = grind (arith, common_steps, long_lower_times, long_raise_times)

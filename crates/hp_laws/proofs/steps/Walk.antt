@@ -1,29 +1,27 @@
 -- One walk over the events of an open mount: what holds of the plan of each change holds of the plan of each event.
 use Rattle.std.proofs.Common.{arith}
 use Rattle.std.proofs.lemmas.Grind.{common_steps}
-use Rattle.std.proofs.Common.{◌≡◌, ◌==◌, ℕ, Bool, true, false, Option, None, Some, is_some, List, [], ◌∷◌, ◌||◌, length, nat_lt, refl, if◌then◌else◌}
+use Rattle.std.proofs.Common.{◌≡◌, ℕ, Bool, true, false, Option, None, Some, is_some, List, [], ◌∷◌, ◌||◌, length, nat_lt}
 use Rattle.std.proofs.lemmas.Bool.{cond_both}
 use Rattle.hp_model.specs.declared.answer.Answer.{Answer}
-use Rattle.hp_model.specs.declared.answer.Answer.TheVariants.{Done, MapNo, Usage as UsageAnswer}
+use Rattle.hp_model.specs.declared.answer.Answer.TheVariants.{Done, MapNo}
 use Rattle.hp_model.specs.declared.event.SlotEvent.{SlotEvent}
 use Rattle.hp_model.specs.declared.event.SlotEvent.TheVariants as slot
 use Rattle.hp_model.specs.declared.refusal.Refusal.{Refusal}
-use Rattle.hp_model.specs.declared.refusal.Refusal.TheVariants.{NoSuchFile, NoSuchMap, SlotTaken}
+use Rattle.hp_model.specs.declared.refusal.Refusal.TheVariants.{NoSuchFile, NoSuchMap}
 use Rattle.hp_model.specs.declared.step.Intent.{Intent}
 use Rattle.hp_model.specs.declared.step.Reserving.{Reserving}
 use Rattle.hp_model.specs.declared.step.Sharing.{Sharing}
 use Rattle.hp_model.specs.files.File.{File, Mount, new_file, with_file, maps_of}
-use Rattle.hp_model.specs.files.Fill.{lacking}
 use Rattle.hp_model.specs.files.Fork.{forked}
 use Rattle.hp_model.specs.files.GiveBack.{punched, truncated, unlinked, unmapped_from, without_task}
 use Rattle.hp_model.specs.files.MakeMap.{asked, mapped, next_number, with_new, tasks_of}
 use Rattle.hp_model.specs.files.Mapping.{is_map}
-use Rattle.hp_model.specs.files.MountCounts.{usage_of}
 use Rattle.hp_model.specs.machine.Plan.{Answered, Ask, Choice, Finish, Plan, gives, grant, refuse, unless, with_value}
 use Rattle.hp_model.specs.Profile.{most_bytes, most_map_pages, most_maps, most_tasks}
 use Rattle.hp_model.specs.machine.SlotEvent.{are_too_many_maps, bytes_answer, edited, fault, file_named, fill, load}
-use Rattle.hp_model.specs.machine.SlotEvent.{on_mount, preallocate, preallocate_tests, remount_outcome}
-use Rattle.hp_model.specs.machine.SlotEvent.{remount_section, store, unlink}
+use Rattle.hp_model.specs.machine.SlotEvent.{on_mount, remount_outcome}
+use Rattle.hp_model.specs.machine.SlotEvent.{remount_section, store}
 use Rattle.hp_model.specs.files.Options.{limits, wanted_of}
 use Rattle.hp_model.specs.files.Spot.{Spot, spot}
 
@@ -112,30 +110,10 @@ module _ (size k : ℕ) (c : Choice) (m : Mount) (W : SlotEvent → Plan → Typ
 
     -- so it is of each event but a remount and an umount
     pub walk : (e : SlotEvent) → relimits e ≡ false → W e (on_mount size k c m e)
-    walk (slot.Mount options) stays = walks.refuses (slot.Mount options) SlotTaken
-    walk (slot.Remount options) stays = cc
     walk slot.Umount stays = cc
-    walk (slot.Create name) stays = grind (arith, common_steps, tested, passed)
-    walk (slot.Unlink name) stays = of_file (slot.Unlink name) name (unlink m) (walks.unlinks name)
-    walk (slot.Truncate name n) stays = grind (arith, common_steps, of_file, tested)
-    walk (slot.Punch name a b) stays = grind (arith, common_steps, of_file, tested)
-    walk (slot.Preallocate name a b) stays =
-        let e : SlotEvent = slot.Preallocate name a b in
-        of_file e name (preallocate c size m a b)
-        (λ q at. tested e (preallocate_tests a b) (if lacking a b q.1 == 0 then Finish (Answered Done (Some m)) else fill c size m a b q)
-        (cond_both (lacking a b q.1 == 0) (Finish (Answered Done (Some m))) (fill c size m a b q) (W e) (λ none. walks.whole name a b q at) (λ some. walks.fills name a b q at)))
-    walk (slot.Read name i offset count) stays = grind (arith, common_steps, of_file, tested, passed)
-    walk slot.Ls stays = grind (arith, common_steps, tested)
-    walk (slot.Stat name) stays = grind (arith, common_steps, of_file)
-    walk slot.Df stays = walks.tells slot.Df (UsageAnswer m.limits.max m.limits.min (usage_of m) m.limits.inodes (length m.files)) refl
-    walk (slot.Map task home name a n sharing reserving) stays = grind (arith, common_steps, of_file, tested, passed)
     walk (slot.Anon task home n sharing reserving) stays = grind (arith, common_steps, tested, cond_both, both_parts)
-    walk (slot.Unmap task number a b) stays = grind (arith, common_steps, of_map, tested)
-    walk (slot.Fault task home number i intent) stays = grind (arith, common_steps, of_map)
-    walk (slot.Load task home number i offset count) stays = grind (arith, common_steps, of_map)
-    walk (slot.Store task home number i offset bytes) stays = grind (arith, common_steps, of_map)
-    walk (slot.ForkMaps parent child) stays = grind (arith, common_steps, passed, tested)
-    walk (slot.ExitMaps task) stays = walks.exits task
+    walk (slot.Preallocate name a b) stays = grind (arith, common_steps, of_file, tested, cond_both)
+    walk e stays = grind (arith, common_steps, of_file, of_map, tested, passed)
 
     -- and of these too, where it is of setting limits and of giving all back
     pub walk_all : ((options : List ℕ) → W (slot.Remount options) (remounting size m options)) → W slot.Umount (gives Done (Some m) None) → (e : SlotEvent) → W e (on_mount size k c m e)
