@@ -19,7 +19,6 @@ use Rattle.hp_model.specs.files.Value.{value}
 use Rattle.hp_laws.proofs.steps.Outcomes.{reply_of, Always, always_test, always_then}
 
 module _ (c : Choice) (size : ℕ) (m : Mount) (s : Spot) (home i : ℕ) where
-
   access_goes : (intent : Intent) → is_backed intent (Some s) i ≡ true → Always KeepsGoing (access c size m s home i intent)
   access_goes intent e = grind (arith, common_steps)
 
@@ -53,8 +52,7 @@ module _ (size k : ℕ) (c : Choice) (task home number i offset : ℕ) where
 
 pub fault_goes : (size k : ℕ) (c : Choice) (task home number i : ℕ) (intent : Intent) (old : Slot) → is_backed intent (spot_on old task number) i ≡ true
     → Always KeepsGoing (slot_event size k c old (slot.Fault task home number i intent))
-fault_goes size k c task home number i intent None e = cc
-fault_goes size k c task home number i intent (Some m) e = grind (arith, common_steps, Always, always_test, access_goes)
+fault_goes size k c task home number i intent old e = grind (arith, Always, always_test, access_goes)
 
 -- ---- an access through a marked map, where it has no copy
 
@@ -65,7 +63,6 @@ still_stops : (f : Mount → Outcome) (o : Outcome) → Stops o → Stops (conti
 still_stops f o stops = grind (arith, common_steps)
 
 module _ (c : Choice) (size : ℕ) (m : Mount) (s : Spot) (home i : ℕ) where
-
   bytes_stop : (offset count : ℕ) (intent : Intent) → is_cut_off (Some s) i ≡ true → Always Stops (byte_access c size m home i offset count intent s)
   bytes_stop offset count intent e = grind (arith, common_steps)
 

@@ -94,30 +94,7 @@ module _ (m : Mount) (s : Spot) (at : IsSpot m s) (i : ℕ) (c : Bool) (o : Opti
     pub other : (h ≡ s.file_no) × (l ≡ s.map_no) × (z ≡ i) → ⊥
 
   put_cases : (h l z : ℕ) (a : Copy) → HasAt after h l z a → IsPut h l z a ⊎ IsOld h l z a
-  put_cases h l z a has =
-      elim (cases_eq h s.file_no) as (λ _. IsPut h l z a ⊎ IsOld h l z a) [
-        | inr other ↦ inr (record { has = subst (λ f. HasCopy (map_in f l) z a) (get_or-set_other m.files s.file_no h new (new_file None) other) has; other = λ e. other e.0 })
-        | inl same ↦ in_file same
-            (subst (λ f. HasCopy (map_in f l) z a) (ap (file_in after) same ∙ file_here) has)
-            (λ held. subst (λ f. HasCopy (map_in f l) z a) (sym (ap (file_in m) same ∙ spot_file m s at)) held)
-      ]
-    where
-      at_index : h ≡ s.file_no → l ≡ s.map_no → HasCopy put z a → (HasCopy (map_in s.file l) z a → HasAt m h l z a) → IsPut h l z a ⊎ IsOld h l z a
-      at_index file same has back =
-          elim (cases_eq z i) as (λ _. IsPut h l z a ⊎ IsOld h l z a) [
-            | inl here ↦ inl (record { file = file; map = same; index = here; same = (let both = sym has ∙ ap (λ x. copy_of (place_at put x)) here ∙ ap copy_of place_here in cc) })
-            | inr other ↦ inr (record {
-              has = back (subst (λ x. HasCopy x z a) (sym (ap (map_in s.file) same ∙ spot_map m s at)) (sym (ap copy_of (place_other s.map i c o is (Live d (Some copy)) z other)) ∙ has));
-              other = λ e. other e.2;
-            })
-          ]
-
-      in_file : h ≡ s.file_no → HasCopy (map_in new l) z a → (HasCopy (map_in s.file l) z a → HasAt m h l z a) → IsPut h l z a ⊎ IsOld h l z a
-      in_file file has back =
-          elim (cases_eq l s.map_no) as (λ _. IsPut h l z a ⊎ IsOld h l z a) [
-            | inr other ↦ inr (record { has = back (subst (λ x. HasCopy x z a) (get_or-set_other s.file.maps s.map_no l put no_map other) has); other = λ e. other e.1 })
-            | inl same ↦ at_index file same (subst (λ x. HasCopy x z a) (ap (map_in new) same ∙ map_here) has) back
-          ]
+  put_cases h l z a has = grind (arith, cases_eq, get_or-set_other, file_here, spot_file, place_here, spot_map, place_other, map_here)
 
   module _ (alone : IsAlone m s.file_no s.map_no i copy.stamp) where
     pub put_alone : IsAlone after s.file_no s.map_no i copy.stamp
@@ -292,14 +269,7 @@ module _ (m : Mount) (s : Spot) (at : IsSpot m s) (i : ℕ) (copy : Copy) (has :
               get_or-map (robbed copy.stamp) s.file.maps l no_map no_map (omega (arith, there, set, long)))
 
       alone : IsAlone back s.file_no s.map_no i copy.stamp
-      alone h l z a held same =
-          elim (cases_eq h s.file_no) as (λ _. (h ≡ s.file_no) × (l ≡ s.map_no) × (z ≡ i)) [
-            | inl here ↦ (let in_it = in_map l z a (subst (λ f. HasCopy (map_in f l) z a) (ap (file_in back) here ∙ file_left) held) same in (here, in_it.0, in_it.1))
-            | inr other ↦ absurd
-                (other
-                (same_file m sound h l z s.file_no s.map_no i a copy
-                (subst (λ f. HasCopy (map_in f l) z a) (get_or-set_other m.files s.file_no h left (new_file None) other) held) here_at same))
-          ]
+      alone h l z a held same = grind (arith, cases_eq, in_map, file_left, same_file, get_or-set_other, here_at)
 
   -- ---- a copy that one map holds
 

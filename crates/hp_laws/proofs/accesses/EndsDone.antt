@@ -13,8 +13,6 @@ use Rattle.hp_laws.proofs.steps.Outcomes.{Always}
 
 -- what holds of all refusals, and of `Done` with any mount
 module _ (Q : Outcome → Type 0) (stops : (r : Refusal) → Q (Refused r)) (done : (n : Mount) → Q (Answered Done (Some n))) where
-
   module _ (c : Choice) (size : ℕ) (m : Mount) (s : Spot) (home i : ℕ) where
-
     pub fault_done : (intent : Intent) → Always Q (fault c size m home i intent s)
     fault_done intent = grind (arith, common_steps)

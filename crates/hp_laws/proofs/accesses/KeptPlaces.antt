@@ -5,14 +5,13 @@ use Rattle.std.proofs.Common.{Option, None, Some, is_some, List, [], ◌∷◌, 
 use Rattle.std.specs.List.{slice_index_or, list_any}
 use Rattle.std.proofs.lemmas.Bool.{cases_eq, cond_both, eq-eqb, ltb-true, or_cases}
 use Rattle.std.proofs.lemmas.List.{get_or-set_same, get_or-set_other}
-use Rattle.hp_model.specs.declared.answer.Answer.TheVariants.{Done}
 use Rattle.hp_model.specs.declared.cell.Cell.{Cell}
 use Rattle.hp_model.specs.declared.cell.Cell.TheVariants.{Hole, Present}
 use Rattle.hp_model.specs.declared.place.Place.{Place}
 use Rattle.hp_model.specs.declared.place.Place.TheVariants.{Gone, Live}
 use Rattle.hp_model.specs.declared.section.Section.TheVariants.{GrantPage}
 use Rattle.hp_model.specs.declared.step.Intent.{Intent}
-use Rattle.hp_model.specs.declared.step.Intent.TheVariants.{Read, Write}
+use Rattle.hp_model.specs.declared.step.Intent.TheVariants.{Write}
 use Rattle.hp_model.specs.files.Access.{shared_access, new_copy, uncopied_access, private_access, access}
 use Rattle.hp_model.specs.files.CopyWrite.{holds, drop_stamp, robbed, taken_back, is_held_once, copy_write}
 use Rattle.hp_model.specs.files.File.{File, Mount, cell_at, has_page, new_file, with_cell, with_file, with_map}
@@ -22,8 +21,8 @@ use Rattle.hp_model.specs.files.Page.{Page, Copy}
 use Rattle.hp_model.specs.files.Spot.{Spot, cell_written, copied, file_written, map_written, place_written, written}
 use Rattle.hp_model.specs.files.Value.{value}
 use Rattle.hp_model.specs.machine.Kept.{IsFilled}
-use Rattle.hp_model.specs.machine.Plan.{Answered, Ask, Choice, Finish, Outcome}
-use Rattle.hp_model.specs.machine.Promises.{file_in, is_at, is_same_copy, map_in, no_map}
+use Rattle.hp_model.specs.machine.Plan.{Ask, Choice, Finish, Outcome}
+use Rattle.hp_model.specs.machine.Promises.{file_in, is_at, map_in, no_map}
 use Rattle.hp_model.specs.machine.Sound.{IsSoundMount}
 use Rattle.hp_model.specs.pool.Grant.{is_full, rise}
 use Rattle.hp_laws.proofs.lists.Looks.{edit_here, edit_other, same_edit}
@@ -128,18 +127,7 @@ module _ (size : ℕ) (m : Mount) (sound : IsSoundMount m) (s : Spot) (at : IsSp
     both v same = ap v file_here ∙ same ∙ sym (ap v file_was)
 
   fill_held : (page : Page) → is_shared s.map.sharing ≡ true → i < length s.file.cells → Held (with_file m s.file_no (with_cell s.file i (Present page)))
-  fill_held page shared l =
-      let g : File = with_cell s.file i (Present page) in
-      put_held g (λ k x. inl (both g (λ f. place_at (map_in f k) x) refl))
-      (λ x. elim (cases_eq x i) as (λ _. CellAt (with_file m s.file_no g) s.file_no x) [
-        | inl same ↦ subst (λ y. CellAt (with_file m s.file_no g) s.file_no y) (sym same) (inr (
-          ap (λ b. b && (s.file_no == s.file_no)) shared ∙ eq-eqb s.file_no s.file_no refl,
-          refl,
-          ap (λ f. has_page (cell_at f i)) (file_here g) ∙ ap has_page (get_or-set_same s.file.cells i (Present page) Hole l),
-        ))
-        | inr other ↦ inl (both g (λ f. cell_at f x) (get_or-set_other s.file.cells i x (Present page) Hole other))
-      ])
-      (λ k. inl (both g (λ f. (map_in f k).unmapped) refl))
+  fill_held page shared l = grind (arith, put_held, both, cases_eq, eq-eqb, file_here, get_or-set_same, get_or-set_other)
 
   copy_held : (c d : Bool) (o : Option Copy) (new : Copy) → place_at s.map i ≡ Live c o → Held (with_file m s.file_no (with_map s.file s.map_no (with_place s.map i (Live d (Some new)))))
   copy_held c d o new is =
@@ -196,24 +184,7 @@ module _ (size : ℕ) (m : Mount) (sound : IsSoundMount m) (s : Spot) (at : IsSp
     some_marked l x held = grind (arith, common_steps)
 
     lost_beside : (l x : ℕ) → (l ≡ s.map_no → ⊥) → holds copy.stamp (place_at (map_in s.file l) x) ≡ true → LostAt robs s.file_no l x
-    lost_beside l x other held = (
-      writes,
-      (
-        refl,
-        record {
-          index = at_index size m sound s at i 0 [] copy.stamp consumed copy refl is l x held;
-          private = apart;
-          owner = owner;
-          held = ap (λ q. is_same_copy q (place_at (was s.file_no l) x)) is ∙ ap (λ f. holds copy.stamp (place_at (map_in f l) x)) file_was ∙ held;
-          kept = ap (λ q. is_same_copy q (place_at (now robs s.file_no s.map_no) i)) is
-              ∙ ap (λ f. holds copy.stamp (place_at (map_in f s.map_no) i)) (file_here bare) ∙ ap (λ y. holds copy.stamp (place_at y i)) own_map
-              ∙ ap (holds copy.stamp) is ∙ eq-eqb copy.stamp copy.stamp refl;
-          lost = ap (λ f. copy_of (place_at (map_in f l) x)) (file_here bare) ∙ ap copy_of (dropped l x other held) ∙ none_left (place_at (map_in s.file l) x);
-          marked = ap (λ f. (map_in f l).unmapped) (file_here bare) ∙ ap (λ y. y.unmapped) (beside l other) ∙ some_marked l x held;
-        },
-        other,
-      ),
-    )
+    lost_beside l x other held = grind (arith, at_index, file_was, file_here, own_map, eq-eqb, dropped, none_left, marked, beside, some_marked)
 
     place_robbed : (l x : ℕ) → (l ≡ s.map_no → ⊥) → (b : Bool) → holds copy.stamp (place_at (map_in s.file l) x) ≡ b → PlaceAt robs s.file_no l x
     place_robbed l x other true held = grind (arith, common_steps, lost_beside, file_here, dropped, file_was)
@@ -253,8 +224,7 @@ module _ (size : ℕ) (m : Mount) (sound : IsSoundMount m) (s : Spot) (at : IsSp
         (λ e. on_reserved_page Held home _ (λ node. copy_held consumed true None (fresh node) is)) (λ e. on_grant_page Held c m home _ (λ node. copy_held consumed consumed None (fresh node) is))
 
     uncopied_held : (consumed : Bool) (t : Intent) → place_at s.map i ≡ Live consumed None → Always (On Held) (uncopied_access c size m s home i consumed t)
-    uncopied_held consumed Write is = new_held consumed is
-    uncopied_held consumed Read is = always_if (On Held) (has_page (cell_at s.file i)) (Finish (Answered Done (Some m))) (new_copy c size m s home i consumed) (λ e. idle) (λ e. new_held consumed is)
+    uncopied_held consumed t is = grind (arith, new_held, always_if, On, idle)
 
     write_held : (consumed : Bool) (copy : Copy) → intent ≡ Write → is_shared s.map.sharing ≡ false → place_at s.map i ≡ Live consumed (Some copy)
         → Always (On Held) (copy_write c m s home i consumed copy)
@@ -303,11 +273,7 @@ module _ (size : ℕ) (m : Mount) (sound : IsSoundMount m) (s : Spot) (at : IsSp
       same_map j l = same_edit (λ f. map_in f l) (new_file None) edit (λ f. ap (λ g. map_in g l) (shared_edit f)) n.files s.file_no j
 
       shared_place : (j l x : ℕ) → PlaceAt w j l x
-      shared_place j l x =
-          ⊎_elim (λ same. inl (ap (λ y. place_at y x) (same_map j l) ∙ same))
-          (λ rest. ⊎_elim
-          (λ own. inr (inl (record { own = own.own; index = own.index; copy = ap (λ y. is_some (copy_of (place_at y x))) (same_map j l) ∙ own.copy })))
-          (λ lost. (let apart = lost.0.1.1.private in cc)) rest) (held.places j l x)
+      shared_place j l x = grind (arith, same_map)
 
       other_cell : (j x : ℕ) → (x ≡ i → ⊥) → cell_at (file_in w j) x ≡ cell_at (file_in n j) x
       other_cell j x other =
@@ -318,13 +284,7 @@ module _ (size : ℕ) (m : Mount) (sound : IsSoundMount m) (s : Spot) (at : IsSp
       cell_same j x same = grind (arith, common_steps)
 
       cell_here : CellAt w s.file_no i
-      cell_here = inr (
-        ap (λ b. b && (s.file_no == s.file_no)) e ∙ eq-eqb s.file_no s.file_no refl,
-        refl,
-        ap (λ f. has_page (cell_at f i)) (edit_here edit (new_file None) (shared_edit (new_file None)) n.files s.file_no ∙ shared_edit (file_in n s.file_no))
-            ∙ ap has_page (edit_here (cell_written offset bytes) Hole refl (file_in n s.file_no).cells i) ∙ page_stays (cell_at (file_in n s.file_no) i)
-            ∙ (ready size m s at i n done).present e,
-      )
+      cell_here = grind (arith, eq-eqb, edit_here, shared_edit, page_stays, ready)
 
       shared_written : Held w
       shared_written = record {
@@ -368,17 +328,10 @@ module _ (size : ℕ) (m : Mount) (sound : IsSoundMount m) (s : Spot) (at : IsSp
       lost_still j l x same lost = grind (arith, common_steps, own_written, same_written, marked, same_marks)
 
       place_same : (j l x : ℕ) → place_at (now w j l) x ≡ place_at (now n j l) x → PlaceAt w j l x
-      place_same j l x same =
-          ⊎_elim (λ was. inl (same ∙ was))
-          (λ rest. inr (⊎_elim (λ own. inl (record { own = own.own; index = own.index; copy = ap (λ p. is_some (copy_of p)) same ∙ own.copy }))
-          (λ lost. inr (lost_still j l x same lost.0, same ∙ lost.1)) rest)) (held.places j l x)
+      place_same j l x same = grind (arith, lost_still)
 
       own_place : PlaceAt w s.file_no s.map_no i
-      own_place = inr (inl (record {
-        own = ap (λ b. b && (s.map_no == s.map_no)) (eq-eqb s.file_no s.file_no refl) ∙ eq-eqb s.map_no s.map_no refl;
-        index = refl;
-        copy = ap (λ p. is_some (copy_of p)) (own_written ∙ ap (place_written offset bytes) o.is);
-      }))
+      own_place = grind (arith, eq-eqb, own_written)
 
       place_apart : (l x : ℕ) → (l ≡ s.map_no → ⊥) → place_at (now w s.file_no l) x ≡ place_at (now n s.file_no l) x
       place_apart l x other = ap (λ y. place_at y x) (map_apart l other)
@@ -401,11 +354,7 @@ module _ (size : ℕ) (m : Mount) (sound : IsSoundMount m) (s : Spot) (at : IsSp
       private_mark j l lost = grind (arith, common_steps, lost_still, place_apart)
 
       private_written : Held w
-      private_written = record {
-        places = private_place;
-        cells = λ j x. ⊎_elim (λ was. inl (same_cell j x ∙ was)) (λ filled. inr (filled.0, filled.1, ap has_page (same_cell j x) ∙ filled.2)) (held.cells j x);
-        marks = λ j l. ⊎_elim (λ same. inl (same_marks j l ∙ same)) (λ lost. private_mark j l lost) (held.marks j l);
-      }
+      private_written = grind (arith, private_place, same_cell, same_marks, private_mark)
 
     pub store_held : Held w
     store_held = elim (is_shared s.map.sharing) as (λ b. is_shared s.map.sharing ≡ b → Held w) [ true ↦ λ e. shared_written e | false ↦ λ e. private_written e ] refl

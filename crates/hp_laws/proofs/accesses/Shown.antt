@@ -9,7 +9,6 @@ use Rattle.hp_model.specs.declared.cell.Cell.{Cell}
 use Rattle.hp_model.specs.declared.cell.Cell.TheVariants.{Hole, Entered, Present}
 use Rattle.hp_model.specs.declared.place.Place.{Place}
 use Rattle.hp_model.specs.declared.place.Place.TheVariants.{Gone, Live}
-use Rattle.hp_model.specs.declared.refusal.Refusal.TheVariants.{TakenByOwner}
 use Rattle.hp_model.specs.declared.step.Intent.TheVariants.{Read, Write}
 use Rattle.hp_model.specs.files.Access.{shared_access, new_copy, uncopied_access, private_access, access}
 use Rattle.hp_model.specs.files.CopyWrite.{robbed, taken_back, is_held_once, owner_write, copy_write}
@@ -60,7 +59,6 @@ pub not_below : (b : Bool) (x : Place Copy) (c : Bool) (o : Option Copy) → (if
 not_below b x c o e = grind (arith, common_steps)
 
 module _ (m : Map) (i : ℕ) (c : Bool) (o : Option Copy) (is : place_at m i ≡ Live c o) (p : Place Copy) where
-
   pub place_put : place_at (with_place m i p) i ≡ p
   place_put = grind (arith, common_steps)
 
@@ -223,13 +221,10 @@ module _ (size : ℕ) (m : Mount) (s : Spot) (at : IsSpot m s) (i : ℕ) where
       idle = stays_same (λ e. cc)
 
       uncopied_same : (consumed : Bool) → place_at s.map i ≡ Live consumed None → Always (On Same) (uncopied_access c size m s home i consumed Read)
-      uncopied_same consumed is =
-          always_if (On Same) (has_page (cell_at s.file i)) (Finish (Answered Done (Some m))) (new_copy c size m s home i consumed) (λ e. idle)
-          (λ e. always_weaker (On Copied) (On Same) (on_weaker Copied Same (λ n h. h.0)) (new_copy c size m s home i consumed) (new_same consumed is))
+      uncopied_same consumed is = grind (arith, always_if, idle, always_weaker, on_weaker, new_same)
 
       read_private : (p : Place Copy) → place_at s.map i ≡ p → Always (On Same) (private_access c size m s home i p Read)
-      read_private Gone is = tt
-      read_private p is = grind (arith, common_steps, idle, always_test, uncopied_same)
+      read_private p is = grind (arith, idle, always_test, uncopied_same)
 
       -- ---- a write
 
@@ -263,15 +258,10 @@ module _ (size : ℕ) (m : Mount) (s : Spot) (at : IsSpot m s) (i : ℕ) where
       write_private : (p : Place Copy) → place_at s.map i ≡ p → Always (On Result) (private_access c size m s home i p Write)
       write_private Gone is = tt
       write_private (Live consumed (Some copy)) is = write_copy consumed copy is
-      write_private (Live consumed None) is =
-          always_test (On Result) s.map.unmapped TakenByOwner (uncopied_access c size m s home i consumed Write) tt
-          (λ e. always_weaker (On Copied) (On Result) (on_weaker Copied Result (λ n h. inl h)) (new_copy c size m s home i consumed) (new_same consumed is))
+      write_private (Live consumed None) is = grind (arith, always_test, always_weaker, on_weaker, new_same)
 
     pub write_done : i < length s.file.cells → Always (On Result) (access c size m s home i Write)
-    write_done l =
-        always_if (On Result) (is_shared s.map.sharing) (shared_access c size m s home i (cell_at s.file i)) (private_access c size m s home i (place_at s.map i) Write)
-        (λ e. always_weaker (On Same) (On Result) (on_weaker Same Result (λ n h. inl (h, λ apart. cc))) (shared_access c size m s home i (cell_at s.file i)) (shared_same (cell_at s.file i) l refl))
-        (λ e. write_private e (place_at s.map i) refl)
+    write_done l = grind (arith, always_if, always_weaker, on_weaker, shared_same, write_private)
 
     pub read_same : i < length s.file.cells → Always (On Same) (access c size m s home i Read)
     read_same l = grind (arith, common_steps, always_if, shared_same, read_private)

@@ -191,9 +191,7 @@ spot_seen size m s at i = ap (seen size s.map_no i) (at.file.is (new_file None))
 
 load_ends : (size : ℕ) (m : Mount) (s : Spot) (at : IsSpot m s) (i offset count : ℕ) (o : Outcome) → On (Same size m s at i) o
     → Loads size (Some m) (Some s) i offset count (continued (λ n. Answered (bytes_answer offset count (value size (again n s).file (again n s).map i)) (Some n)) o)
-load_ends size m s at i offset count (Refused r) on = load_refused size (Some m) (Some s) i offset count r
-load_ends size m s at i offset count (Answered a None) on = absurd on
-load_ends size m s at i offset count (Answered a (Some n)) on = grind (arith, common_steps, spot_seen)
+load_ends size m s at i offset count o on = grind (arith, load_refused, spot_seen)
 
 pub load_at : (size : ℕ) (c : Choice) (m : Mount) (s : Spot) → IsSpot m s → (home i offset count : ℕ)
     → Always (Loads size (Some m) (Some s) i offset count) (load c size m home i offset count s)

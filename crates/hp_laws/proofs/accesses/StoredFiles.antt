@@ -1,16 +1,14 @@
 -- What files show after a store.
 use Rattle.std.proofs.Common.{arith}
 use Rattle.std.proofs.lemmas.Grind.{common_steps}
-use Rattle.std.proofs.Common.{◌≡◌, ℕ, Bool, true, false, ◌&&◌, ◌==◌, None, List, refl, sym, ap, ◌∙◌, subst, if◌then◌else◌}
+use Rattle.std.proofs.Common.{◌≡◌, ℕ, Bool, true, false, ◌&&◌, ◌==◌, None, List, refl, sym, ap, ◌∙◌, if◌then◌else◌}
 use Rattle.std.proofs.lemmas.Bool.{cond_both, eqb-true, eqb-false}
 use Rattle.hp_model.specs.declared.cell.Cell.{Cell}
-use Rattle.hp_model.specs.declared.cell.Cell.TheVariants.{Hole}
 use Rattle.hp_model.specs.files.File.{File, Mount, cell_at, has_page, new_file}
-use Rattle.hp_model.specs.Lists.{edit_at}
 use Rattle.hp_model.specs.files.Mapping.{is_shared}
 use Rattle.hp_model.specs.files.Page.{Page}
 use Rattle.hp_model.specs.machine.Promises.{file_in, over}
-use Rattle.hp_model.specs.files.Spot.{Spot, cell_written, file_written, map_written, written}
+use Rattle.hp_model.specs.files.Spot.{Spot, cell_written, file_written, written}
 use Rattle.hp_model.specs.files.Value.{shown}
 use Rattle.hp_laws.proofs.lists.Looks.{edit_here, edit_other, same_edit}
 use Rattle.hp_laws.proofs.counts.MountMoves.{IsSpot}
@@ -42,12 +40,7 @@ module _ (size : ℕ) (m : Mount) (s : Spot) (at : IsSpot m s) (i : ℕ) (n : Mo
     unseen h = same_edit (look size x) (new_file None) edit h n.files s.file_no j ∙ is.cells j x
 
     other_index : (i == x) ≡ false → look size x (file_in after j) ≡ look size x (file_in m j)
-    other_index e =
-        unseen
-        (λ f. cond_both (is_shared s.map.sharing) (record f { cells = edit_at (cell_written offset bytes) f.cells i })
-        (record f { maps = edit_at (map_written i offset bytes) f.maps s.map_no }) (λ g. look size x g ≡ look size x f)
-        (λ t. ap (shown size) (edit_other (cell_written offset bytes) Hole f.cells i x (λ same. eqb-false i x e (sym same))))
-        (λ t. refl))
+    other_index e = grind (arith, unseen, cond_both, look, edit_other, eqb-false)
 
     other_kind : is_shared s.map.sharing ≡ false → look size x (file_in after j) ≡ look size x (file_in m j)
     other_kind e = grind (arith, common_steps, unseen, look)
@@ -69,6 +62,4 @@ module _ (size : ℕ) (m : Mount) (s : Spot) (at : IsSpot m s) (i : ℕ) (n : Mo
     stored false b d j x ea eb ed = other_index is offset bytes j x ea
     stored true false d j x ea eb ed = other_kind is offset bytes j x eb
     stored true true false j x ea eb ed = other_file is offset bytes j x ed
-    stored true true true j x ea eb ed =
-        subst (λ y. look size y (file_in (written n s i offset bytes) j) ≡ over offset bytes (look size y (file_in m j))) (eqb-true i x ea)
-        (subst (λ y. look size i (file_in (written n s i offset bytes) y) ≡ over offset bytes (look size i (file_in m y))) (eqb-true s.file_no j ed) (here eb))
+    stored true true true j x ea eb ed = grind (arith, look, eqb-true, here)

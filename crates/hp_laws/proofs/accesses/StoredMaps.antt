@@ -104,9 +104,7 @@ module _ (size : ℕ) (m : Mount) (sound : IsSoundMount m) (s : Spot) (at : IsSp
     pub beside : (l x : ℕ) → (l ≡ s.map_no → ⊥) → (seen size l x (file_in n s.file_no) ≡ here s.file_no l x) ⊎ Lost n s.file_no l x
 
   copied_mine : (n : Mount) → is_shared s.map.sharing ≡ false → Copied size m s at i n → Mine n
-  copied_mine n apart done =
-      let same = done.0 in
-      record { own = done.1 apart; self = λ x. same.maps s.file_no s.map_no x; there = λ j l x other. same.maps j l x; beside = λ l x other. inl (same.maps s.file_no l x) }
+  copied_mine n apart done = grind arith
 
   module _ (stamp : ℕ) where
     abbrev pub left : File
@@ -192,45 +190,17 @@ module _ (size : ℕ) (m : Mount) (sound : IsSoundMount m) (s : Spot) (at : IsSp
 
     -- what stands at the owner's place afterwards
     pub own_after : place_at (map_in (file_in after s.file_no) s.map_no) i ≡ place_written offset bytes (place_at (map_in f s.map_no) i)
-    own_after =
-        let own = is.own in ap (λ y. place_at (map_in y s.map_no) i) file_here ∙ ap (λ y. place_at y i) map_here ∙ written_at (map_in f s.map_no) i own.consumed (Some own.copy) own.is offset bytes
+    own_after = grind (arith, file_here, map_here, written_at)
 
     -- the test of what is reached, by its three parts
     abbrev Tested : (a d b : Bool) → (j l x : ℕ) → Type 0
     Tested a d b j l x = (seen size l x (file_in after j) ≡ (if a && (d && b) then over offset bytes (here j l x) else here j l x)) ⊎ Lost after j l x
 
     in_other_file : (a b : Bool) (j l x : ℕ) → (j ≡ s.file_no → ⊥) → Tested a false b j l x
-    in_other_file a b j l x other =
-        let same = ap (seen size l x) (edit_other (file_written s i offset bytes) (new_file None) n.files s.file_no j other) ∙ is.there j l x other in
-        inl (same ∙ untested a)
-      where
-        untested : (a : Bool) → here j l x ≡ (if a && (false && b) then over offset bytes (here j l x) else here j l x)
-        untested true = refl
-        untested false = refl
+    in_other_file a b j l x other = grind (arith, seen, edit_other)
 
     in_other_map : (a : Bool) (l x : ℕ) → (l ≡ s.map_no → ⊥) → Tested a true false s.file_no l x
-    in_other_map a l x other =
-        ⊎_elim
-        (λ same. inl (ap (seen size l x) file_here ∙ ap (λ y. by_place size (place_at y x) (look size x f)) (map_other l other) ∙ same ∙ untested a))
-        (λ lost. (let new : map_in (file_in after s.file_no) l ≡ map_in f l = ap (λ y. map_in y l) file_here ∙ map_other l other in
-        inr (
-          lost.0,
-          record {
-            index = lost.1.index;
-            private = lost.1.private;
-            owner = lost.1.owner;
-            held = lost.1.held;
-            kept = ap (is_same_copy (place_at s.map i)) own_after ∙ same_written offset bytes (place_at s.map i) (place_at (map_in f s.map_no) i) ∙ lost.1.kept;
-            lost = ap (λ y. copy_of (place_at y x)) new ∙ lost.1.lost;
-            marked = ap (λ y. y.unmapped) new ∙ lost.1.marked;
-          },
-          lost.2,
-        )))
-        (is.beside l x other)
-      where
-        untested : (a : Bool) → here s.file_no l x ≡ (if a && (true && false) then over offset bytes (here s.file_no l x) else here s.file_no l x)
-        untested true = refl
-        untested false = refl
+    in_other_map a l x other = grind (arith, seen, file_here, by_place, look, map_other, own_after, same_written, marked)
 
     seen_after : (x : ℕ) → seen size s.map_no x (file_in after s.file_no) ≡ by_place size (place_at (map_written i offset bytes (map_in f s.map_no)) x) (look size x f)
     seen_after x = ap (seen size s.map_no x) file_here ∙ ap (λ y. by_place size (place_at y x) (look size x f)) map_here
@@ -251,17 +221,11 @@ module _ (size : ℕ) (m : Mount) (sound : IsSoundMount m) (s : Spot) (at : IsSp
     tested a false b j l x ea ed eb = in_other_file a b j l x (λ same. eqb-false s.file_no j ed (sym same))
     tested a true false j l x ea ed eb =
         subst (λ y. Tested a true false y l x) (eqb-true s.file_no j ed) (in_other_map a l x (λ same. eqb-false s.map_no l eb (sym same)))
-    tested false true true j l x ea ed eb =
-        subst (λ y. Tested false true true y l x) (eqb-true s.file_no j ed)
-        (subst (λ y. Tested false true true s.file_no y x) (eqb-true s.map_no l eb) (at_other x (λ same. eqb-false i x ea (sym same))))
+    tested false true true j l x ea ed eb = grind (arith, eqb-true, at_other, eqb-false)
     tested true true true j l x ea ed eb = grind (arith, common_steps, eqb-true, at_here)
 
     private_seen : (j l x : ℕ) → Seen after j l x
-    private_seen j l x =
-        let shown = copy_of (place_at (map_in (file_in m j) l) x) in
-        subst (λ b. (seen size l x (file_in after j) ≡ (if (i == x) && ((s.file_no == j) && (if b then not (is_some shown) else (s.map_no == l)))
-        then over offset bytes (here j l x) else here j l x)) ⊎ Lost after j l x) (sym apart)
-        (tested (i == x) (s.file_no == j) (s.map_no == l) j l x refl refl refl)
+    private_seen j l x = grind (arith, seen, tested)
 
   pub store_seen : (n : Mount) → Result size m s at i n → (j l x : ℕ) → Seen (written n s i offset bytes) j l x
   store_seen n done j l x =
@@ -289,15 +253,7 @@ module _ (size : ℕ) (m : Mount) (sound : IsSoundMount m) (s : Spot) (at : IsSp
   -- ---- a write that is only a fault
 
   in_mine : (n : Mount) → Mine n → (j l x : ℕ) → (seen size l x (file_in n j) ≡ here j l x) ⊎ Lost n j l x
-  in_mine n own j l x =
-      elim (cases_eq j s.file_no) as (λ _. (seen size l x (file_in n j) ≡ here j l x) ⊎ Lost n j l x) [
-        | inl same ↦ subst (λ k. (seen size l x (file_in n k) ≡ here k l x) ⊎ Lost n k l x) (sym same)
-            (elim (cases_eq l s.map_no) as (λ _. (seen size l x (file_in n s.file_no) ≡ here s.file_no l x) ⊎ Lost n s.file_no l x) [
-              | inl own_map ↦ subst (λ k. (seen size k x (file_in n s.file_no) ≡ here s.file_no k x) ⊎ Lost n s.file_no k x) (sym own_map) (inl (own.self x))
-              | inr other ↦ own.beside l x other
-            ])
-        | inr other ↦ inl (own.there j l x other)
-      ]
+  in_mine n own j l x = grind (arith, cases_eq, seen)
 
   pub touched_seen : (n : Mount) → Result size m s at i n → (j l x : ℕ) → (seen size l x (file_in n j) ≡ here j l x) ⊎ Lost n j l x
   touched_seen n done j l x = ⊎_elim (λ copied. inl (copied.0.maps j l x)) (λ taken. in_mine n (mine n taken.apart done) j l x) done

@@ -1,7 +1,7 @@
 -- Maps without some of the copies of others: what holds of the copies of those holds of theirs.
 use Rattle.std.proofs.lemmas.Grind.{common_steps}
-use Rattle.std.proofs.Common.{◌≡◌, ℕ, ◌-◌, ◌<◌, ◌≤◌, Bool, true, false, Some, List, [], ◌∷◌, ◌++◌, length, map, get_or, cond, arith, refl, sym, ap, ◌∙◌, subst, nat_lt, if◌then◌else◌}
-use Rattle.std.specs.List.{All, count_by, filter, slice_index_or}
+use Rattle.std.proofs.Common.{◌≡◌, ℕ, ◌-◌, ◌<◌, ◌≤◌, Bool, true, false, Some, List, [], ◌∷◌, ◌++◌, length, map, get_or, cond, arith, refl, sym, ◌∙◌, subst, if◌then◌else◌}
+use Rattle.std.specs.List.{All, count_by, filter}
 use Rattle.std.proofs.lemmas.Bool.{and_from, and_parts}
 use Rattle.std.proofs.lemmas.List.{get_or-map, get_or_default, length-map}
 use Rattle.std.proofs.lemmas.List.Elements.{All-append, All-filter, All-map}
@@ -39,15 +39,7 @@ stays_if : (b : Bool) (p q : Place Copy) → Stays p q → Stays (if b then Gone
 stays_if b p q h a e = grind (arith, common_steps)
 
 less_by : (x : Map) (mark : Bool) (ps : List (Place Copy)) → ((k : ℕ) → Stays (get_or ps k Gone) (get_or x.places k Gone)) → IsLess x (record x { unmapped = mark; places = ps })
-less_by x mark ps h =
-    let y : Map = record x { unmapped = mark; places = ps } in
-    let same : (i : ℕ) → Stays (place_at y i) (place_at x i) = λ i. stays_if (nat_lt i x.start) (slice_index_or ps (i - x.start) Gone) (slice_index_or x.places (i - x.start) Gone) (h (i - x.start)) in
-    record {
-      sharing = refl;
-      copies = λ i a has. sym (ap copy_of (same i a has)) ∙ has;
-      owner = λ o. o;
-      consumed = λ o i a has e. ap is_unconsumed (same i a has) ∙ e;
-    }
+less_by x mark ps h = grind (arith, stays_if)
 
 without_stays : (p : Place Copy) → Stays (without_copy p) p
 without_stays p a e = grind (arith, common_steps)

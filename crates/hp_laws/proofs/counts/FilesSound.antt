@@ -1,7 +1,7 @@
 -- Each change of a file keeps it sound.
 use Rattle.std.proofs.lemmas.Grind.{common_steps}
 use Rattle.std.proofs.Common.{◌≡◌, inl, inr, ℕ, ◌+◌, ◌-◌, ◌<◌, ◌≤◌, Bool, true, false, not, None, Some}
-use Rattle.std.proofs.Common.{List, [], ◌∷◌, length, map, get_or, cond, arith, refl, sym, ap, ◌∙◌, subst, nat_lt, if◌then◌else◌}
+use Rattle.std.proofs.Common.{List, [], ◌∷◌, length, map, get_or, cond, arith, refl, sym, ap, ◌∙◌, subst, nat_lt}
 use Rattle.std.specs.List.{slice_index_or, slice_set}
 use Rattle.std.proofs.lemmas.Bool.{and_parts, cases_eq, cond_both, false_from_ne_true, ltb-false, ltb-true}
 use Rattle.std.proofs.lemmas.List.{get_or-map, get_or-set_other, get_or-set_same, get_or_past, length-map, length-set}
@@ -78,22 +78,10 @@ module _ (n pages : ℕ) (x : Map) (i : ℕ) (a : Copy) (from : n ≤ i) (to : i
   none_left p e = grind (arith, common_steps)
 
   none_at : x.start ≤ i → copy_of (get_or cut (i - x.start) Gone) ≡ Some a → ⊥
-  none_at low has =
-      let k : ℕ = i - x.start in
-      elim (nat_lt k (length x.places)) as (λ b. nat_lt k (length x.places) ≡ b → ⊥) [
-        | true ↦ λ e. none_left (get_or x.places k Gone)
-            (sym (ap copy_of (get_or-edit_in without_copy (n - x.start) (n + pages - x.start) x.places k Gone (omega (arith, from)) (omega (arith, to, low)) (ltb-true k (length x.places) e))) ∙ has)
-        | false ↦ λ e. (let past = ltb-false k (length x.places) e in
-            let long = length-edit_range without_copy (n - x.start) (n + pages - x.start) x.places in
-            let none = sym (ap copy_of (get_or_past cut k Gone (omega (arith, long, past)))) ∙ has in cc)
-      ] refl
+  none_at low has = grind (arith, none_left, get_or-edit_in, ltb-true, ltb-false, length-edit_range, get_or_past)
 
   cut_off : HasCopy (map_punched n (n + pages) x) i a → ⊥
-  cut_off =
-      elim (nat_lt i x.start) as (λ b. nat_lt i x.start ≡ b → copy_of (if b then Gone else slice_index_or cut (i - x.start) Gone) ≡ Some a → ⊥) [
-        | true ↦ λ e h. cc
-        | false ↦ λ e h. none_at (ltb-false i x.start e) h
-      ] refl
+  cut_off = grind (arith, none_at, ltb-false)
 
 length-cells_to : (n : ℕ) (cells : List (Cell Page)) → length (cells_to n cells) ≡ n
 length-cells_to n cells = grind (arith, common_steps)

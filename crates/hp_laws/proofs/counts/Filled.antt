@@ -70,10 +70,7 @@ module _ (size a b : ℕ) (nodes : List ℕ) (f : File) where
 
     -- the page at each index of the range
     pub filled_there : (i : ℕ) → a ≤ i → i < b → has_page (cell_at (range_filled size a b nodes f) i) ≡ true
-    filled_there i low high =
-        let left = fill.left in
-        let pages_of_all = length-map nodes (zero_page size) in
-        all_there a b (cells_filled a pages longer) (omega (arith, left, pages_of_all, all)) i low high (omega (arith, high, length-filled))
+    filled_there i low high = grind (arith, fill, length-map, all_there, length-filled)
 
     -- index by index: as it was, or a page of zeros where there was none
     pub filled_index : (i : ℕ) → (cell_at (range_filled size a b nodes f) i ≡ cell_at f i) ⊎ IsNew a b (λ p. p.bytes ≡ zeros size) f.cells (range_filled size a b nodes f).cells i

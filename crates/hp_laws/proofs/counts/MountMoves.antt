@@ -1,6 +1,6 @@
 -- How the counts of a mount change with one of its files.
 use Rattle.std.proofs.lemmas.Grind.{common_steps}
-use Rattle.std.proofs.Common.{◌≡◌, ◌==◌, subst, ℕ, ◌+◌, ◌<◌, ◌≤◌, Bool, Option, None, Some, List, length, map, refl, sym, ap, ◌∙◌, cond, arith}
+use Rattle.std.proofs.Common.{◌≡◌, ◌==◌, ℕ, ◌+◌, ◌<◌, ◌≤◌, Bool, Option, None, Some, List, length, map, refl, sym, ap, ◌∙◌, cond, arith}
 use Rattle.std.specs.List.{list_any, slice_index_or}
 use Rattle.std.specs.Option.{option_map}
 use Rattle.std.proofs.lemmas.List.Sums.{sum_by-set}
@@ -125,10 +125,7 @@ map_at test f q e = let p = found_place test f.maps q e in record { within = p.w
 
 spot_of_map : (m : Mount) (test : Map → Bool) (f : ℕ × File) (s : Spot) → IsFileAt m f.0 f.1 → (o : Option (ℕ × Map)) → found test f.1.maps ≡ o → option_map (spot_in f) o ≡ Some s → IsSpot m s
 spot_of_map m test f s at None w e = cc
-spot_of_map m test f s at (Some q) w e =
-    let is : spot_in f q ≡ s = cc in
-    let here : IsSpot m (spot_in f q) = record { file = at; map = map_at test f.1 q w } in
-    subst (λ (s : Spot). IsSpot m s) is here
+spot_of_map m test f s at (Some q) w e = grind (arith, map_at)
 
 spot_of_file : (m : Mount) (test : Map → Bool) (s : Spot) (o : Option (ℕ × File)) → found (λ f. list_any test f.maps) m.files ≡ o
     → (elim o [ None ↦ None | Some f ↦ option_map (spot_in f) (found test f.1.maps) ]) ≡ Some s → IsSpot m s

@@ -200,12 +200,10 @@ module _ (parent child task number : ℕ) where
   was = is_map (if task == child then parent else task) number
 
   kept_count : (xs : List Map) (b : Bool) → (task == child) ≡ b → count_by (is_map task number) (filter (λ x. not (is_of child x)) xs) ≤ cond b 0 (count_by (is_map task number) xs)
-  kept_count xs true e = grind (arith, common_steps, filter_none, both_ways, not-true, eqb-true, and_parts)
-  kept_count xs false e = filter_count (is_map task number) (is_map task number) (λ x. not (is_of child x)) (λ x kept passes. passes) xs
+  kept_count xs b e = grind (arith, filter_none, both_ways, not-true, eqb-true, and_parts, filter_count)
 
   made_count : (xs : List Map) (b : Bool) → (task == child) ≡ b → count_by (is_map task number) (map (map_for child) (filter (is_of parent) xs)) ≤ cond b (count_by (is_map parent number) xs) 0
-  made_count xs true e = grind (arith, common_steps, count_map, filter_count, and_from, and_parts)
-  made_count xs false e = grind (arith, common_steps, count_map, filter_none, both_ways, eq-eqb, eqb-true, and_parts)
+  made_count xs b e = grind (arith, count_map, filter_count, and_from, and_parts, filter_none, both_ways, eq-eqb, eqb-true)
 
   forked_count : (f : File) → count_by (is_map task number) (file_forked parent child f).maps ≤ count_by was f.maps
   forked_count f =

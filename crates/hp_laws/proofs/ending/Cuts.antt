@@ -1,6 +1,6 @@
 -- What files and maps show after a range of a file or of a map is gone.
 use Rattle.std.proofs.lemmas.Grind.{common_steps}
-use Rattle.std.proofs.Common.{◌≡◌, ⊎_elim, inl, inr, ◌⊎◌, subst, ℕ, ◌+◌, ◌-◌, ◌<◌, ◌≤◌, ◌&&◌, ◌==◌, Bool, true, false, Option}
+use Rattle.std.proofs.Common.{◌≡◌, inl, inr, ◌⊎◌, subst, ℕ, ◌+◌, ◌-◌, ◌<◌, ◌≤◌, ◌&&◌, ◌==◌, Bool, true, false, Option}
 use Rattle.std.proofs.Common.{None, Some, List, length, map, replicate, take, get_or, option_map, refl, sym, ap, ◌∙◌, arith, if◌then◌else◌, nat_le, nat_lt}
 use Rattle.std.specs.List.{list_any}
 use Rattle.std.specs.Str.{bytes_eq}
@@ -14,7 +14,7 @@ use Rattle.hp_model.specs.declared.event.SlotEvent.{SlotEvent}
 use Rattle.hp_model.specs.declared.event.SlotEvent.TheVariants as slot
 use Rattle.hp_model.specs.declared.place.Place.{Place}
 use Rattle.hp_model.specs.declared.place.Place.TheVariants.{Gone}
-use Rattle.hp_model.specs.files.File.{File, Mount, cell_at, cell_punched, cells_to, new_file, with_file}
+use Rattle.hp_model.specs.files.File.{File, Mount, cell_punched, cells_to, new_file, with_file}
 use Rattle.hp_model.specs.files.GiveBack.{punched, truncated, unlinked}
 use Rattle.hp_model.specs.Lists.{edit_range, found}
 use Rattle.hp_model.specs.files.Mapping.{Map, is_map, map_punched, no_map, place_at, without_copy}
@@ -44,41 +44,18 @@ module _ {X : Type 0} (f : X → X) (a b : ℕ) (xs : List X) (k : ℕ) (d : X) 
   beyond past = (let same = length-edit_range f a b xs in get_or_past (edit_range f a b xs) k d (omega (arith, past, same)))
 
   pub ranged_in : f d ≡ d → a ≤ k → k < b → get_or (edit_range f a b xs) k d ≡ f (get_or xs k d)
-  ranged_in none from to =
-      ⊎_elim (λ l. get_or-edit_in f a b xs k d from to l) (λ past. beyond past ∙ sym none ∙ sym (ap f (get_or_past xs k d past))) (cases_lt k (length xs))
+  ranged_in none from to = grind (arith, get_or-edit_in, beyond, get_or_past, cases_lt)
 
   pub ranged_out : (k < a) ⊎ (b ≤ k) → get_or (edit_range f a b xs) k d ≡ get_or xs k d
   ranged_out out = grind (arith, common_steps, get_or-edit_below, get_or-edit_past, cases_lt, beyond, get_or_past)
 
   pub ranged : f d ≡ d → get_or (edit_range f a b xs) k d ≡ (if is_in a b k then f (get_or xs k d) else get_or xs k d)
-  ranged none = by_tests (nat_le a k) (nat_lt k b) refl refl
-    where
-      by_tests : (x y : Bool) → nat_le a k ≡ x → nat_lt k b ≡ y → get_or (edit_range f a b xs) k d ≡ (if x && y then f (get_or xs k d) else get_or xs k d)
-      by_tests true true from to = ranged_in none (leb-true a k from) (ltb-true k b to)
-      by_tests x y from to = grind (arith, common_steps, ranged_out, ltb-false, leb-false)
+  ranged none = grind (arith, ranged_in, leb-true, ltb-true, ranged_out, ltb-false, leb-false)
 
 -- of a map's places
 pub place_ranged : (g : Place Copy → Place Copy) → g Gone ≡ Gone → (a b : ℕ) (y : Map) (i : ℕ)
     → place_at (record y { places = edit_range g (a - y.start) (b - y.start) y.places }) i ≡ (if is_in a b i then g (place_at y i) else place_at y i)
-place_ranged g none a b y i = by_start (nat_lt i y.start) refl
-  where
-    either : (c : Bool) → Gone ≡ (if c then g Gone else Gone)
-    either true = sym none
-    either false = refl
-
-    by_tests : y.start ≤ i → (c d : Bool) → nat_le a i ≡ c → nat_lt i b ≡ d
-        → get_or (edit_range g (a - y.start) (b - y.start) y.places) (i - y.start) Gone ≡ (if c && d then g (get_or y.places (i - y.start) Gone) else get_or y.places (i - y.start) Gone)
-    by_tests above true true from to =
-        let low = leb-true a i from in
-        let high = ltb-true i b to in
-        ranged_in g (a - y.start) (b - y.start) y.places (i - y.start) Gone none (omega (arith, low, above)) (omega (arith, high, above))
-    by_tests above c d from to = grind (arith, common_steps, ltb-false, ranged_out, leb-false)
-
-    by_start : (c : Bool) → nat_lt i y.start ≡ c
-        → (if c then Gone else get_or (edit_range g (a - y.start) (b - y.start) y.places) (i - y.start) Gone)
-        ≡ (if is_in a b i then g (if c then Gone else get_or y.places (i - y.start) Gone) else (if c then Gone else get_or y.places (i - y.start) Gone))
-    by_start true below = either (is_in a b i)
-    by_start false above = by_tests (ltb-false i y.start above) (nat_le a i) (nat_lt i b) refl refl
+place_ranged g none a b y i = grind (arith, leb-true, ltb-true, ranged_in, ltb-false, ranged_out, leb-false)
 
 -- ---- a file of which indices are cut off
 
@@ -99,28 +76,10 @@ punched_shows size c = grind (arith, common_steps)
 
 module _ (size a b : ℕ) (f : File) where
   punch_cells : (x : ℕ) → look size x (punched a b f) ≡ (if is_in a b x then zeros size else look size x f)
-  punch_cells x = ap (shown size) (ranged cell_punched a b f.cells x Hole refl) ∙ by_test (is_in a b x)
-    where
-      by_test : (c : Bool) → shown size (if c then cell_punched (cell_at f x) else cell_at f x) ≡ (if c then zeros size else look size x f)
-      by_test true = punched_shows size (cell_at f x)
-      by_test false = refl
+  punch_cells x = grind (arith, ranged, look, punched_shows)
 
   pub punch_cut : IsCut size f (punched a b f) (map_punched a b) (is_in a b)
-  punch_cut = record {
-    maps = refl;
-    name = refl;
-    shape = λ y. pages_same y y.unmapped (map_punched a b y).places (length-edit_range without_copy (a - y.start) (b - y.start) y.places);
-    marks = λ y. refl;
-    cells = punch_cells;
-    seen = λ y sound x.
-        ap (λ p. by_place size p (look size x (punched a b f))) (place_ranged without_copy refl a b y x)
-        ∙ ap (by_place size (if is_in a b x then without_copy (place_at y x) else place_at y x)) (punch_cells x) ∙ by_test y x (is_in a b x);
-  }
-    where
-      by_test : (y : Map) (x : ℕ) (c : Bool)
-          → by_place size (if c then without_copy (place_at y x) else place_at y x) (if c then zeros size else look size x f) ≡ (if c then zeros size else value size f y x)
-      by_test y x true = no_copy size (place_at y x) (zeros size)
-      by_test y x false = refl
+  punch_cut = grind (arith, pages_same, places, length-edit_range, punch_cells, seen, look, place_ranged, no_copy)
 
 module _ (size n : ℕ) (f : File) where
   pub cell_kept : (x : ℕ) → get_or (cells_to n f.cells) x Hole ≡ get_or (take n f.cells) x Hole
@@ -212,13 +171,7 @@ module _ (size : ℕ) (m : Mount) (sound : IsSoundMount m) (name : List ℕ) (q 
       ]
 
   marks_cut : (test : Map → Bool) (p : Spot) → spot m test ≡ Some p → (map_in (file_in m p.file_no) p.map_no).unmapped ≡ true → (map_in (file_in after p.file_no) p.map_no).unmapped ≡ true
-  marks_cut test p found marked =
-      elim (cases_eq p.file_no q.0) as (λ _. (map_in (file_in after p.file_no) p.map_no).unmapped ≡ true) [
-        | inl same ↦ subst (λ k. (map_in (file_in after k) p.map_no).unmapped ≡ true) (sym same)
-            (ap (λ y. y.unmapped) (map_now p.map_no (within_file p test found same)) ∙ is.marks (map_in q.1 p.map_no)
-            ∙ ap (λ f. (map_in f p.map_no).unmapped) (sym file_was) ∙ subst (λ k. (map_in (file_in m k) p.map_no).unmapped ≡ true) same marked)
-        | inr other ↦ ap (λ f. (map_in f p.map_no).unmapped) (file_other p.file_no other) ∙ marked
-      ]
+  marks_cut test p found marked = grind (arith, cases_eq, map_now, within_file, file_was, file_other)
 
   pub same_keys : keys after ≡ keys m
   same_keys =

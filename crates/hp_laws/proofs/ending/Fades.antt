@@ -49,7 +49,6 @@ pub record Fades (size gone : ℕ) (x y : Slot) : Type 0 where
   pub files : KeepsFiles x y
 
 module _ (size gone : ℕ) where
-
   pub stays : (x : Slot) → Fades size gone x x
   stays x = grind (arith, common_steps)
 
@@ -126,8 +125,7 @@ module _ (size gone : ℕ) where
   FadesTo old (Answered a new) = Fades size gone old new
 
   exits : (k : ℕ) (c : Choice) (old : Slot) → Always (FadesTo old) (slot_event size k c old (slot.ExitMaps gone))
-  exits k c None = tt
-  exits k c (Some m) = always_gives (FadesTo (Some m)) Done (Some m) (Some (without_task gone m)) (exit_fades m)
+  exits k c old = grind (arith, always_gives, exit_fades)
 
   forks : (k : ℕ) (c : Choice) (old : Slot) (parent : ℕ) → Always (FadesTo old) (slot_event size k c old (slot.ForkMaps parent gone))
   forks k c None parent = tt

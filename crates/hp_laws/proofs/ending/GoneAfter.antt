@@ -70,8 +70,7 @@ none_weaker task number (x ∷ xs) none = by_test (is_of task x) refl none (λ r
     by_test false is none rest = rw is (rest (subst (λ b. (b || list_any (is_of task) xs) ≡ false) is none))
 
 pub no_map_of : (task number : ℕ) (x : Slot) → has_maps_of task x ≡ false → spot_on x task number ≡ None
-no_map_of task number None none = refl
-no_map_of task number (Some m) none = grind (arith, common_steps, spot_none, found_not, any_in_files, none_weaker)
+no_map_of task number x none = grind (arith, spot_none, found_not, any_in_files, none_weaker)
 
 -- ---- slot by slot
 
@@ -116,8 +115,7 @@ module _ (task : ℕ) where
 
 module _ (s : State) (st : IsSettledState s) where
   pub exit_gone : (task : ℕ) (reply : Reply) (t : State) → IsScripted s (step.Exit task) reply t → IsGone s (step.Exit task) reply t
-  exit_gone task (Err r) t is = tt
-  exit_gone task (Ok a) t is = grind (arith, common_steps, all_slots, no_map_of, exits_clear)
+  exit_gone task reply t is = grind (arith, all_slots, no_map_of, exits_clear)
 
   abbrev NoMount : Outcome → Type 0
   NoMount (Refused r) = Unit {0}

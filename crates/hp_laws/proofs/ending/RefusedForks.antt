@@ -94,8 +94,7 @@ module _ (child : ℕ) where
   fork_becomes parent size k c old = grind (arith, common_steps)
 
   fork_gives : (parent size k : ℕ) (c : Choice) (old : Slot) → Gives (slot_event size k c old (slot.ForkMaps parent child))
-  fork_gives parent size k c None = tt
-  fork_gives parent size k c (Some m) = grind (arith, common_steps, plan_unless, gives_back)
+  fork_gives parent size k c old = grind (arith, plan_unless, gives_back)
 
   -- touched: the child's maps aside it is as it was; and they are there only where it is still to be undone
   record Touched (old new : Slot) (todo : Bool) : Type 0 where

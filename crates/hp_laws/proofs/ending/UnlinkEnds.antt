@@ -1,5 +1,4 @@
 -- After an unlink its name means no file.
-use Rattle.std.proofs.lemmas.Grind.{common_steps}
 use Rattle.std.proofs.Common.{◌≡◌, ℕ, ◌≤◌, false, None, Some, List, arith, ap}
 use Rattle.std.specs.List.{count_by, list_any}
 use Rattle.std.proofs.lemmas.Bool.{false_from_ne_true}
@@ -43,5 +42,4 @@ module _ (name : List ℕ) where
   Nameless (Answered x new) = named_on new name ≡ None
 
   pub unlink_ends : (size k : ℕ) (c : Choice) (old : Slot) → IsSound old → Always Nameless (slot_event size k c old (slot.Unlink name))
-  unlink_ends size k c None sound = tt
-  unlink_ends size k c (Some m) sound = grind (arith, common_steps, always_value, always_gives, name_ends)
+  unlink_ends size k c old sound = grind (arith, always_value, always_gives, name_ends)

@@ -29,7 +29,6 @@ use Rattle.hp_laws.proofs.lists.AtMostOne.{bit, some_counted}
 use Rattle.hp_laws.proofs.accesses.SlotShows.{always_gives, always_unless, always_value}
 
 module _ (task number a b : ℕ) where
-
   abbrev left : List Map → List Map
   left ms = filter (is_left (is_map task number)) (map (map_unmapped (is_map task number) a b) ms)
 

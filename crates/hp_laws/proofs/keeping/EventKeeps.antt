@@ -2,7 +2,7 @@
 use Rattle.std.proofs.lemmas.Grind.{common_steps}
 use Rattle.std.proofs.Common.{◌≡◌, ⊎_elim, inl, inr, ◌⊎◌, ℕ, ◌+◌, ◌-◌, ◌<◌, Bool, true, false, ◌&&◌, ◌==◌, not, replicate, ◌≤◌}
 use Rattle.std.proofs.Common.{Option, None, Some, is_some, Err, List, [], ◌∷◌, length, get_or, refl, sym, ap, ◌∙◌, subst, arith, if◌then◌else◌, nat_le, nat_lt}
-use Rattle.std.specs.List.{slice_index_or, slice_set}
+use Rattle.std.specs.List.{slice_set}
 use Rattle.std.specs.Str.{bytes_eq}
 use Rattle.std.proofs.lemmas.Bool.{cases_eq, cases_lt, eqb-true, leb-false, leb-true, ltb-false, ltb-true}
 use Rattle.std.proofs.lemmas.List.{get_or-set_other, get_or-set_same, get_or-take, get_or_append_left, get_or_past, length-append, length-replicate, length-take}
@@ -103,16 +103,11 @@ module _ (m : Mount) (sound : IsSoundMount m) (k : ℕ) (name : List ℕ) (q : �
     cut_file = truncated n q.1
 
     past_cell : (i : ℕ) (c : Bool) → nat_le n i ≡ c → (cell_at cut_file i ≡ cell_at q.1 i) ⊎ ((nat_le n i ≡ true) × (cell_at cut_file i ≡ Hole))
-    past_cell i true past = grind (arith, common_steps, length-take, leb-true, cell_kept, get_or_past)
-    past_cell i false below = inl (cell_kept 0 n q.1 i ∙ get_or-take n q.1.cells i Hole (leb-false n i below))
+    past_cell i c past = grind (arith, length-take, leb-true, cell_kept, get_or_past, get_or-take, leb-false)
 
     past_place : (y : Map) (i : ℕ) → (place_at (map_punched n (n + length q.1.cells) y) i ≡ place_at y i)
         ⊎ ((nat_le n i ≡ true) × (place_at (map_punched n (n + length q.1.cells) y) i ≡ without_copy (place_at y i)))
-    past_place y i = by_tests (nat_le n i) (nat_lt i (n + length q.1.cells)) (place_ranged without_copy refl n (n + length q.1.cells) y i)
-      where
-        by_tests : (c d : Bool) → place_at (map_punched n (n + length q.1.cells) y) i ≡ (if c && d then without_copy (place_at y i) else place_at y i)
-            → (place_at (map_punched n (n + length q.1.cells) y) i ≡ place_at y i) ⊎ ((c ≡ true) × (place_at (map_punched n (n + length q.1.cells) y) i ≡ without_copy (place_at y i)))
-        by_tests c d e = grind (arith, common_steps)
+    past_place y i = grind (arith, place_ranged)
 
     truncate_kept : Keeps (Some m) (step.Truncate k name n) (Some (swept (with_file m q.0 cut_file)))
     truncate_kept =
@@ -148,11 +143,7 @@ module _ (m : Mount) (task k : ℕ) (name : List ℕ) (a n : ℕ) (q : ℕ × Fi
 
   entered_cell : (i : ℕ) (c d : Bool) → nat_le a i ≡ c → nat_lt i (a + n) ≡ d
       → (get_or (edit_range entered a (a + n) long) i Hole ≡ cell_at q.1 i) ⊎ ((is_in a (a + n) i ≡ true) × (get_or (edit_range entered a (a + n) long) i Hole ≡ entered (cell_at q.1 i)))
-  entered_cell i true true from to =
-      let low = leb-true a i from in
-      let high = ltb-true i (a + n) to in
-      let pages : i < length long = omega (arith, high, length-append q.1.cells (replicate (a + n - length q.1.cells) Hole), length-replicate {A = Cell Page} (a + n - length q.1.cells) Hole) in
-      inr (ap (λ b. b && nat_lt i (a + n)) from ∙ to, get_or-edit_in entered a (a + n) long i Hole low high pages ∙ ap entered (long_cell i))
+  entered_cell i true true from to = grind (arith, leb-true, ltb-true, length-append, length-replicate, get_or-edit_in, long_cell)
   entered_cell i true false from to = inl (ranged_out entered a (a + n) long i Hole (inr (ltb-false i (a + n) to)) ∙ long_cell i)
   entered_cell i false d from to = inl (ranged_out entered a (a + n) long i Hole (inl (leb-false a i from)) ∙ long_cell i)
 
@@ -161,8 +152,7 @@ module _ (m : Mount) (task k : ℕ) (name : List ℕ) (a n : ℕ) (q : ℕ × Fi
 
   map_cell : (number : ℕ) (sharing : Sharing) (reserving : Reserving) (i : ℕ)
       → (cell_at (mapped task number a n sharing reserving q.1) i ≡ cell_at q.1 i) ⊎ MapCell sharing reserving q.0 i (cell_at q.1 i) (cell_at (mapped task number a n sharing reserving q.1) i)
-  map_cell number Shared Reserve i =
-      ⊎_elim (λ same. inl same) (λ on. inr (ap (λ b. b && is_in a (a + n) i) (means_it m name q named q.1) ∙ on.0, on.1)) (entered_cell i (nat_le a i) (nat_lt i (a + n)) refl refl)
+  map_cell number Shared Reserve i = grind (arith, means_it, entered_cell)
   map_cell number sharing reserving i = grind (arith, common_steps, long_cell)
 
   map_kept : (sharing : Sharing) (reserving : Reserving)
@@ -301,9 +291,7 @@ module _ (size k : ℕ) (c : Choice) (m : Mount) (sound : IsSoundMount m) where
     fault_kept : (intent : Intent) (s : Spot) (found : spot m (is_map task number) ≡ Some s) (n : Mount) → Held size m sound s (spot_is m (is_map task number) s found) i intent n
         → KeptIf (step.Fault task k number i intent) n
     fault_kept Read s found n held same whole = grind (arith, common_steps, access_kept, placed_same)
-    fault_kept Write s found n held same whole =
-        access_kept size m sound task number i Write s found n held (placed_same m n same) whole (step.Fault task k number i Write)
-        (λ p q j own. inl own) (λ p q j writes taken. inr taken) (λ file j old new to. to) (λ p q writes lost. lost)
+    fault_kept Write s found n held same whole = grind (arith, access_kept, placed_same)
 
     module _ (s : Spot) (found : spot m (is_map task number) ≡ Some s) where
       abbrev there : IsSpot m s
@@ -419,13 +407,7 @@ module _ (s : State) (st : IsSettledState s) (t : State) (tt_sound : (k : ℕ) �
 
   outcome_kept : (k : ℕ) (e : SlotEvent) (o : Outcome) → is_whole (OnSlot k e) ≡ true → k < length s.slots → t.slots ≡ slice_set s.slots k (left_by (slot_at s k) o)
       → KeepsOn (slot_at s k) k e o → KeepsOwn s (slot_step k e) (reply_of o) t
-  outcome_kept k (slot.Unmap task number a b) o whole l slots keeps = λ z.
-      subst (λ (xs : List Slot). KeepsFiles (slot_at s z) (slice_index_or xs z None)) (sym slots)
-      (⊎_elim
-      (λ same. subst (λ i. KeepsFiles (slot_at s i) (slice_index_or (slice_set s.slots k (left_by (slot_at s k) o)) i None)) (sym same)
-      (subst (λ x. KeepsFiles (slot_at s k) x) (sym (get_or-set_same s.slots k (left_by (slot_at s k) o) None l)) keeps))
-      (λ other. subst (λ x. KeepsFiles (slot_at s z) x) (sym (get_or-set_other s.slots k z (left_by (slot_at s k) o) None other)) (files_same (slot_at s z)))
-      (cases_eq z k))
+  outcome_kept k (slot.Unmap task number a b) o whole l slots keeps = grind (arith, get_or-set_same, get_or-set_other, files_same, cases_eq)
   outcome_kept k e o whole l slots keeps = grind (arith, common_steps, own_slot, eqb-true, slot_step)
 
   event_kept : (e : Event) (reply : Reply) → is_whole e ≡ true → IsEvent s e reply t → KeepsOwn s (step_of e) reply t

@@ -15,7 +15,6 @@ use Rattle.hp_model.specs.declared.refusal.Refusal.{Refusal}
 use Rattle.hp_model.specs.declared.refusal.Refusal.TheVariants.{NoSuchNode, NoSuchTask, OutOfRange, TaskExists, TooMany}
 use Rattle.hp_model.specs.declared.section.PoolAnswer.{PoolAnswer}
 use Rattle.hp_model.specs.declared.section.Section.{Section}
-use Rattle.hp_model.specs.declared.section.Section.TheVariants.{GiveBack}
 use Rattle.hp_model.specs.declared.step.Step.{Step}
 use Rattle.hp_model.specs.declared.step.Step.TheVariants as step
 use Rattle.hp_model.specs.machine.Event.{IsEvent, has_maps_of, with_pool_reply, with_table}
@@ -43,8 +42,7 @@ abbrev pub Numbers : Pool → PoolAnswer × Pool → Type 0
 Numbers p q = (q.1.nr ≡ p.nr) × (q.1.overcommit ≡ p.overcommit)
 
 pub section_numbers : (p : Pool) (x : Section) → Numbers p (section p x)
-section_numbers p (GiveBack puts k) = (ap (λ (q : Pool). q.nr) (puts_are puts p), ap (λ (q : Pool). q.overcommit) (puts_are puts p))
-section_numbers p x = grind (arith, common_steps)
+section_numbers p x = grind (arith, puts_are)
 
 all_give : (p : Plan) → Gives p
 all_give p = grind (arith, common_steps, section_numbers)

@@ -1,7 +1,7 @@
 -- Each event that is answered keeps what names and numbers mean on its slot.
 use Rattle.std.proofs.Common.{arith}
 use Rattle.std.proofs.lemmas.Grind.{common_steps}
-use Rattle.std.proofs.Common.{◌≡◌, ⊎_elim, inl, inr, subst, ℕ, ◌+◌, true, None, Some, List, [], ◌∷◌, length, refl, sym, ◌∙◌, nat_le, ◌<◌, Option}
+use Rattle.std.proofs.Common.{◌≡◌, ⊎_elim, inl, inr, subst, ℕ, ◌+◌, true, None, Some, List, [], ◌∷◌, length, refl, sym, nat_le, ◌<◌, Option}
 use Rattle.hp_model.specs.declared.answer.Answer.TheVariants.{Done, MapNo}
 use Rattle.hp_model.specs.declared.event.SlotEvent.{SlotEvent}
 use Rattle.hp_model.specs.declared.event.SlotEvent.TheVariants as slot
@@ -16,7 +16,7 @@ use Rattle.hp_model.specs.files.GiveBack.{punched, swept, truncated, unlinked, u
 use Rattle.hp_model.specs.files.MakeMap.{asked, mapped, next_number, with_new}
 use Rattle.hp_model.specs.files.Mapping.{is_map, map_punched}
 use Rattle.hp_model.specs.machine.Plan.{Choice, Outcome, Refused, Answered, Plan, Slot, gives}
-use Rattle.hp_model.specs.machine.Promises.{is_in, map_on, shown_on, seen_on, spot_on}
+use Rattle.hp_model.specs.machine.Promises.{is_in, map_on, spot_on}
 use Rattle.hp_model.specs.machine.SlotEvent.{fault, load, store}
 use Rattle.hp_model.specs.machine.SlotEvent.{slot_event, unentered, has_name}
 use Rattle.hp_model.specs.machine.Sound.{IsSound, IsSoundMount}
@@ -49,14 +49,7 @@ module _ (size k : ℕ) (c : Choice) (m : Mount) where
 
   module _ (e : SlotEvent) (stores : (j x : ℕ) (old : List ℕ) → old ≡ stored_by size (Some m) e j x old) (sees : (j l x : ℕ) (old : List ℕ) → old ≡ seen_by size (Some m) e j l x old) where
     quiet_keeps : (o : Outcome) → Quiet size (Some m) o → On (Placed m) o → KeepsSlot size (Some m) e o
-    quiet_keeps (Answered a (Some n)) quiet stays =
-        by_place size m n e (record {
-          names = λ name f goes_on named. stays.names name f named;
-          numbers = λ task number p goes_on found. stays.numbers task number p found;
-          cells = λ j x. quiet.0 j x ∙ stores j x (shown_on size (Some m) j x);
-          maps = λ task number x p found. inl (quiet.1 p.file_no p.map_no x ∙ sees p.file_no p.map_no x (seen_on size (Some m) p.file_no p.map_no x));
-          marks = λ task number p found marked. quiet.2 p.file_no p.map_no ∙ marked;
-        })
+    quiet_keeps (Answered a (Some n)) quiet stays = grind (arith, by_place)
     quiet_keeps o quiet stays = grind (arith, common_steps)
 
   on_placed : (p : Plan) → Always (On (λ n. keys n ≡ keys m)) p → Always (On (Placed m)) p
@@ -79,9 +72,7 @@ module _ (size k : ℕ) (c : Choice) (m : Mount) where
     fault_tested Q stops intent h = grind (arith, common_steps)
 
     same_quiet : (o : Outcome) → On (Same size m s at i) o → Quiet size (Some m) o
-    same_quiet (Refused r) on = (λ j x. refl, λ j l x. refl, λ j l. refl)
-    same_quiet (Answered a None) on = absurd on
-    same_quiet (Answered a (Some n)) on = (on.cells, on.maps, on.marks)
+    same_quiet o on = grind arith
 
     touched : IsSoundMount m → (o : Outcome) → On (Result size m s at i) o → On (λ n. keys n ≡ keys m) o → KeepsSlot size (Some m) (slot.Fault task home number i Write) o
     touched sound (Answered a (Some n)) done same =
@@ -119,14 +110,7 @@ module _ (size k : ℕ) (c : Choice) (m : Mount) where
 
     stored_keeps : (offset : ℕ) (bytes : List ℕ) (o : Outcome) → Stores size (Some m) (spot_on (Some m) task number) i offset bytes o → On (Placed m) o
         → KeepsSlot size (Some m) (slot.Store task home number i offset bytes) o
-    stored_keeps offset bytes (Answered a (Some n)) stored stays =
-        by_place size m n (slot.Store task home number i offset bytes) (record {
-          names = λ name f goes_on named. stays.names name f named;
-          numbers = λ task number p goes_on found. stays.numbers task number p found;
-          cells = stored.0;
-          maps = λ t u x p e. stored.1 p.file_no p.map_no x;
-          marks = λ t u p e marked. stored.2 p.file_no p.map_no marked;
-        })
+    stored_keeps offset bytes (Answered a (Some n)) stored stays = grind (arith, by_place)
     stored_keeps offset bytes o stored stays = grind (arith, common_steps)
 
     store_keeps : IsSoundMount m → (offset : ℕ) (bytes : List ℕ) → Always (KeepsSlot size (Some m) (slot.Store task home number i offset bytes)) (store c size m home i offset bytes s)

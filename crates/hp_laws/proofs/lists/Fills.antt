@@ -78,13 +78,7 @@ module _ (a b : ℕ) where
   -- a count over the range, where a cell of it changes
   part_set : (t : Cell Page → Bool) (xs : List (Cell Page)) (j : ℕ) (c : Cell Page) → j < b - a → a + j < length xs
       → count_by t (part a b (slice_set xs (a + j) c)) + bit (t (cell_in xs (a + j))) ≡ count_by t (part a b xs) + bit (t c)
-  part_set t xs j c before there =
-      let ys : List (Cell Page) = drop a xs in
-      let set = ap (take (b - a)) (drop-set-add a xs j c) ∙ take-set-lt (b - a) ys j c before in
-      let counts = ap (count_by t) set in
-      let one = sum_by-set (λ x. bit (t x)) (take (b - a) ys) j c Hole (omega (arith, before, there, length-take (b - a) ys, length-drop a xs)) in
-      let was = ap (λ x. bit (t x)) (get_or-take (b - a) ys j Hole before ∙ get_or-drop a xs j Hole) in
-      omega (arith, counts, one, was)
+  part_set t xs j c before there = grind (arith, drop-set-add, take-set-lt, sum_by-set, bit, length-take, length-drop, get_or-take, get_or-drop)
 
   -- one page, at the lowest index
   record Step (xs ys : List (Cell Page)) (p : Page) : Type 0 where

@@ -247,7 +247,6 @@ module _ (s : State) where
   makes_none t step r = grind (arith, common_steps)
 
   module _ (t : State) (k : ℕ) (l : k < length s.slots) where
-
     file_makes : (name : List ℕ) (o : Outcome) → FileMade (slot_at s k) name o → t.slots ≡ slice_set s.slots k (left_by (slot_at s k) o) → Makes s (CreateStep k name) (reply_of o) t
     file_makes name o h slots = grind (arith, common_steps)
 

@@ -80,8 +80,7 @@ module _ (s : State) (k : ℕ) (options : List ℕ) (reply : Reply) (t : State) 
           subst (λ old. IsRemountedWith old (slot_at t k) limited) (sym there) (subst (λ y. IsRemountedWith (Some m) y limited) (sym left) made)
 
   remount_mounted : (old : Slot) → slot_at s k ≡ old → Mounts s (step.Remount k options) reply t
-  remount_mounted (Some m) there = remounted m there
-  remount_mounted None there = grind (arith, common_steps)
+  remount_mounted old there = grind (arith, remounted)
 
 -- ---- steps
 

@@ -17,9 +17,9 @@ use Rattle.hp_model.specs.declared.refusal.Refusal.TheVariants.{OutOfMemory, Mou
 use Rattle.hp_model.specs.files.File.{File, Mount, new_file, with_file}
 use Rattle.hp_model.specs.files.Fill.{lacking, range_filled, rising_nodes}
 use Rattle.hp_model.specs.files.Fork.{file_forked}
-use Rattle.hp_model.specs.files.GiveBack.{file_unmapped, file_without, is_kept, is_left, map_unmapped, punched, swept, truncated, unlinked, without_task}
+use Rattle.hp_model.specs.files.GiveBack.{file_unmapped, file_without, is_kept, punched, swept, truncated, unlinked, without_task}
 use Rattle.hp_model.specs.files.MakeMap.{asked, mapped, new_map, next_number, with_new}
-use Rattle.hp_model.specs.files.Mapping.{Map, is_map, is_of, map_for, without_range}
+use Rattle.hp_model.specs.files.Mapping.{Map, is_map, is_of, map_for}
 use Rattle.hp_model.specs.files.Page.{Page}
 use Rattle.hp_model.specs.machine.Held.{are_held}
 use Rattle.hp_model.specs.machine.Named.{named_on, spot_on}
@@ -79,8 +79,7 @@ pub number_none : (task number : ℕ) (x : Slot) → any_file (has_map task numb
 number_none task number x e = grind (arith, common_steps, spot_none, found_not)
 
 pub number_absent : (task number : ℕ) (x : Slot) → spot_on x task number ≡ None → any_file (has_map task number) x ≡ false
-number_absent task number None e = refl
-number_absent task number (Some m) e = grind (arith, common_steps, spot_in_file, found_none, in_file, found_place)
+number_absent task number x e = grind (arith, spot_in_file, found_none, in_file, found_place)
 
 -- ---- the same keys
 
@@ -200,13 +199,7 @@ module _ (new : ℕ → ℕ → Bool) where
   punched_fewer a b f = grind (arith, common_steps, any_map_down)
 
   unmapped_fewer : (t : Map → Bool) (a b : ℕ) (f : File) → FileFewer new f (file_unmapped t a b f)
-  unmapped_fewer t a b f = record {
-    names = λ name is. is;
-    numbers = λ task number off is.
-        any_map_down (is_map task number) (is_map task number) (map_unmapped t a b)
-        (λ x e. cond_both (t x) (without_range a b x) x (λ (y : Map). is_map task number y ≡ true → is_map task number x ≡ true) (λ on e. e) (λ other e. e) e) f.maps
-        (any_filter (is_map task number) (is_left t) (map (map_unmapped t a b) f.maps) is);
-  }
+  unmapped_fewer t a b f = grind (arith, any_map_down, cond_both, any_filter)
 
   without_fewer : (task : ℕ) (f : File) → FileFewer new f (file_without task f)
   without_fewer gone f = record { names = λ name is. is; numbers = λ task number off is. any_filter (is_map task number) (λ x. not (is_of gone x)) f.maps is }

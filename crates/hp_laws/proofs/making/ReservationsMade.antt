@@ -1,7 +1,7 @@
 -- A map that is answered has its range: its file is long enough, and each index of a map that reserves is reserved to it.
 use Rattle.std.proofs.lemmas.Grind.{common_steps}
 use Rattle.std.proofs.Common.{◌≡◌, subst, ℕ, ◌+◌, ◌-◌, ◌<◌, ◌≤◌, true, false, None, Option, Some, Ok, Err, List}
-use Rattle.std.proofs.Common.{length, max, replicate, sym, ap, ◌∙◌, arith, nat_le, nat_lt}
+use Rattle.std.proofs.Common.{length, max, replicate, sym, arith}
 use Rattle.std.specs.List.{slice_set}
 use Rattle.std.proofs.lemmas.Bool.{and_parts, leb-true, ltb-true}
 use Rattle.std.proofs.lemmas.List.{length-append, length-replicate}
@@ -21,7 +21,7 @@ use Rattle.hp_model.specs.declared.step.Sharing.{Sharing}
 use Rattle.hp_model.specs.declared.step.Sharing.TheVariants.{Shared}
 use Rattle.hp_model.specs.declared.step.Step.{Step}
 use Rattle.hp_model.specs.declared.step.Step.TheVariants.{Anon as AnonStep, Map as MapStep}
-use Rattle.hp_model.specs.files.File.{File, at_least, cell_in, entered, is_entered, new_file, with_file}
+use Rattle.hp_model.specs.files.File.{File, at_least, entered, is_entered, new_file, with_file}
 use Rattle.hp_model.specs.files.MakeMap.{asked, cells_mapped, mapped, new_map, next_number, reserves}
 use Rattle.hp_model.specs.files.Mapping.{place_at}
 use Rattle.hp_model.specs.files.Page.{Copy, Page}
@@ -62,11 +62,7 @@ module _ (task number a n : ℕ) where
 
   range_there : (sharing : Sharing) (reserving : Reserving) (f : File) → reserves reserving ≡ true → (i : ℕ) → is_in a (a + n) i ≡ true
       → is_reserved (mapped task number a n sharing reserving f) (new_map task number a n sharing reserving) i ≡ true
-  range_there Shared Reserve f on i there =
-      let both = and_parts (nat_le a i) (nat_lt i (a + n)) there in
-      ap is_entered (get_or-edit_in entered a (a + n) (at_least (a + n) f.cells) i Hole
-      (leb-true a i both.0) (ltb-true i (a + n) both.1) (omega (arith, ltb-true i (a + n) both.1, long_enough f.cells)))
-      ∙ is_in_entered (cell_in (at_least (a + n) f.cells) i)
+  range_there Shared Reserve f on i there = grind (arith, and_parts, get_or-edit_in, leb-true, ltb-true, long_enough, is_in_entered)
   range_there sharing reserving f on i there = grind (arith, common_steps, and_parts, place_there, leb-true, ltb-true)
 
   pub new_range : (sharing : Sharing) (reserving : Reserving) (f : File) (s : Spot) → s.map ≡ new_map task number a n sharing reserving

@@ -6,7 +6,6 @@ use Rattle.std.proofs.lemmas.List.{length-set}
 use Rattle.hp_model.specs.declared.cell.Cell.{Cell}
 use Rattle.hp_model.specs.declared.place.Place.{Place}
 use Rattle.hp_model.specs.declared.step.Intent.{Intent}
-use Rattle.hp_model.specs.declared.step.Intent.TheVariants.{Read, Write}
 use Rattle.hp_model.specs.files.Access.{access, new_copy, private_access, shared_access, uncopied_access}
 use Rattle.hp_model.specs.files.CopyWrite.{copy_write, robbed}
 use Rattle.hp_model.specs.files.File.{File, Mount, with_file, with_map}
@@ -76,8 +75,7 @@ module _ (c : Choice) (m : Mount) (Q : Mount → Type 0) (own : Q m) (s : Spot) 
   new_on consumed = grind (arith, common_steps, always_if, On, on_reserved_page, copied_on, on_grant_page)
 
   uncopied_on : (consumed : Bool) (intent : Intent) → Always (On Q) (uncopied_access c size m s home i consumed intent)
-  uncopied_on consumed Write = new_on consumed
-  uncopied_on consumed Read = grind (arith, common_steps, always_if, On, new_on)
+  uncopied_on consumed intent = grind (arith, new_on, always_if, On)
 
   write_on : (consumed : Bool) (copy : Copy) → Always (On Q) (copy_write c m s home i consumed copy)
   write_on consumed copy = grind (arith, common_steps, On, back_put, always_if, outcome_if, copied_on, on_grant_page)

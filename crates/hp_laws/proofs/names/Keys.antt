@@ -73,8 +73,7 @@ abbrev pub key_places : (Shape → Bool) → List FileKey → Option Where
 key_places t ks = in_key t (found (has_key t) ks)
 
 number_in : (task number : ℕ) (o : Option (ℕ × File)) → option_map places (in_file (is_map task number) o) ≡ in_key (is_key task number) (option_map (keyed file_key) o)
-number_in task number None = refl
-number_in task number (Some f) = grind (arith, common_steps, found_mapped)
+number_in task number o = grind (arith, found_mapped)
 
 pub number_places : (m : Mount) (task number : ℕ) → option_map places (spot m (is_map task number)) ≡ key_places (is_key task number) (keys m)
 number_places m task number =

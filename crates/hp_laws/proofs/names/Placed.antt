@@ -85,8 +85,7 @@ module _ (ks : List FileKey) (j : ℕ) (k : FileKey) (new : Shape) (there : (d :
   still_has t unlike = grind (arith, common_steps)
 
   in_more : (t : Shape → Bool) (q : ℕ × FileKey) (x : Where) (b : Bool) → (b ≡ true → q.1 ≡ k) → in_key t (Some q) ≡ Some x → in_key t (Some (q.0, if b then with_new else q.1)) ≡ Some x
-  in_more t q x false is e = e
-  in_more t q x true is e = grind (arith, common_steps, found_more)
+  in_more t q x b is e = grind (arith, found_more)
 
   pub lead_added : KeysLead ks (slice_set ks j with_new)
   lead_added = record { names = names; numbers = λ task number x e. numbers task number x (is_key task number new) refl e }

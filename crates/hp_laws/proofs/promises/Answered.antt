@@ -1,16 +1,14 @@
 -- What a step that reads answers, and that a refused step leaves the machine as it was.
 use Rattle.std.proofs.Common.{arith}
 use Rattle.std.proofs.lemmas.Grind.{common_steps}
-use Rattle.std.proofs.Common.{◌≡◌, ℕ, Bool, true, false, Option, Ok, Err, List, refl, sym, ap}
+use Rattle.std.proofs.Common.{◌≡◌, ℕ, Bool, true, false, Option, Ok, Err, List, refl}
 use Rattle.std.specs.Bool.{MatchBool}
 use Rattle.hp_model.specs.declared.answer.Answer.TheVariants.{Home}
 use Rattle.hp_model.specs.declared.answer.Answer.{Answer}
 use Rattle.hp_model.specs.declared.event.Event.{Event}
-use Rattle.hp_model.specs.declared.event.Event.TheVariants.{Tasks, Slot as OnSlot, Pool as OnPool}
-use Rattle.hp_model.specs.declared.event.PoolEvent.TheVariants as pool
+use Rattle.hp_model.specs.declared.event.Event.TheVariants.{Slot as OnSlot}
 use Rattle.hp_model.specs.declared.event.SlotEvent.{SlotEvent}
 use Rattle.hp_model.specs.declared.event.SlotEvent.TheVariants as slot
-use Rattle.hp_model.specs.declared.event.TableEvent.TheVariants as table
 use Rattle.hp_model.specs.declared.refusal.Refusal.{Refusal}
 use Rattle.hp_model.specs.declared.step.Step.{Step}
 use Rattle.hp_model.specs.declared.step.Step.TheVariants.{Attach, Exit, Fork}
@@ -96,12 +94,7 @@ module _ (s : State) (st : IsSettledState s) where
   home_told task o known reply is = grind (arith, common_steps)
 
   event_tells : (e : Event) (reply : Reply) (t : State) → is_whole e ≡ true → IsEvent s e reply t → AnswersWhatWas s (step_of e) reply
-  event_tells (OnPool pool.Meminfo) reply t whole is = grind (arith, common_steps, counts_are_sums)
-  event_tells (OnPool pool.Nodes) reply t whole is = grind (arith, common_steps, rows_many)
-  event_tells (Tasks (table.Find task)) reply t whole is = home_told task (home_of s.table task) refl reply (ap (λ (q : Reply × State). q.0) (sym is.2))
-  event_tells (OnSlot k (slot.ForkMaps parent child)) reply t whole is = cc
-  event_tells (OnSlot k e) reply t whole is = grind (arith, common_steps, slot_tells, usage_told, names_told, stat_told, read_told)
-  event_tells e reply t whole is = grind (arith, common_steps)
+  event_tells e reply t whole is = grind (arith, counts_are_sums, rows_many, home_told, slot_tells, usage_told, names_told, stat_told, read_told)
 
   pub step_tells : (reply : Reply) (t : State) (step : Step) → IsStep s step reply t → AnswersWhatWas s step reply
   step_tells reply t step is = by_event s (λ step reply t. AnswersWhatWas s step reply) (λ step r early. nothing_told s step r) event_tells

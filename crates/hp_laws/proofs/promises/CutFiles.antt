@@ -1,7 +1,7 @@
 -- What a truncate and a punch leave of a file: its length, and of what they cut no page and no copy.
 use Rattle.std.proofs.lemmas.Grind.{common_steps}
-use Rattle.std.proofs.Common.{◌≡◌, subst, ℕ, ◌+◌, ◌<◌, ◌≤◌, ◌&&◌, Bool, true, false, None, Option, Some, Ok}
-use Rattle.std.proofs.Common.{Err, List, [], ◌∷◌, length, map, refl, sym, ap, ◌∙◌, arith, if◌then◌else◌, nat_le, nat_lt}
+use Rattle.std.proofs.Common.{◌≡◌, subst, ℕ, ◌<◌, ◌≤◌, Bool, true, false, None, Option, Some, Ok}
+use Rattle.std.proofs.Common.{Err, List, [], ◌∷◌, length, map, refl, sym, ap, ◌∙◌, arith, nat_le, nat_lt}
 use Rattle.std.specs.List.{slice_set}
 use Rattle.std.specs.Str.{bytes_eq}
 use Rattle.std.proofs.lemmas.Bool.{and_parts, leb-true, ltb-false, ltb-true}
@@ -27,7 +27,7 @@ use Rattle.hp_model.specs.machine.Named.{is_in, named_on}
 use Rattle.hp_model.specs.machine.Pages.{Cuts, HasLeft, IsCutFile, cell_of, pages_of_file}
 use Rattle.hp_model.specs.machine.Plan.{Answered, Choice, Outcome, Refused, Reply, Slot, gives}
 use Rattle.hp_model.specs.machine.Settled.{IsSettledState}
-use Rattle.hp_model.specs.machine.SlotEvent.{edited, file_named, has_name, is_bad_range, punch, slot_event, truncate}
+use Rattle.hp_model.specs.machine.SlotEvent.{edited, file_named, has_name, slot_event, truncate}
 use Rattle.hp_model.specs.machine.Sound.{IsSound, IsSoundFile, IsSoundMap}
 use Rattle.hp_model.specs.machine.State.{State, slot_at}
 use Rattle.hp_model.specs.machine.Step.{IsStep}
@@ -70,20 +70,7 @@ module _ (f : File) where
     far l i past = grind (arith, common_steps)
 
     truncate_left : HasLeft (truncated n f) n (nat_le n) (λ i. Hole)
-    truncate_left = record {
-      pages = long n;
-      cells = λ i past. (let from = leb-true n i past in let all = long n in get_or_past (cells_to n f.cells) i Hole (omega (arith, from, all)));
-      copies = λ l i past. ap (λ (y : Map). copy_of (place_at y i)) (no_map_punched n (n + length f.cells) l) ∙ by_end l i past (nat_lt i (n + length f.cells)) refl;
-    }
-      where
-        by_end : (l i : ℕ) → nat_le n i ≡ true → (b : Bool) → nat_lt i (n + length f.cells) ≡ b → copy_of (place_at (map_punched n (n + length f.cells) (map_in f l)) i) ≡ None
-        by_end l i past true below = map_cut n (n + length f.cells) (map_in f l) i (rw (past, below) refl)
-        by_end l i past false above =
-            let high = ltb-false i (n + length f.cells) above in
-            ap copy_of (place_ranged without_copy refl n (n + length f.cells) (map_in f l) i)
-            ∙ ap (λ c. copy_of (if nat_le n i && c then without_copy (place_at (map_in f l) i) else place_at (map_in f l) i)) above
-            ∙ ap (λ c. copy_of (if c && false then without_copy (place_at (map_in f l) i) else place_at (map_in f l) i)) past
-            ∙ far l i (omega (arith, high))
+    truncate_left = grind (arith, long, leb-true, get_or_past, no_map_punched, map_cut, ltb-false, place_ranged, far)
 
 -- ---- its mount
 
@@ -120,13 +107,7 @@ module _ (size k : ℕ) (c : Choice) where
   punch_cuts : (old : Slot) (name : List ℕ) (a b : ℕ)
       → Always (CutTo name (pages_of_file (named_on old name)) (is_in a b) (λ i. cell_punched (cell_of (named_on old name) i))) (slot_event size k c old (slot.Punch name a b))
   punch_cuts None name a b = tt
-  punch_cuts (Some m) name a b =
-      let P = CutTo name (pages_of_file (file_named m name)) (is_in a b) (λ i. cell_punched (cell_of (file_named m name) i)) in
-      always_value P (λ r. tt) (file_named m name) NoSuchFile (punch m a b)
-      (λ q named. always_unless P (λ r. tt) ((is_bad_range a b, OutOfRange) ∷ []) (gives Done (Some m) (edited m q.0 (punched a b q.1)))
-      (always_gives P Done (Some m) (edited m q.0 (punched a b q.1))
-      (subst (λ o. IsCutFile (named_on (edited m q.0 (punched a b q.1)) name) (pages_of_file o) (is_in a b) (λ i. cell_punched (cell_of o i))) (sym named)
-      (edited_cut m name q named (punched a b q.1) (length q.1.cells) (is_in a b) (λ i. cell_punched (cell_at q.1 i)) refl (punch_left q.1 a b)))))
+  punch_cuts (Some m) name a b = grind (arith, always_value, always_unless, always_gives, edited_cut, punch_left)
 
 -- ---- steps
 

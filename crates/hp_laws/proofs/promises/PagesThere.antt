@@ -2,7 +2,7 @@
 use Rattle.std.proofs.Common.{arith}
 use Rattle.std.proofs.lemmas.Grind.{common_steps}
 use Rattle.std.proofs.Common.{◌≡◌, ◌⊎◌, ⊎_elim, inl, inr, subst, ℕ, ◌-◌, ◌<◌, ◌&&◌, ◌||◌, Bool, true, false}
-use Rattle.std.proofs.Common.{not, None, Option, Some, Ok, Err, List, length, map, is_some, refl, sym, ap, ◌∙◌, if◌then◌else◌, nat_lt}
+use Rattle.std.proofs.Common.{not, None, Option, Some, Ok, Err, List, length, is_some, refl, sym, ap, ◌∙◌, if◌then◌else◌, nat_lt}
 use Rattle.std.specs.List.{slice_index_or, slice_set}
 use Rattle.std.proofs.lemmas.Bool.{cases_eq, cond_both, leb-false, ltb-true, or_right}
 use Rattle.std.proofs.lemmas.List.{get_or-set_other, get_or-set_same, length-map}
@@ -25,7 +25,7 @@ use Rattle.hp_model.specs.declared.step.Intent.TheVariants.{Read, Write}
 use Rattle.hp_model.specs.declared.step.Step.{Step}
 use Rattle.hp_model.specs.declared.step.Step.TheVariants as step
 use Rattle.hp_model.specs.files.Access.{access, new_copy, private_access, shared_access, uncopied_access}
-use Rattle.hp_model.specs.files.CopyWrite.{copy_write, is_held_once, owner_write, robbed, taken_back}
+use Rattle.hp_model.specs.files.CopyWrite.{copy_write, is_held_once, owner_write, taken_back}
 use Rattle.hp_model.specs.files.File.{File, Mount, cell_at, file_in, has_page, map_in, new_file, with_cell, with_file, with_map}
 use Rattle.hp_model.specs.files.Mapping.{Map, copy_of, is_map, is_shared, no_map, place_at, with_place}
 use Rattle.hp_model.specs.files.Page.{Copy, Page, zeros}
@@ -35,7 +35,7 @@ use Rattle.hp_model.specs.Lists.{edit_at}
 use Rattle.hp_model.specs.machine.Event.{IsEvent, planned}
 use Rattle.hp_model.specs.machine.Lost.{IsLostTo, is_same_copy}
 use Rattle.hp_model.specs.machine.Machine.{pool_of}
-use Rattle.hp_model.specs.machine.Named.{map_named, spot_on}
+use Rattle.hp_model.specs.machine.Named.{map_named}
 use Rattle.hp_model.specs.machine.Pages.{IsTouched, Touches, can_have_page, has_its_page}
 use Rattle.hp_model.specs.machine.Plan.{Answered, Ask, Choice, Finish, Outcome, Plan, Refused, Reply, Slot, grant_page, reserved_page, with_value}
 use Rattle.hp_model.specs.machine.Promises.{LosesTo}
@@ -176,15 +176,7 @@ module _ (u : State) (size : ℕ) (m : Mount) (s : Spot) (at : IsSpot m s) (i : 
 
       -- the owner keeps its copy, and no page could be had
       back_left : (consumed : Bool) (copy : Copy) → place_at s.map i ≡ Live consumed (Some copy) → can_have_page (pool_of u) (Some m) ≡ false → Left Write (robbed_mount size m s at i copy.stamp)
-      back_left consumed copy is none =
-          let f : File = record s.file { maps = map (robbed copy.stamp) s.file.maps } in
-          let long : s.map_no < length (map (robbed copy.stamp) s.file.maps) =
-          subst (λ n. s.map_no < n) (sym (length-map s.file.maps (robbed copy.stamp))) at.map.within in (
-            inr none,
-            copy_there Write (robbed_mount size m s at i copy.stamp) apart
-                (ap (λ g. file_copy g s.map_no i) (get_or-set_same m.files s.file_no (with_map f s.map_no s.map) (new_file None) at.file.within)
-                ∙ ap (λ z. is_some (copy_of (place_at z i))) (get_or-set_same f.maps s.map_no s.map no_map long) ∙ ap (λ (p : Place Copy). is_some (copy_of p)) is),
-          )
+      back_left consumed copy is none = grind (arith, length-map, copy_there, robbed_mount, get_or-set_same)
 
       -- a copy of its own, or the others lose theirs
       abbrev own_or_back : (consumed : Bool) → Copy → PoolAnswer → Bool → Outcome
@@ -404,18 +396,13 @@ module _ (s : State) where
       -- of the slot, as it was and as it is
       is_touched : (o : Outcome) → Ended s s.page_size task number i intent (slot_at s k) o → t.slots ≡ slice_set s.slots k (left_by (slot_at s k) o)
           → (a : Answer) → reply_of o ≡ Ok a → IsTouched intent (map_named t k task number) i
-      is_touched (Answered b (Some n)) it slots a answered = by_slot (slot_at s k) it
-        where
-          by_slot : (x : Slot) → Ended s s.page_size task number i intent x (Answered b (Some n)) → IsTouched intent (map_named t k task number) i
-          by_slot None it = absurd it
-          by_slot (Some m) it = subst (λ y. IsTouched intent (spot_on y task number) i) (sym (left_there (Some n) slots)) (touched s s.page_size task number i intent m n it)
+      is_touched (Answered b (Some n)) it slots a answered = grind (arith, left_there, touched)
       is_touched o it slots a answered = grind (arith, common_steps)
 
       is_taken : (o : Outcome) → Ended s s.page_size task number i intent (slot_at s k) o → t.slots ≡ slice_set s.slots k (left_by (slot_at s k) o)
           → (v w j : ℕ) (p q : Spot) → map_named s k v w ≡ Some p → map_named t k v w ≡ Some q → IsLostTo (map_named s k task number) (map_named t k task number) i p q j
           → can_have_page (pool_of s) (slot_at s k) ≡ false
-      is_taken (Refused r) it slots v w j p q was now lost = grind (arith, common_steps, left_there, nothing_lost)
-      is_taken o it slots v w j p q was now lost = grind (arith, common_steps, left_there, taken)
+      is_taken o it slots v w j p q was now lost = grind (arith, left_there, nothing_lost, taken)
 
   reach : (x : Step) (reply : Reply) (t : State) → Touches x reply t → Takes s x t → Reaches s x reply t
   reach x reply t a b = record { touched = a; taken = b }

@@ -77,21 +77,12 @@ module _ (s : State) (st : IsSettledState s) (reply : Reply) (t : State) where
         (λ backed. goes k event (λ c. fault_goes s.page_size k c task home number i intent (slot_at s k) backed) is),
         (λ cut. stops k event (λ c. fault_stops s.page_size k c task home number i intent (slot_at s k) cut) is),
       )
-  event_reaches (OnSlot k (slot.Load task home number i offset count)) is =
-      let event = slot.Load task home number i offset count in (
-        (λ backed. goes k event (λ c. load_goes s.page_size k c task home number i offset (slot_at s k) count backed) is),
-        (λ cut. stops k event (λ c. load_stops s.page_size k c task home number i offset (slot_at s k) count cut) is),
-      )
-  event_reaches (OnSlot k (slot.Store task home number i offset bytes)) is =
-      let event = slot.Store task home number i offset bytes in (
-        (λ backed. goes k event (λ c. store_goes s.page_size k c task home number i offset (slot_at s k) bytes backed) is),
-        (λ cut. stops k event (λ c. store_stops s.page_size k c task home number i offset (slot_at s k) bytes cut) is),
-      )
+  event_reaches (OnSlot k (slot.Load task home number i offset count)) is = grind (arith, goes, load_goes, stops, load_stops)
+  event_reaches (OnSlot k (slot.Store task home number i offset bytes)) is = grind (arith, goes, store_goes, stops, store_stops)
   event_reaches e is = grind (arith, common_steps)
 
   loaded : (task k number i offset count : ℕ) (o : Outcome) → Loads s.page_size (slot_at s k) (map_named s k task number) i offset count o → ShowsMap s (Load task k number i offset count) (reply_of o)
-  loaded task k number i offset count (Refused r) h = tt
-  loaded task k number i offset count (Answered a new) h = h.loaded a new refl
+  loaded task k number i offset count o h = grind arith
 
   event_shows : (e : Event) → IsEvent s e reply t → ShowsMap s (step_of e) reply
   event_shows (OnSlot k (slot.Load task home number i offset count)) is =

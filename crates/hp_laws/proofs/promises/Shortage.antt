@@ -1,7 +1,7 @@
 -- A step that is refused for want of pages lacks what it asks for: past its mount's limit, or more than the pool can commit.
 use Rattle.std.proofs.Common.{arith}
 use Rattle.std.proofs.lemmas.Grind.{common_steps}
-use Rattle.std.proofs.Common.{◌≡◌, subst, ℕ, ◌-◌, ◌&&◌, ◌||◌, ◌==◌, Bool, true, false, not, Option, None, Some, is_some, Result, Ok, Err, List, [], ◌∷◌}
+use Rattle.std.proofs.Common.{◌≡◌, subst, ℕ, ◌-◌, ◌&&◌, ◌==◌, Bool, true, false, not, Option, None, Some, Result, Ok, Err, List, [], ◌∷◌}
 use Rattle.std.proofs.Common.{◌++◌, length, refl, sym, ap, ◌∙◌, if◌then◌else◌}
 use Rattle.std.proofs.lemmas.Bool.{and_parts, cond_both, eqb-true}
 use Rattle.std.specs.List.{range_with_len}
@@ -17,8 +17,7 @@ use Rattle.hp_model.specs.declared.limits.Limits.{Limits}
 use Rattle.hp_model.specs.declared.place.Place.{Place}
 use Rattle.hp_model.specs.declared.place.Place.TheVariants.{Live}
 use Rattle.hp_model.specs.declared.refusal.Refusal.{Refusal}
-use Rattle.hp_model.specs.declared.refusal.Refusal.TheVariants.{SlotTaken, MountFull, NoPages, NoSuchFile, NoSuchMap}
-use Rattle.hp_model.specs.declared.refusal.Refusal.TheVariants.{OutOfMemory}
+use Rattle.hp_model.specs.declared.refusal.Refusal.TheVariants.{SlotTaken, NoPages, NoSuchFile, NoSuchMap}
 use Rattle.hp_model.specs.declared.section.PoolAnswer.{PoolAnswer}
 use Rattle.hp_model.specs.declared.section.Section.TheVariants.{GrantPage, FillPages}
 use Rattle.hp_model.specs.declared.step.Intent.{Intent}
@@ -29,9 +28,9 @@ use Rattle.hp_model.specs.declared.step.Step.{Step}
 use Rattle.hp_model.specs.declared.step.Step.TheVariants as step
 use Rattle.hp_model.specs.files.Access.{access, new_copy, private_access, shared_access, uncopied_access}
 use Rattle.hp_model.specs.files.CopyWrite.{copy_write}
-use Rattle.hp_model.specs.files.File.{File, Mount, cell_at, has_page, new_file, with_file}
+use Rattle.hp_model.specs.files.File.{File, Mount, cell_at}
 use Rattle.hp_model.specs.files.MakeMap.{asked}
-use Rattle.hp_model.specs.files.Mapping.{copy_of, is_map, is_shared, place_at}
+use Rattle.hp_model.specs.files.Mapping.{is_map, is_shared, place_at}
 use Rattle.hp_model.specs.files.MountCounts.{committed_of}
 use Rattle.hp_model.specs.files.Options.{Wanted, limits, wanted_of}
 use Rattle.hp_model.specs.files.Page.{Copy, Page}
@@ -43,10 +42,10 @@ use Rattle.hp_model.specs.machine.Plan.{Answered, Ask, Choice, Finish, Outcome, 
 use Rattle.hp_model.specs.machine.Plan.{refuse, unless, when_granted, with_value}
 use Rattle.hp_model.specs.machine.Promises.{is_for_pages}
 use Rattle.hp_model.specs.machine.Short.{IsMountShort, IsRemountShortOn, IsShort, IsShortOn, MeetsShortage, asked_of, asks, has_own, page_for}
-use Rattle.hp_model.specs.machine.SlotEvent.{anon_tests, mount_section}
-use Rattle.hp_model.specs.machine.SlotEvent.{fill, preallocate, preallocate_tests, preallocated, unentered}
+use Rattle.hp_model.specs.machine.SlotEvent.{mount_section}
+use Rattle.hp_model.specs.machine.SlotEvent.{fill, preallocate, preallocate_tests, unentered}
 use Rattle.hp_model.specs.machine.SlotEvent.{byte_access, byte_tests, bytes_answer, fault, fault_tests}
-use Rattle.hp_model.specs.machine.SlotEvent.{committed_with, file_named, load, map_anon, map_file, map_tests, mount_outcome, mount_pages, remount_outcome, slot_event, store}
+use Rattle.hp_model.specs.machine.SlotEvent.{committed_with, file_named, load, map_file, map_tests, mount_outcome, mount_pages, remount_outcome, slot_event, store}
 use Rattle.hp_model.specs.machine.State.{State, slot_at}
 use Rattle.hp_model.specs.machine.Step.{Answer_with, IsScript, IsScripted, IsStep, Script, exit_slots, fork_slots, or_undone, undone, when_done}
 use Rattle.hp_model.specs.machine.Table.{Table, table_event}
@@ -61,7 +60,7 @@ use Rattle.hp_laws.proofs.making.Remounts.{remount_ends, remount_told, told_gran
 use Rattle.hp_laws.proofs.accesses.SlotShows.{always_gives}
 use Rattle.hp_laws.proofs.steps.Outcomes.{Always, either_way, reply_of}
 use Rattle.hp_laws.proofs.steps.Whole.{by_event, early_pages, is_early, is_whole, slot_step, step_of}
-use Rattle.hp_model.specs.files.Fill.{lacking, range_filled, rising_nodes}
+use Rattle.hp_model.specs.files.Fill.{lacking}
 
 -- ---- limits
 
@@ -114,14 +113,7 @@ module _ (s : State) where
   fill_granted d n = cond_both (can_grant d (pool_of s)) _ _ (λ (x : PoolAnswer × Pool). x.0.granted ≡ can_grant d (pool_of s)) (λ e. sym e) (λ e. sym e)
 
   fill_lacks : (c : Choice) (size : ℕ) (m : Mount) (a b : ℕ) (f : ℕ × File) → At (Lacks m (unentered a b f.1)) (fill c size m a b f)
-  fill_lacks c size m a b f =
-      let pages = unentered a b f.1 in
-      let n = lacking a b f.1 in
-      let q = (section (pool_of s) (FillPages (rise m pages) n)).0 in
-      let o : Outcome = Answered Done (Some (with_file m f.0 (range_filled size a b (rising_nodes n q.pages) f.1))) in
-      at_if (Lacks m pages) (is_full m pages) (refuse MountFull) _ (λ full. full)
-      (λ room. at_test (Lacks m pages) c.refused OutOfMemory (Ask (λ nr. FillPages (rise m pages) n) (preallocated size m a b f)) tt
-      (granted_lacks m pages (can_grant (rise m pages) (pool_of s)) o room refl tt q (fill_granted (rise m pages) n)))
+  fill_lacks c size m a b f = grind (arith, at_if, at_test, granted_lacks, fill_granted)
 
   grant_lacks : (c : Choice) (m : Mount) (home pages : ℕ) (o : Outcome) → Lacks m pages o → At (Lacks m pages) (grant c m home pages o)
   grant_lacks c m home pages o h = grind (arith, common_steps)
@@ -139,15 +131,12 @@ module _ (s : State) where
     shared_lacks t cell shared is = grind (arith, common_steps)
 
     module _ (apart : is_shared p.map.sharing ≡ false) where
-
       new_lacks : (t : Intent) (consumed : Bool) → place_at p.map i ≡ Live consumed None → has_own t p i ≡ false → At (Wants t) (new_copy c size m p home i consumed)
       new_lacks t consumed is none = grind (arith, common_steps)
 
       uncopied_lacks : (t : Intent) (consumed : Bool) → place_at p.map i ≡ Live consumed None → At (Wants t) (uncopied_access c size m p home i consumed t)
       uncopied_lacks Write consumed is = grind (arith, common_steps, new_lacks)
-      uncopied_lacks Read consumed is =
-          at_if (Wants Read) (has_page (cell_at p.file i)) (Finish (Answered Done (Some m))) (new_copy c size m p home i consumed) (λ e. tt)
-          (λ e. new_lacks Read consumed is (ap (λ q. is_some (copy_of q) || has_page (cell_at p.file i)) is ∙ e))
+      uncopied_lacks Read consumed is = grind (arith, at_if, new_lacks)
 
       write_lacks : (consumed : Bool) (copy : Copy) → place_at p.map i ≡ Live consumed (Some copy) → At (Wants Write) (copy_write c m p home i consumed copy)
       write_lacks consumed copy is = grind (arith, common_steps)
@@ -188,7 +177,6 @@ module _ (s : State) where
 
   -- the outcomes of a mount, by the pages that its step asks for
   module _ (m : Mount) (x : Step) where
-
     at_short : (p : Plan) → At (Lacks m (asks m x)) p → At (ShortOn (Some m) x) p
     at_short p at = grind (arith, common_steps)
 
@@ -220,10 +208,7 @@ module _ (s : State) where
     of_anon : (old : Slot) (task home n : ℕ) (sharing : Sharing) (reserving : Reserving)
         → At (ShortOn old (step.Anon task n sharing reserving)) (slot_event size k c old (slot.Anon task home n sharing reserving))
     of_anon None task home n sharing reserving = refl
-    of_anon (Some m) task home n sharing reserving =
-        let pages = asked sharing reserving 0 n (new_file None) in
-        at_short m (step.Anon task n sharing reserving) (map_anon c m task home n sharing reserving)
-        (at_tests (Lacks m pages) (plain_short m pages) (anon_tests m task n) refl _ (grant_lacks c m home pages _ tt))
+    of_anon (Some m) task home n sharing reserving = grind (arith, at_short, at_tests, plain_short, grant_lacks)
 
     of_fault : (old : Slot) (task home number i : ℕ) (t : Intent) → At (ShortOn old (step.Fault task k number i t)) (slot_event size k c old (slot.Fault task home number i t))
     of_fault None task home number i t = refl
@@ -277,8 +262,7 @@ module _ (s : State) where
     -- what the answer leads to, by the limits
     mount_leads : (options : List ℕ) (x : Result Limits Refusal) → limits s.nr size (wanted_of options) ≡ x → (a : PoolAnswer) → a.granted ≡ can_grant (mount_pages c x) (pool_of s)
         → MountShort options (mount_outcome c a x)
-    mount_leads options (Err r) is a told = subst (λ y. IsMountShort (pool_of s) y r) (sym is) (limits_plain s.nr size (wanted_of options) r is)
-    mount_leads options (Ok l) is a told = grind (arith, common_steps)
+    mount_leads options x is a told = grind (arith, limits_plain)
 
     taken_short : (p : Pool) (x : Result Limits Refusal) → IsMountShort p x SlotTaken
     taken_short p x = grind (arith, common_steps)
@@ -370,23 +354,12 @@ module _ (s : State) where
     store_meets task home number i offset bytes o h = grind (arith, common_steps)
 
     meets : (e : SlotEvent) → is_remount e ≡ false → is_whole (OnSlot k e) ≡ true → At (Meets k e) (slot_event s.page_size k c (slot_at s k) e)
-    meets (slot.Map task home name a n sharing reserving) other whole =
-        turn (slot.Map task home name a n sharing reserving) (ShortOn (slot_at s k) (step.Map task k name a n sharing reserving))
-        (map_meets task home name a n sharing reserving) (of_map c s.page_size k (slot_at s k) task home name a n sharing reserving)
-    meets (slot.Preallocate name a b) other whole =
-        turn (slot.Preallocate name a b) (ShortOn (slot_at s k) (step.Preallocate k name a b)) (fill_meets name a b) (of_preallocate c s.page_size k (slot_at s k) name a b)
-    meets (slot.Anon task home n sharing reserving) other whole =
-        turn (slot.Anon task home n sharing reserving) (ShortOn (slot_at s k) (step.Anon task n sharing reserving))
-        (anon_meets (eqb-true k 0 whole) task home n sharing reserving) (of_anon c s.page_size k (slot_at s k) task home n sharing reserving)
-    meets (slot.Fault task home number i t) other whole =
-        turn (slot.Fault task home number i t) (ShortOn (slot_at s k) (step.Fault task k number i t)) (fault_meets task home number i t)
-        (of_fault c s.page_size k (slot_at s k) task home number i t)
-    meets (slot.Load task home number i offset count) other whole =
-        turn (slot.Load task home number i offset count) (ShortOn (slot_at s k) (step.Load task k number i offset count))
-        (load_meets task home number i offset count) (of_load c s.page_size k (slot_at s k) task home number i offset count)
-    meets (slot.Store task home number i offset bytes) other whole =
-        turn (slot.Store task home number i offset bytes) (ShortOn (slot_at s k) (step.Store task k number i offset bytes))
-        (store_meets task home number i offset bytes) (of_store c s.page_size k (slot_at s k) task home number i offset bytes)
+    meets (slot.Map task home name a n sharing reserving) other whole = grind (arith, turn, map_meets, of_map)
+    meets (slot.Preallocate name a b) other whole = grind (arith, turn, fill_meets, of_preallocate)
+    meets (slot.Anon task home n sharing reserving) other whole = grind (arith, turn, anon_meets, eqb-true, of_anon)
+    meets (slot.Fault task home number i t) other whole = grind (arith, turn, fault_meets, of_fault)
+    meets (slot.Load task home number i offset count) other whole = grind (arith, turn, load_meets, of_load)
+    meets (slot.Store task home number i offset bytes) other whole = grind (arith, turn, store_meets, of_store)
     meets e other whole = grind (arith, common_steps, turn, mount_meets, of_mount, of_plain)
 
 -- ---- the table and the pool

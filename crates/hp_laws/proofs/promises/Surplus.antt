@@ -13,7 +13,7 @@ use Rattle.hp_model.specs.declared.step.Step.{Step}
 use Rattle.hp_model.specs.declared.step.Step.TheVariants.{Exit, Fork}
 use Rattle.hp_model.specs.machine.Event.{IsEvent}
 use Rattle.hp_model.specs.machine.Machine.{committed_pages, counts_in, pool_of}
-use Rattle.hp_model.specs.machine.Plan.{Ask, Finish, Plan, Reply}
+use Rattle.hp_model.specs.machine.Plan.{Plan, Reply}
 use Rattle.hp_model.specs.machine.Settled.{IsSettledState}
 use Rattle.hp_model.specs.machine.SlotEvent.{slot_event}
 use Rattle.hp_model.specs.machine.State.{State, slot_at}
@@ -53,8 +53,7 @@ by_pool : (s t : State) (q : Pool) → pool_of t ≡ q → q.nr ≡ s.nr → q.o
 by_pool s t q same nr overcommit le = grind (arith, common_steps)
 
 plan_commits : (s t : State) (p : Plan) → pool_of t ≡ pool_after s p → Commits s t
-plan_commits s t (Finish o) same = by_pool s t (pool_of s) same refl refl (omega arith)
-plan_commits s t (Ask sec f) same = grind (arith, common_steps, section_numbers, by_pool, section_within)
+plan_commits s t p same = grind (arith, by_pool, section_numbers, section_within)
 
 event_tied : (s : State) → IsSettledState s → (e : Event) (reply : Reply) (t : State) (is : IsEvent s e reply t) → pool_of t ≡ pool_left is.0 s e
 event_tied s st e reply t is = ap (λ (x : Reply × State). pool_of x.1) (sym is.2) ∙ (pool_is_tied is.0 s e is.1 st).0

@@ -91,7 +91,6 @@ gives_short old new = always_gives Short Done old new refl
 -- ---- accesses
 
 module _ (c : Choice) (size : ℕ) (m : Mount) (s : Spot) (home i : ℕ) where
-
   kind_fits : (kind : Sharing) (intent : Intent) → is_unmapped s i ≡ false
       → Always (Fits (first_failed ((not (is_shared kind) && (s.map.unmapped && not (is_some (copy_of (place_at s.map i)))), TakenByOwner) ∷ [])))
       (if is_shared kind then shared_access c size m s home i (cell_at s.file i) else private_access c size m s home i (place_at s.map i) intent)
@@ -310,7 +309,6 @@ module _ (s : State) (reply : Reply) (t : State) where
       (λ has it. by_reply it.0 it.1 (by_slot (slot_at u k) refl has it.0 it.1 it.2) (λ next. slots_meet parent child ks (done ++ k ∷ []) it.1 next) it.3)
       (λ none it. slots_meet parent child ks done u it) is
     where
-
       by_slot : (old : Slot) → slot_at u k ≡ old → has_maps_of parent old ≡ true → (r : Reply) (v : State) → IsEvent u (OnSlot k (slot.ForkMaps parent child)) r v → Forked r
       by_slot old there has r v is = grind (arith, common_steps)
 

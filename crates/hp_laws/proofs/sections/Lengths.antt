@@ -5,7 +5,6 @@ use Rattle.std.proofs.Common.{◌≡◌, ℕ, zero, suc, ◌+◌, ◌-◌, List,
 use Rattle.std.proofs.lemmas.Bool.{cond_both}
 use Rattle.std.proofs.lemmas.List.{length-map, length-set}
 use Rattle.hp_model.specs.declared.event.PoolEvent.{PoolEvent}
-use Rattle.hp_model.specs.declared.event.PoolEvent.TheVariants.{Nr}
 use Rattle.hp_model.specs.declared.node.Kind.TheVariants.{Free, Idle}
 use Rattle.hp_model.specs.declared.node.NodeRow.{NodeRow}
 use Rattle.hp_model.specs.pool.Grant.{granted, surplus_times}
@@ -68,8 +67,7 @@ long_section p (GrantPage home d) = grind (arith, common_steps, cond_both, long_
 long_section p s = grind (arith, common_steps, long_surplus_times, long_taken_times, long_give_back_times, long_puts)
 
 pub long_event : (p : Pool) (e : PoolEvent) → length (pool_event p e).1.nodes.rows ≡ length p.nodes.rows
-long_event p (Nr n) = grind (arith, common_steps, long_lower_times, long_raise_times)
-long_event p e = grind (arith, common_steps, cond_both)
+long_event p e = grind (arith, long_lower_times, long_raise_times, cond_both)
 
 pub long_rows : (s : State) (a : ℕ) (ns : List Node) → length (rows_of s a ns) ≡ length ns
 long_rows s a [] = refl

@@ -268,18 +268,7 @@ fill_case p d n true f g c k s e w =
 given_back : (puts : List ℕ) (j : ℕ) (p : Pool) (f g : ℕ → ℕ) (c k : ℕ) → IsSettledPool p → k ≤ 4 → length p.nodes.rows ≡ k → map row_used p.nodes.rows ≡ map f (range_with_len 0 k)
     → c + j ≡ p.committed → ((n : ℕ) → n < 4 → g n + slice_index_or puts n 0 ≡ f n + 0) → sum (map g (range_with_len 0 k)) ≤ c
     → Leads p (settled_pool (released j (puts_from 0 puts p))) c (map g (range_with_len 0 k))
-given_back puts j p f g c k s few long was commits pages within =
-    let vs : List ℕ = map g (range_with_len 0 k) in
-    relead p (settled_pool (released j (puts_from 0 puts p))) _ _ _ _
-    (gave_back puts j vs p s (omega (arith, length-map (range_with_len 0 k) g, long_range 0 k, long))
-    (λ n l. (let lk : n < k = omega (arith, l, long) in
-    let new = at_range g 0 k n lk in
-    let old = ap (λ xs. slice_index_or xs n 0) was ∙ at_range f 0 k n lk in
-    let same_new : g (0 + n) ≡ g n = ap g (omega arith) in
-    let same_old : f (0 + n) ≡ f n = ap f (omega arith) in
-    let e = pages n (omega (arith, lk, few)) in omega (arith, new, old, same_new, same_old, e)))
-    (omega (arith, commits, within)))
-    (omega (arith, commits)) refl
+given_back puts j p f g c k s few long was commits pages within = grind (arith, relead, gave_back, length-map, long_range, at_range)
 
 return_case : (p : Pool) (d : ℕ) (b : Bool) (f g : ℕ → ℕ) (c k : ℕ) → IsSettledPool p → can_grant d p ≡ b
     → Goal p (if b then (nr_answer true p, settled_pool (released d (granted 0 d p))) else (nr_answer false p, p)) (GrantAndReturn d) f g c k

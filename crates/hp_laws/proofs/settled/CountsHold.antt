@@ -1,6 +1,6 @@
 -- The counts of a settled machine are sums over files and maps, and limits and minimums hold.
 use Rattle.std.proofs.lemmas.Grind.{common_steps}
-use Rattle.std.proofs.Common.{◌≡◌, ⊎_elim, subst, ℕ, ◌+◌, ◌<◌, ◌≤◌, None, List, length, sym, ap, ◌∙◌, arith}
+use Rattle.std.proofs.Common.{◌≡◌, ⊎_elim, subst, ℕ, ◌+◌, ◌<◌, ◌≤◌, None, List, length, ap, ◌∙◌, arith}
 use Rattle.std.specs.List.{sum, slice_set, slice_index_or, range_with_len}
 use Rattle.std.proofs.lemmas.Bool.{ltb-true}
 use Rattle.std.proofs.lemmas.List.Sums.{sum-map}
@@ -17,7 +17,6 @@ use Rattle.hp_model.specs.pool.PoolCounts.{counts_by, used}
 use Rattle.hp_model.specs.machine.Promises.{least_of}
 use Rattle.hp_model.specs.machine.Settled.{IsSettledState}
 use Rattle.hp_laws.specs.Laws.{CountsAreSums, LimitsHold}
-use Rattle.hp_model.specs.machine.SlotEvent.{slot_event}
 use Rattle.hp_model.specs.machine.Sound.{IsSound}
 use Rattle.hp_model.specs.machine.State.{State, slot_at, with_slot}
 use Rattle.hp_laws.proofs.counts.NodeSums.{slot_below, slot_above, swap_le, sum_above, once_in_range, far_range}
@@ -74,10 +73,7 @@ at_slot : (xs : List Slot) (k j : ℕ) (n : Slot) → k < length xs → j < leng
 at_slot xs k j n lk lj h = grind (arith, common_steps)
 
 event_limited : (c : Choice) (s : State) (e : Event) (j : ℕ) → CanHappen c s e → j < length s.slots → IsSettledState s → IsLimited (slot_at s j) (slot_at (after c s e).1 j)
-event_limited c s (OnSlot k e) j can lj st =
-    let lk : k < length s.slots = ltb-true k (length s.slots) can.0 in
-    let it = plan_limited s k (slot_event s.page_size k c (slot_at s k) e) (slots_are_balanced s.page_size k c (slot_at s k) e can.2 (left_sound s k lk st)) in
-    subst (λ (xs : List Slot). IsLimited (slot_at s j) (slice_index_or xs j None)) (sym it.1.1) (at_slot s.slots k j it.0 lk lj it.1.0)
+event_limited c s (OnSlot k e) j can lj st = grind (arith, ltb-true, plan_limited, slots_are_balanced, left_sound, at_slot)
 event_limited c s e j can lj st = grind (arith, common_steps)
 
 pub limits_hold : LimitsHold

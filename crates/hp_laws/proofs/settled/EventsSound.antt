@@ -130,8 +130,7 @@ module _ (m : Mount) (sound : IsSoundMount m) (s : Spot) (at : IsSpot m s) where
     filled_left e intent page = grind (arith, common_steps, shared_left, cells_sound, length-set)
 
     shared_sound : is_shared s.map.sharing ≡ true → (intent : Intent) (cell : Cell Page) → Always (On (Left intent i)) (shared_access c size m s home i cell)
-    shared_sound e intent (Present page) = shared_left e intent m sound
-    shared_sound e intent cell = grind (arith, common_steps, on_reserved_page, filled_left, on_grant_page)
+    shared_sound e intent cell = grind (arith, shared_left, on_reserved_page, filled_left, on_grant_page)
 
     module _ (apart : is_shared s.map.sharing ≡ false) where
       -- the place gets a copy with the new stamp
@@ -176,8 +175,7 @@ module _ (m : Mount) (sound : IsSoundMount m) (s : Spot) (at : IsSpot m s) where
           (λ other. on_grant_page (Left Write i) c m home _ own_copy))
 
       private_sound : (intent : Intent) (p : Place Copy) → place_at s.map i ≡ p → Always (On (Left intent i)) (private_access c size m s home i p intent)
-      private_sound intent Gone is = tt
-      private_sound intent p is = grind (arith, common_steps, write_sound, always_if, On, uncopied_sound)
+      private_sound intent p is = grind (arith, write_sound, always_if, On, uncopied_sound)
 
     access_sound : (intent : Intent) → Always (On (Left intent i)) (access c size m s home i intent)
     access_sound intent =

@@ -5,7 +5,6 @@ use Rattle.std.proofs.Common.{◌≡◌, ℕ, ◌<◌, Bool, true, false, ◌&&�
 use Rattle.std.proofs.lemmas.Bool.{cond_both, and_parts, not-true}
 use Rattle.hp_model.specs.declared.answer.Answer.TheVariants.{Done}
 use Rattle.hp_model.specs.declared.step.Intent.{Intent}
-use Rattle.hp_model.specs.declared.step.Intent.TheVariants.{Read, Write}
 use Rattle.hp_model.specs.files.Access.{shared_access, new_copy, uncopied_access, private_access, access}
 use Rattle.hp_laws.specs.Balance.{IsBalanced, Stays, left_by}
 use Rattle.hp_model.specs.files.CopyWrite.{robbed, taken_back, is_held_once, owner_write, copy_write}
@@ -22,7 +21,7 @@ use Rattle.hp_model.specs.files.Value.{value}
 use Rattle.hp_model.specs.declared.cell.Cell.{Cell}
 use Rattle.hp_model.specs.declared.cell.Cell.TheVariants.{Hole, Entered, Present}
 use Rattle.hp_model.specs.declared.place.Place.{Place}
-use Rattle.hp_model.specs.declared.place.Place.TheVariants.{Gone, Live}
+use Rattle.hp_model.specs.declared.place.Place.TheVariants.{Live}
 use Rattle.hp_laws.proofs.counts.CopiesHeld.{IsAgreed}
 use Rattle.hp_laws.proofs.steps.CopyWrites.{copy_parts, takes_back, writes}
 use Rattle.hp_laws.proofs.counts.FileMoves.{fill_entry, fill_hole, copy_grows, copy_consumes}
@@ -60,8 +59,7 @@ module _ (c : Choice) (size : ℕ) (m : Mount) (s : Spot) (at : IsSpot m s) (agr
       (λ node. file_grows m s.file_no s.file _ node 1 1 at.file (copy_grows s.file s.map_no s.map i consumed (copy_for node shows) at.map is fresh)))
 
   uncopied_balanced : (consumed : Bool) (intent : Intent) → place_at s.map i ≡ Live consumed None → IsBalanced (Some m) (uncopied_access c size m s home i consumed intent)
-  uncopied_balanced consumed Write is = new_balanced consumed is
-  uncopied_balanced consumed Read is = grind (arith, common_steps, cond_both, stays, new_balanced)
+  uncopied_balanced consumed intent is = grind (arith, new_balanced, cond_both, stays)
 
   -- ---- a write into a copy
 
@@ -100,8 +98,7 @@ module _ (c : Choice) (size : ℕ) (m : Mount) (s : Spot) (at : IsSpot m s) (agr
       (λ e. balanced_grant_page c m home (λ node. with_copy consumed node copy.page.bytes) (own_copy consumed copy is more)))
 
   private_balanced : (p : Place Copy) (intent : Intent) → place_at s.map i ≡ p → IsBalanced (Some m) (private_access c size m s home i p intent)
-  private_balanced Gone intent is = stays (Some m)
-  private_balanced p intent is = grind (arith, common_steps, stays, copy_balanced, cond_both, uncopied_balanced)
+  private_balanced p intent is = grind (arith, stays, copy_balanced, cond_both, uncopied_balanced)
 
   pub access_balanced : (intent : Intent) → i < length s.file.cells → IsBalanced (Some m) (access c size m s home i intent)
   access_balanced intent l = grind (arith, common_steps, cond_both, shared_balanced, private_balanced)

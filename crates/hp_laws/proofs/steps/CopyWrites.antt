@@ -162,9 +162,7 @@ module _ (f : File) (k : ℕ) (m : Map) (i : ℕ) (c : Bool) (copy : Copy) (here
   within_left = let long = length-map f.maps (robbed copy.stamp) in let l = here.within in omega (arith, long, l)
 
   back_down : (t : ℕ → ℕ → Bool) → file_has t back ≡ true → file_has t f ≡ true
-  back_down t e =
-      ⊎_elim (λ l. any_map_down (map_has t) (map_has t) (robbed copy.stamp) (robbed_down t copy.stamp) f.maps l)
-      (λ r. in_file t r) (any_of_set (map_has t) left k m e)
+  back_down t e = grind (arith, any_map_down, robbed_down, in_file, any_of_set)
 
   back_up : IsAgreed f → (t : ℕ → ℕ → Bool) → file_has t f ≡ true → file_has t back ≡ true
   back_up agreed t e =

@@ -10,9 +10,9 @@ use Rattle.hp_model.specs.declared.cell.Cell.{Cell}
 use Rattle.hp_model.specs.declared.cell.Cell.TheVariants.{Entered, Hole, Present}
 use Rattle.hp_model.specs.declared.event.SlotEvent.{SlotEvent}
 use Rattle.hp_model.specs.declared.place.Place.{Place}
-use Rattle.hp_model.specs.declared.place.Place.TheVariants.{Gone, Live}
+use Rattle.hp_model.specs.declared.place.Place.TheVariants.{Live}
 use Rattle.hp_model.specs.declared.refusal.Refusal.{Refusal}
-use Rattle.hp_model.specs.declared.refusal.Refusal.TheVariants.{MountFull, OutOfMemory, OutOfRange}
+use Rattle.hp_model.specs.declared.refusal.Refusal.TheVariants.{MountFull, OutOfMemory}
 use Rattle.hp_model.specs.declared.section.Section.TheVariants.{FillPages, GiveBack, Grant, GrantPage, TakePage}
 use Rattle.hp_model.specs.declared.step.Intent.{Intent}
 use Rattle.hp_model.specs.declared.step.Intent.TheVariants.{Read, Write}
@@ -90,8 +90,7 @@ module _ (W : Plan → Type 0) where
           either (s.map.owner && not consumed) _ _ (plan_reserved home (λ node. with_copy true (fresh node))) (plan_page c m home (λ node. with_copy consumed (fresh node)))
 
       plan_uncopied : (consumed : Bool) (intent : Intent) → W (uncopied_access c size m s home i consumed intent)
-      plan_uncopied consumed Write = plan_new consumed
-      plan_uncopied consumed Read = grind (arith, common_steps, either, plan_new)
+      plan_uncopied consumed intent = grind (arith, plan_new, either)
 
       plan_owner : (stamp : ℕ) (n : ℕ → Slot) → W (owner_write m s home stamp (λ node. Answered Done (n node)))
       plan_owner stamp n =
@@ -107,8 +106,7 @@ module _ (W : Plan → Type 0) where
           (either s.map.owner owns asks (plan_owner copy.stamp own) (plan_page c m home own))
 
       plan_private : (p : Place Copy) (intent : Intent) → W (private_access c size m s home i p intent)
-      plan_private Gone intent = rules.done (Refused OutOfRange)
-      plan_private p intent = grind (arith, common_steps, plan_copy, either, plan_uncopied)
+      plan_private p intent = grind (arith, plan_copy, either, plan_uncopied)
 
       plan_access : (intent : Intent) → W (access c size m s home i intent)
       plan_access intent = grind (arith, common_steps, either, plan_shared, plan_private)

@@ -6,7 +6,7 @@ use Rattle.std.specs.Prelude.{max}
 use Rattle.hp_model.specs.declared.answer.Answer.{Answer}
 use Rattle.hp_model.specs.declared.answer.Answer.TheVariants.{Done}
 use Rattle.hp_model.specs.declared.event.Event.{Event}
-use Rattle.hp_model.specs.declared.event.Event.TheVariants.{Tasks, Slot as OnSlot}
+use Rattle.hp_model.specs.declared.event.Event.TheVariants.{Slot as OnSlot}
 use Rattle.hp_model.specs.declared.event.PoolEvent.{PoolEvent}
 use Rattle.hp_model.specs.declared.event.SlotEvent.{SlotEvent}
 use Rattle.hp_model.specs.declared.event.SlotEvent.TheVariants as slot
@@ -60,8 +60,7 @@ then_refused : (answer : Mount → Answer) (h : Mount → Mount) (o : Outcome) (
 then_refused answer h o r e = grind (arith, common_steps)
 
 keeps_then : (answer : Mount → Answer) (h : Mount → Mount) (p : Plan) → IsKept never p → IsKept never (and_then (λ m. Answered (answer m) (Some (h m))) p)
-keeps_then answer h (Finish o) k = record { keeps = tt }
-keeps_then answer h (Ask sec f) k = record { keeps = λ p r st late is. k.keeps p r st late (then_refused answer h (f (section p (sec p.nr)).0) r is) }
+keeps_then answer h p k = grind (arith, then_refused)
 
 both_answer : (b : Bool) (a1 a2 : Answer) (s1 s2 : Slot) (r : Refusal) → (if◌then◌else◌ {A = Outcome} b (Answered a1 s1) (Answered a2 s2)) ≡ Refused r → ⊥
 both_answer b a1 a2 s1 s2 r e = grind (arith, common_steps)
@@ -179,8 +178,7 @@ unfolding late_memory
 pick_late k options A B r a b = grind (arith, common_steps)
 
 plain_keeps : (late : Refusal → Bool) (p : Plan) → IsKept never p → IsKept late p
-plain_keeps late (Finish o) k = record { keeps = tt }
-plain_keeps late (Ask sec f) k = record { keeps = λ p r st on_time is. k.keeps p r st refl is }
+plain_keeps late p k = grind arith
 
 keeps_slot : (size k : ℕ) (c : Choice) (old : Slot) (e : SlotEvent) → IsKept late_memory (slot_event size k c old e)
 keeps_slot size k c old e = grind (arith, common_steps, keeps_on_none, plain_keeps, late_memory, plan_walk, keep_rules)
@@ -207,8 +205,7 @@ pool_refused p e r = grind (arith, common_steps)
 -- ---- every event
 
 event_refused : (c : Choice) (s : State) (e : Event) (r : Refusal) (t : State) → IsSettledState s → after c s e ≡ (Err r, t) → MatchBool (is_late e r) (SameButNodes s t) (t ≡ s)
-event_refused c s (Tasks e) r t st is = grind (arith, common_steps, table_refused)
-event_refused c s e r t st is = grind (arith, common_steps, slot_refused, pool_refused, pool_back)
+event_refused c s e r t st is = grind (arith, table_refused, slot_refused, pool_refused, pool_back)
 
 pub refusals_change_nothing : RefusalsChangeNothing
 refusals_change_nothing s e r t st is = event_refused is.0 s e r t st is.2

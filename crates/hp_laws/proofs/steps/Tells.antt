@@ -4,7 +4,6 @@ use Rattle.std.proofs.lemmas.Grind.{common_steps}
 use Rattle.std.proofs.Common.{◌≡◌, ℕ}
 use Rattle.hp_model.specs.declared.answer.Answer.{Answer}
 use Rattle.hp_model.specs.declared.event.SlotEvent.{SlotEvent}
-use Rattle.hp_model.specs.declared.event.SlotEvent.TheVariants.{Mount as MountEvent}
 use Rattle.hp_model.specs.machine.Plan.{Slot, Plan, Finish, Ask, Choice, gives}
 use Rattle.hp_model.specs.pool.Pool.{section}
 use Rattle.hp_model.specs.declared.section.PoolAnswer.{PoolAnswer}
@@ -25,8 +24,7 @@ pub tells_gives : (a : Answer) (old new : Slot) → Tells (gives a old new)
 tells_gives a old new = plan_gives Tells tell_rules a old new
 
 on_none_tells : (size : ℕ) (c : Choice) (e : SlotEvent) → Tells (on_none size c e)
-on_none_tells size c (MountEvent options) = grind (arith, common_steps, tells_nr)
-on_none_tells size c other = tt
+on_none_tells size c e = grind (arith, tells_nr)
 
 pub slot_event_tells : (size slot : ℕ) (c : Choice) (old : Slot) (e : SlotEvent) → Tells (slot_event size slot c old e)
 slot_event_tells size slot c old e = grind (arith, common_steps, on_none_tells, plan_walk, tell_rules)
