@@ -1,6 +1,5 @@
 -- An access whose page is kept for it is never refused for want of a huge page.
 use Rattle.std.proofs.Common.{arith}
-use Rattle.std.proofs.lemmas.Grind.{common_steps}
 use Rattle.std.proofs.Common.{◌≡◌, ℕ, true, Option, None, Some, List, length}
 use Rattle.hp_model.specs.declared.answer.Answer.TheVariants.{Done}
 use Rattle.hp_model.specs.declared.event.SlotEvent.TheVariants as slot
@@ -20,13 +19,13 @@ use Rattle.hp_laws.proofs.steps.Outcomes.{reply_of, Always, always_test, always_
 
 module _ (c : Choice) (size : ℕ) (m : Mount) (s : Spot) (home i : ℕ) where
   access_goes : (intent : Intent) → is_backed intent (Some s) i ≡ true → Always KeepsGoing (access c size m s home i intent)
-  access_goes intent e = grind (arith, common_steps)
+  access_goes intent e = grind arith
 
   bytes_go : (offset count : ℕ) (intent : Intent) → is_backed intent (Some s) i ≡ true → Always KeepsGoing (byte_access c size m home i offset count intent s)
-  bytes_go offset count intent e = grind (arith, common_steps)
+  bytes_go offset count intent e = grind arith
 
   goes_on : (f : Mount → Outcome) → ((n : Mount) → KeepsGoing (f n)) → (o : Outcome) → KeepsGoing o → KeepsGoing (continued f o)
-  goes_on f h o keeps = grind (arith, common_steps)
+  goes_on f h o keeps = grind arith
 
 module _ (size k : ℕ) (c : Choice) (task home number i offset : ℕ) where
   pub load_goes : (old : Slot) (count : ℕ) → is_backed Read (spot_on old task number) i ≡ true → Always KeepsGoing (slot_event size k c old (slot.Load task home number i offset count))
@@ -60,20 +59,20 @@ abbrev pub Stops : Outcome → Type 0
 Stops o = is_refused (reply_of o) ≡ true
 
 still_stops : (f : Mount → Outcome) (o : Outcome) → Stops o → Stops (continued f o)
-still_stops f o stops = grind (arith, common_steps)
+still_stops f o stops = grind arith
 
 module _ (c : Choice) (size : ℕ) (m : Mount) (s : Spot) (home i : ℕ) where
   bytes_stop : (offset count : ℕ) (intent : Intent) → is_cut_off (Some s) i ≡ true → Always Stops (byte_access c size m home i offset count intent s)
-  bytes_stop offset count intent e = grind (arith, common_steps)
+  bytes_stop offset count intent e = grind arith
 
 module _ (size k : ℕ) (c : Choice) (task home number i offset : ℕ) where
   pub load_stops : (old : Slot) (count : ℕ) → is_cut_off (spot_on old task number) i ≡ true → Always Stops (slot_event size k c old (slot.Load task home number i offset count))
   load_stops None count e = cc
-  load_stops (Some m) count e = grind (arith, common_steps, Always, always_then, still_stops, bytes_stop)
+  load_stops (Some m) count e = grind (arith, Always, always_then, still_stops, bytes_stop)
 
   pub store_stops : (old : Slot) (bytes : List ℕ) → is_cut_off (spot_on old task number) i ≡ true → Always Stops (slot_event size k c old (slot.Store task home number i offset bytes))
-  store_stops old bytes e = grind (arith, common_steps)
+  store_stops old bytes e = grind arith
 
 pub fault_stops : (size k : ℕ) (c : Choice) (task home number i : ℕ) (intent : Intent) (old : Slot) → is_cut_off (spot_on old task number) i ≡ true
     → Always Stops (slot_event size k c old (slot.Fault task home number i intent))
-fault_stops size k c task home number i intent old e = grind (arith, common_steps)
+fault_stops size k c task home number i intent old e = grind arith

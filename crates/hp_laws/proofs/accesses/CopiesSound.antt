@@ -114,7 +114,7 @@ module _ (m : Mount) (s : Spot) (at : IsSpot m s) (i : ℕ) (c : Bool) (o : Opti
       was = subst IsSoundFile (at.file.is s.file) (sound.files s.file_no s.file at.file.within)
 
       live_consumed : (b : Bool) → b ≡ true → is_unconsumed (Live b (Some copy)) ≡ false
-      live_consumed b e = grind (arith, common_steps)
+      live_consumed b e = grind arith
 
       map_sound : IsSoundMap (length s.file.cells) put
       map_sound z a has =
@@ -196,13 +196,13 @@ module _ (m : Mount) (s : Spot) (at : IsSpot m s) (i : ℕ) (c : Bool) (o : Opti
 
 module _ (stamp : ℕ) where
   robbed_place : (p : Place Copy) (a : Copy) → copy_of (drop_stamp stamp p) ≡ Some a → a.stamp ≡ stamp → ⊥
-  robbed_place p a = grind (arith, common_steps)
+  robbed_place p a = grind arith
 
   held : (p : Place Copy) (a : Copy) → copy_of p ≡ Some a → a.stamp ≡ stamp → holds stamp p ≡ true
   held p a e same = ap (λ o. elim o [ None ↦ false | Some copy ↦ copy.stamp == stamp ]) e ∙ eq-eqb a.stamp stamp same
 
   robbed_none : (x : Map) (z : ℕ) (a : Copy) → HasCopy (robbed stamp x) z a → a.stamp ≡ stamp → ⊥
-  robbed_none x z a = grind (arith, common_steps, cond_both, robbed_place, get_map, live_of, live_at, both_ways, list_any_at, held)
+  robbed_none x z a = grind (arith, cond_both, robbed_place, get_map, live_of, live_at, both_ways, list_any_at, held)
 
 module _ (m : Mount) (s : Spot) (at : IsSpot m s) (i : ℕ) (copy : Copy) (has : HasCopy s.map i copy) (sound : IsSoundMount m) where
   abbrev left : File

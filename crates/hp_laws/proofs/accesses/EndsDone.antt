@@ -1,6 +1,5 @@
 -- A fault is refused, or answered that it is done.
 use Rattle.std.proofs.Common.{arith}
-use Rattle.std.proofs.lemmas.Grind.{common_steps}
 use Rattle.std.proofs.Common.{ℕ, Some}
 use Rattle.hp_model.specs.declared.answer.Answer.TheVariants.{Done}
 use Rattle.hp_model.specs.declared.refusal.Refusal.{Refusal}
@@ -15,4 +14,4 @@ use Rattle.hp_laws.proofs.steps.Outcomes.{Always}
 module _ (Q : Outcome → Type 0) (stops : (r : Refusal) → Q (Refused r)) (done : (n : Mount) → Q (Answered Done (Some n))) where
   module _ (c : Choice) (size : ℕ) (m : Mount) (s : Spot) (home i : ℕ) where
     pub fault_done : (intent : Intent) → Always Q (fault c size m home i intent s)
-    fault_done intent = grind (arith, common_steps)
+    fault_done intent = grind arith

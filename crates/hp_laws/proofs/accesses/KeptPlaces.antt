@@ -178,7 +178,7 @@ module _ (size : ℕ) (m : Mount) (sound : IsSoundMount m) (s : Spot) (at : IsSp
     dropped l x other held = place_beside l x other ∙ ap (λ b. if b then without_copy (place_at (map_in s.file l) x) else place_at (map_in s.file l) x) held
 
     none_left : (p : Place Copy) → copy_of (without_copy p) ≡ None
-    none_left p = grind (arith, common_steps)
+    none_left p = grind arith
 
     some_marked : (l x : ℕ) → holds copy.stamp (place_at (map_in s.file l) x) ≡ true → (robbed copy.stamp (map_in s.file l)).unmapped ≡ true
     some_marked l x held = grind (arith, common_steps)
@@ -187,7 +187,7 @@ module _ (size : ℕ) (m : Mount) (sound : IsSoundMount m) (s : Spot) (at : IsSp
     lost_beside l x other held = grind (arith, at_index, file_was, file_here, own_map, eq-eqb, dropped, none_left, marked, beside, some_marked)
 
     place_robbed : (l x : ℕ) → (l ≡ s.map_no → ⊥) → (b : Bool) → holds copy.stamp (place_at (map_in s.file l) x) ≡ b → PlaceAt robs s.file_no l x
-    place_robbed l x other true held = grind (arith, common_steps, lost_beside, file_here, dropped, file_was)
+    place_robbed l x other true held = grind (arith, lost_beside, file_here, dropped, file_was)
     place_robbed l x other false e =
         inl (both bare (λ f. place_at (map_in f l) x) (place_beside l x other ∙ ap (λ b. if b then without_copy (place_at (map_in s.file l) x) else place_at (map_in s.file l) x) e))
 
@@ -215,7 +215,7 @@ module _ (size : ℕ) (m : Mount) (sound : IsSoundMount m) (s : Spot) (at : IsSp
 
   module _ (c : Choice) (home : ℕ) where
     shared_held : (cell : Cell Page) → is_shared s.map.sharing ≡ true → i < length s.file.cells → Always (On Held) (shared_access c size m s home i cell)
-    shared_held cell shared l = grind (arith, common_steps, idle, on_reserved_page, fill_held, on_grant_page)
+    shared_held cell shared l = grind (arith, idle, on_reserved_page, fill_held, on_grant_page)
 
     new_held : (consumed : Bool) → place_at s.map i ≡ Live consumed None → Always (On Held) (new_copy c size m s home i consumed)
     new_held consumed is =
@@ -240,10 +240,10 @@ module _ (size : ℕ) (m : Mount) (sound : IsSoundMount m) (s : Spot) (at : IsSp
         (λ other. on_grant_page Held c m home _ (λ node. copy_held consumed consumed (Some copy) (own node) is)))
 
     private_held : (p : Place Copy) (t : Intent) → intent ≡ t → is_shared s.map.sharing ≡ false → place_at s.map i ≡ p → Always (On Held) (private_access c size m s home i p t)
-    private_held p t same apart is = grind (arith, common_steps, idle, write_held, always_test, On, uncopied_held)
+    private_held p t same apart is = grind (arith, idle, write_held, always_test, On, uncopied_held)
 
     pub access_held : i < length s.file.cells → Always (On Held) (access c size m s home i intent)
-    access_held l = grind (arith, common_steps, always_if, On, shared_held, private_held)
+    access_held l = grind (arith, always_if, On, shared_held, private_held)
 
   -- ---- what a store writes
 
@@ -261,7 +261,7 @@ module _ (size : ℕ) (m : Mount) (sound : IsSoundMount m) (s : Spot) (at : IsSp
     same_marks j l = same_edit (marked l) (new_file None) edit (edit_marks size m sound s at i offset bytes l) n.files s.file_no j
 
     page_stays : (c : Cell Page) → has_page (cell_written offset bytes c) ≡ has_page c
-    page_stays c = grind (arith, common_steps)
+    page_stays c = grind arith
 
     -- ---- through a shared map
 
@@ -281,7 +281,7 @@ module _ (size : ℕ) (m : Mount) (sound : IsSoundMount m) (s : Spot) (at : IsSp
           (λ f. ap (λ g. cell_at g x) (shared_edit f) ∙ edit_other (cell_written offset bytes) Hole f.cells i x other) n.files s.file_no j
 
       cell_same : (j x : ℕ) → cell_at (file_in w j) x ≡ cell_at (file_in n j) x → CellAt w j x
-      cell_same j x same = grind (arith, common_steps)
+      cell_same j x same = grind arith
 
       cell_here : CellAt w s.file_no i
       cell_here = grind (arith, eq-eqb, edit_here, shared_edit, page_stays, ready)
@@ -325,7 +325,7 @@ module _ (size : ℕ) (m : Mount) (sound : IsSoundMount m) (s : Spot) (at : IsSp
       own_written = ap (λ y. place_at y i) map_edited ∙ written_at (now n s.file_no s.map_no) i o.consumed (Some o.copy) o.is offset bytes
 
       lost_still : (j l x : ℕ) → place_at (now w j l) x ≡ place_at (now n j l) x → LostAt n j l x → LostAt w j l x
-      lost_still j l x same lost = grind (arith, common_steps, own_written, same_written, marked, same_marks)
+      lost_still j l x same lost = grind (arith, own_written, same_written, marked, same_marks)
 
       place_same : (j l x : ℕ) → place_at (now w j l) x ≡ place_at (now n j l) x → PlaceAt w j l x
       place_same j l x same = grind (arith, lost_still)
@@ -351,7 +351,7 @@ module _ (size : ℕ) (m : Mount) (sound : IsSoundMount m) (s : Spot) (at : IsSp
       ]
 
       private_mark : (j l : ℕ) → LostAt n j l i → MarkAt w j l
-      private_mark j l lost = grind (arith, common_steps, lost_still, place_apart)
+      private_mark j l lost = grind (arith, lost_still, place_apart)
 
       private_written : Held w
       private_written = grind (arith, private_place, same_cell, same_marks, private_mark)

@@ -56,7 +56,7 @@ fill_looks size f i page l e =
 -- ---- a place of a map
 
 pub not_below : (b : Bool) (x : Place Copy) (c : Bool) (o : Option Copy) → (if b then Gone else x) ≡ Live c o → b ≡ false
-not_below b x c o e = grind (arith, common_steps)
+not_below b x c o e = grind arith
 
 module _ (m : Map) (i : ℕ) (c : Bool) (o : Option Copy) (is : place_at m i ≡ Live c o) (p : Place Copy) where
   pub place_put : place_at (with_place m i p) i ≡ p
@@ -89,17 +89,17 @@ On Q (Answered a None) = ⊥
 On Q (Answered a (Some n)) = Q n
 
 pub on_grant_page : (Q : Mount → Type 0) (c : Choice) (m : Mount) (home : ℕ) (n : ℕ → Mount) → ((node : ℕ) → Q (n node)) → Always (On Q) (grant_page c m home (λ node. Answered Done (Some (n node))))
-on_grant_page Q c m home n h = grind (arith, common_steps)
+on_grant_page Q c m home n h = grind arith
 
 pub on_reserved_page : (Q : Mount → Type 0) (home : ℕ) (n : ℕ → Mount) → ((node : ℕ) → Q (n node)) → Always (On Q) (reserved_page home (λ node. Answered Done (Some (n node))))
 on_reserved_page Q home n h = λ a. h a.node
 
 pub on_weaker : (Q R : Mount → Type 0) → ((n : Mount) → Q n → R n) → (o : Outcome) → On Q o → On R o
-on_weaker Q R h o on = grind (arith, common_steps)
+on_weaker Q R h o on = grind arith
 
 -- what follows an answer, on the mount that it leaves
 pub on_follows : (Q R : Mount → Type 0) (f : Mount → Outcome) → ((n : Mount) → Q n → On R (f n)) → (o : Outcome) → On Q o → On R (continued f o)
-on_follows Q R f h o on = grind (arith, common_steps)
+on_follows Q R f h o on = grind arith
 
 -- ---- an access that leaves all as it shows
 
@@ -143,7 +143,7 @@ module _ (size : ℕ) (m : Mount) (s : Spot) (at : IsSpot m s) (i : ℕ) where
 
   -- nothing changes
   stays_same : (is_shared s.map.sharing ≡ true → has_page (cell_at s.file i) ≡ true) → Same m
-  stays_same there = grind (arith, common_steps)
+  stays_same there = grind arith
 
   pub fill_same : (node : ℕ) → i < length s.file.cells → shown size (cell_at s.file i) ≡ zeros size →
       Same (with_file m s.file_no (with_cell s.file i (Present (record { node = node; bytes = zeros size }))))
@@ -238,7 +238,7 @@ module _ (size : ℕ) (m : Mount) (s : Spot) (at : IsSpot m s) (i : ℕ) where
           (sym (ap (λ q. by_place size q (look size i s.file)) is))
 
       owner_or : (b : Bool) (x n : Mount) → Result x → Result n → On Result (if b then Answered Done (Some x) else Answered Done (Some n))
-      owner_or b x n hx hn = grind (arith, common_steps)
+      owner_or b x n hx hn = grind arith
 
       write_copy : (consumed : Bool) (copy : Copy) → place_at s.map i ≡ Live consumed (Some copy) → Always (On Result) (copy_write c m s home i consumed copy)
       write_copy consumed copy is =
@@ -264,4 +264,4 @@ module _ (size : ℕ) (m : Mount) (s : Spot) (at : IsSpot m s) (i : ℕ) where
     write_done l = grind (arith, always_if, always_weaker, on_weaker, shared_same, write_private)
 
     pub read_same : i < length s.file.cells → Always (On Same) (access c size m s home i Read)
-    read_same l = grind (arith, common_steps, always_if, shared_same, read_private)
+    read_same l = grind (arith, always_if, shared_same, read_private)

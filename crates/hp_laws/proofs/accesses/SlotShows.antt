@@ -56,18 +56,18 @@ pub always_value : {X : Type 0} (P : Outcome → Type 0) → ((r : Refusal) → 
 always_value P stops o r f h = plan_value (Always P) stops o r f h
 
 granted_or : (P : Outcome → Type 0) → ((r : Refusal) → P (Refused r)) → (b : Bool) (o : Outcome) → P o → P (if b then o else Refused NoPages)
-granted_or P stops b o h = grind (arith, common_steps)
+granted_or P stops b o h = grind arith
 
 pub always_grant : (P : Outcome → Type 0) → ((r : Refusal) → P (Refused r)) → (c : Choice) (m : Mount) (home k : ℕ) (o : Outcome) → P o → Always P (grant c m home k o)
-always_grant P stops c m home k o h = grind (arith, common_steps)
+always_grant P stops c m home k o h = grind arith
 
 -- pages of a range, whose nodes the pool answers
 pub always_fill : (P : Outcome → Type 0) → ((r : Refusal) → P (Refused r)) → (ts : List (Bool × Refusal)) (d n : ℕ) (o : List ℕ → Outcome) → ((pages : List ℕ) → P (o pages))
     → Always P (unless ts (Ask (λ nr. FillPages d n) (λ a. when_granted (o a.pages) a)))
-always_fill P stops ts d n o h = grind (arith, common_steps, always_unless, granted_or)
+always_fill P stops ts d n o h = grind (arith, always_unless, granted_or)
 
 pub always_gives : (P : Outcome → Type 0) (a : Answer) (old new : Slot) → P (Answered a new) → Always P (gives a old new)
-always_gives P a old new h = grind (arith, common_steps)
+always_gives P a old new h = grind arith
 
 pub always_mount : (P : Outcome → Type 0) → ((r : Refusal) → P (Refused r)) → ((l : Limits) → P (Answered Done (Some (record { limits = l; files = [] }))))
     → (c : Choice) (size : ℕ) (options : List ℕ) → Always P (mount_on c size options)
@@ -75,7 +75,7 @@ always_mount P stops h c size options a = by_limits (limits a.nr size (wanted_of
   where
     by_tests : (refused granted late : Bool) (o : Outcome) → P o → P (if refused then Refused OutOfMemory else if not granted then Refused NoPages else if late then Refused OutOfMemory else o)
     by_tests true granted late o g = stops OutOfMemory
-    by_tests refused granted late o g = grind (arith, common_steps)
+    by_tests refused granted late o g = grind arith
 
     by_limits : (r : ResultOf Limits Refusal) → P (mount_outcome c a r)
     by_limits (Err e) = stops e
@@ -119,7 +119,7 @@ module _ (size : ℕ) (m : Mount) (a : Answer) where
   )
 
 entered_shows : (size : ℕ) (c : Cell Page) → shown size (entered c) ≡ shown size c
-entered_shows size c = grind (arith, common_steps)
+entered_shows size c = grind arith
 
 mapped_shows : (size task number a n : ℕ) (sharing : Sharing) (reserving : Reserving) (f : File) (x : ℕ) → look size x (mapped task number a n sharing reserving f) ≡ look size x f
 mapped_shows size task number a n sharing reserving f x =
@@ -131,10 +131,10 @@ mapped_shows size task number a n sharing reserving f x =
     (λ e. long)
 
 zero_shows : (size : ℕ) (c : Cell Page) → has_page c ≡ false → shown size c ≡ zeros size
-zero_shows size c none = grind (arith, common_steps)
+zero_shows size c none = grind arith
 
 filled_shows : (size a b : ℕ) (pages : List ℕ) (f : File) (x : ℕ) → look size x (range_filled size a b (rising_nodes (lacking a b f) pages) f) ≡ look size x f
-filled_shows size a b pages f x = grind (arith, common_steps, zero_shows, filled_index, length-nodes_of)
+filled_shows size a b pages f x = grind (arith, zero_shows, filled_index, length-nodes_of)
 
 pub filled_quiet : (size : ℕ) (m : Mount) (a b : ℕ) (pages : List ℕ) (q : ℕ × File) → IsFileAt m q.0 q.1
     → Quiet size (Some m) (Answered Done (Some (with_file m q.0 (range_filled size a b (rising_nodes (lacking a b q.1) pages) q.1))))
@@ -175,7 +175,7 @@ module _ (size : ℕ) (m : Mount) (task number a n : ℕ) (sharing : Sharing) (r
 module _ (size : ℕ) (c : Choice) (m : Mount) (home i : ℕ) where
   pub bytes_on : (Q : Mount → Type 0) (offset count : ℕ) (intent : Intent) (s : Spot) →
       (i < length s.file.cells → Always (On Q) (access c size m s home i intent)) → Always (On Q) (byte_access c size m home i offset count intent s)
-  bytes_on Q offset count intent s h = grind (arith, common_steps)
+  bytes_on Q offset count intent s h = grind arith
 
 -- the files show what they showed, and an answer is what the map shows
 pub record Loads (size : ℕ) (old : Slot) (o : Option Spot) (i offset count : ℕ) (out : Outcome) : Type 0 where
@@ -226,7 +226,7 @@ store_ends size m sound s at i offset bytes (Answered a (Some n)) on = (
   store_seen size m sound s at i offset bytes n on,
   store_marks size m sound s at i offset bytes n on,
 )
-store_ends size m sound s at i offset bytes o on = grind (arith, common_steps)
+store_ends size m sound s at i offset bytes o on = grind arith
 
 pub store_at : (size : ℕ) (c : Choice) (m : Mount) → IsSoundMount m → (s : Spot) → IsSpot m s → (home i offset : ℕ) (bytes : List ℕ)
     → Always (Stores size (Some m) (Some s) i offset bytes) (store c size m home i offset bytes s)

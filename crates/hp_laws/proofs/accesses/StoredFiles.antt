@@ -17,7 +17,7 @@ use Rattle.hp_laws.proofs.accesses.Shown.{look, Result}
 -- ---- a store
 
 present_over : (size offset : ℕ) (bytes : List ℕ) (c : Cell Page) → has_page c ≡ true → shown size (cell_written offset bytes c) ≡ over offset bytes (shown size c)
-present_over size offset bytes c e = grind (arith, common_steps)
+present_over size offset bytes c e = grind arith
 
 module _ (size : ℕ) (m : Mount) (s : Spot) (at : IsSpot m s) (i : ℕ) (n : Mount) where
   -- the files show what they showed, and there is a page to be written
@@ -43,7 +43,7 @@ module _ (size : ℕ) (m : Mount) (s : Spot) (at : IsSpot m s) (i : ℕ) (n : Mo
     other_index e = grind (arith, unseen, cond_both, look, edit_other, eqb-false)
 
     other_kind : is_shared s.map.sharing ≡ false → look size x (file_in after j) ≡ look size x (file_in m j)
-    other_kind e = grind (arith, common_steps, unseen, look)
+    other_kind e = grind (arith, unseen, look)
 
     other_file : (s.file_no == j) ≡ false → look size x (file_in after j) ≡ look size x (file_in m j)
     other_file e = ap (look size x) (edit_other edit (new_file None) n.files s.file_no j (λ same. eqb-false s.file_no j e (sym same))) ∙ is.cells j x
@@ -53,7 +53,7 @@ module _ (size : ℕ) (m : Mount) (s : Spot) (at : IsSpot m s) (i : ℕ) (n : Mo
     edits_none = cond_both (is_shared s.map.sharing) (new_file None) (new_file None) (λ f. f ≡ new_file None) (λ e. refl) (λ e. refl)
 
     here : is_shared s.map.sharing ≡ true → look size i (file_in (written n s i offset bytes) s.file_no) ≡ over offset bytes (look size i (file_in m s.file_no))
-    here e = grind (arith, common_steps, look, edit_here, edits_none, present_over)
+    here e = grind (arith, look, edit_here, edits_none, present_over)
 
     abbrev Goal : (a b d : Bool) → (j x : ℕ) → Type 0
     Goal a b d j x = look size x (file_in (written n s i offset bytes) j) ≡ (if a && (b && d) then over offset bytes (look size x (file_in m j)) else look size x (file_in m j))

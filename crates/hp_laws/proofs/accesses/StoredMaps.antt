@@ -28,10 +28,10 @@ module _ (m : Map) (i : ℕ) (c : Bool) (o : Option Copy) (is : place_at m i ≡
   from = not_below (nat_lt i m.start) (slice_index_or m.places (i - m.start) Gone) c o is
 
   pub written_at : place_at (map_written i offset bytes m) i ≡ place_written offset bytes (place_at m i)
-  written_at = grind (arith, common_steps, from, edit_here)
+  written_at = grind (arith, from, edit_here)
 
   pub written_off : (x : ℕ) → (x ≡ i → ⊥) → place_at (map_written i offset bytes m) x ≡ place_at m x
-  written_off x other = grind (arith, common_steps, ltb-false, from, edit_other)
+  written_off x other = grind (arith, ltb-false, from, edit_other)
 
 -- ---- a map that may lose its copies of a stamp
 
@@ -44,11 +44,11 @@ robs : (size stamp : ℕ) (m : Map) (x : ℕ) (v : List ℕ) → Robs size stamp
 robs size stamp m x v = grind (arith, common_steps)
 
 pub held_copy : (stamp : ℕ) (p : Place Copy) → holds stamp p ≡ true → (a : Copy) × (copy_of p ≡ Some a) × (a.stamp ≡ stamp)
-held_copy stamp p e = grind (arith, common_steps)
+held_copy stamp p e = grind arith
 
 -- a copy whose bytes are written stays the same copy
 pub same_written : (offset : ℕ) (bytes : List ℕ) (p q : Place Copy) → is_same_copy p (place_written offset bytes q) ≡ is_same_copy p q
-same_written offset bytes p q = grind (arith, common_steps)
+same_written offset bytes p q = grind arith
 
 -- ---- a store
 
@@ -77,7 +77,7 @@ module _ (size : ℕ) (m : Mount) (sound : IsSoundMount m) (s : Spot) (at : IsSp
   pick : (a d : Bool) (o : Option Copy) (v : List ℕ)
       → (elim o [ None ↦ (if a && (true && d) then over offset bytes v else v) | Some copy ↦ copy.page.bytes ])
       ≡ (if a && (d && not (is_some o)) then over offset bytes (elim o [ None ↦ v | Some copy ↦ copy.page.bytes ]) else (elim o [ None ↦ v | Some copy ↦ copy.page.bytes ]))
-  pick a d o v = grind (arith, common_steps)
+  pick a d o v = grind arith
 
   shared_seen : (n : Mount) → is_shared s.map.sharing ≡ true → Copied size m s at i n → (j l x : ℕ) → Seen (written n s i offset bytes) j l x
   shared_seen n e done j l x =
@@ -180,7 +180,7 @@ module _ (size : ℕ) (m : Mount) (sound : IsSoundMount m) (s : Spot) (at : IsSp
     edits_none = ap (λ b. if b then new_file None else new_file None) apart
 
     pub file_here : file_in after s.file_no ≡ g
-    file_here = grind (arith, common_steps, edit_here, edits_none)
+    file_here = grind (arith, edit_here, edits_none)
 
     pub map_other : (l : ℕ) → (l ≡ s.map_no → ⊥) → map_in g l ≡ map_in f l
     map_other l other = edit_other (map_written i offset bytes) no_map f.maps s.map_no l other
@@ -222,7 +222,7 @@ module _ (size : ℕ) (m : Mount) (sound : IsSoundMount m) (s : Spot) (at : IsSp
     tested a true false j l x ea ed eb =
         subst (λ y. Tested a true false y l x) (eqb-true s.file_no j ed) (in_other_map a l x (λ same. eqb-false s.map_no l eb (sym same)))
     tested false true true j l x ea ed eb = grind (arith, eqb-true, at_other, eqb-false)
-    tested true true true j l x ea ed eb = grind (arith, common_steps, eqb-true, at_here)
+    tested true true true j l x ea ed eb = grind (arith, eqb-true, at_here)
 
     private_seen : (j l x : ℕ) → Seen after j l x
     private_seen j l x = grind (arith, seen, tested)
@@ -259,4 +259,4 @@ module _ (size : ℕ) (m : Mount) (sound : IsSoundMount m) (s : Spot) (at : IsSp
   touched_seen n done j l x = ⊎_elim (λ copied. inl (copied.0.maps j l x)) (λ taken. in_mine n (mine n taken.apart done) j l x) done
 
   pub touched_marks : (n : Mount) → Result size m s at i n → (j l : ℕ) → marked l (file_in m j) ≡ true → marked l (file_in n j) ≡ true
-  touched_marks n done j l e = grind (arith, common_steps, marked, back_marks)
+  touched_marks n done j l e = grind (arith, marked, back_marks)

@@ -16,7 +16,7 @@ use Rattle.hp_laws.proofs.counts.CopiesHeld.{IsAgreed, is_stamp_at}
 -- ---- by places
 
 pub live_of : (p : Place Copy) (a : Copy) → copy_of p ≡ Some a → (c : Bool) × (p ≡ Live c (Some a))
-live_of p a e = grind (arith, common_steps)
+live_of p a e = grind arith
 
 pub none_copied : (i : ℕ) → copy_of (place_at no_map i) ≡ None
 none_copied i = cond_both (nat_lt i 0) Gone (slice_index_or no_map.places (i - 0) Gone) (λ p. copy_of p ≡ None) (λ e. refl) (λ e. refl)
@@ -45,7 +45,7 @@ module _ (t : ℕ → ℕ → Bool) where
   file_has_stamp f k i a has e = list_any_at (map_has t) f.maps k no_map (map_there f k i a has) (has_stamp (map_in f k) i a has e)
 
   place_copy : (p : Place Copy) → place_has t p ≡ true → (a : Copy) × (copy_of p ≡ Some a) × (t a.stamp a.page.node ≡ true)
-  place_copy p e = grind (arith, common_steps)
+  place_copy p e = grind arith
 
   -- the place of one that passes
   pub map_copy : (m : Map) → map_has t m ≡ true → (i : ℕ) × (a : Copy) × HasCopy m i a × (t a.stamp a.page.node ≡ true)

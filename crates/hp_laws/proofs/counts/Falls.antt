@@ -76,15 +76,15 @@ any_edit_range p f h a b xs e =
     (λ r. any_drop p a xs (any_drop p (b - a) (drop a xs) r)) e
 
 sum_by-edit_range_le : {X : Type 0} (g : X → ℕ) (f : X → X) → ((x : X) → g (f x) ≤ g x) → (a b : ℕ) (xs : List X) → sum_by g (edit_range f a b xs) ≤ sum_by g xs
-sum_by-edit_range_le g f h a b xs = grind (arith, common_steps, sum_by-edit_range, sum_by-map_le, sum_by-take-drop)
+sum_by-edit_range_le g f h a b xs = grind (arith, sum_by-edit_range, sum_by-map_le, sum_by-take-drop)
 
 -- ---- punched and cut
 
 hole_least : (test : Cell Page → Bool) → test Hole ≡ false → test Entered ≡ test Entered → (x : Cell Page) → bit (test (cell_punched x)) ≤ bit (test x)
-hole_least test none same x = grind (arith, common_steps)
+hole_least test none same x = grind arith
 
 cells_punched : (a b : ℕ) (xs : List (Cell Page)) → CellsFall xs (edit_range cell_punched a b xs)
-cells_punched a b xs = grind (arith, common_steps, sum_by-edit_range_le, hole_least)
+cells_punched a b xs = grind (arith, sum_by-edit_range_le, hole_least)
 
 cut_le : (test : Cell Page → Bool) → test Hole ≡ false → (n : ℕ) (xs : List (Cell Page)) → count_by test (cells_to n xs) ≤ count_by test xs
 cut_le test none n xs = grind (arith, common_steps)
@@ -93,13 +93,13 @@ cells_cut : (n : ℕ) (xs : List (Cell Page)) → CellsFall xs (cells_to n xs)
 cells_cut n xs = record { pages = cut_le has_page refl n xs; waits = cut_le is_waiting refl n xs; each = λ k. cut_le (is_page_at k) refl n xs }
 
 copy_down : (t : ℕ → ℕ → Bool) (p : Place Copy) → place_has t (without_copy p) ≡ true → place_has t p ≡ true
-copy_down t p e = grind (arith, common_steps)
+copy_down t p e = grind arith
 
 owed_if : (b : Bool) (x y : ℕ) → x ≤ y → cond b x 0 ≤ cond b y 0
-owed_if b x y l = grind (arith, common_steps)
+owed_if b x y l = grind arith
 
 copy_owes : (p : Place Copy) → bit (is_unconsumed (without_copy p)) ≤ bit (is_unconsumed p)
-copy_owes p = grind (arith, common_steps)
+copy_owes p = grind arith
 
 -- each map falls
 maps_fall : (h : Map → Map) → ((t : ℕ → ℕ → Bool) (m : Map) → map_has t (h m) ≡ true → map_has t m ≡ true) →
@@ -110,7 +110,7 @@ punched_has : (a b : ℕ) (t : ℕ → ℕ → Bool) (m : Map) → map_has t (ma
 punched_has a b t m = any_edit_range (place_has t) without_copy (copy_down t) (a - m.start) (b - m.start) m.places
 
 punched_owes : (a b : ℕ) (m : Map) → owner_reserves (map_punched a b m) ≤ owner_reserves m
-punched_owes a b m = grind (arith, common_steps, owed_if, sum_by-edit_range_le, copy_owes)
+punched_owes a b m = grind (arith, owed_if, sum_by-edit_range_le, copy_owes)
 
 pub punched_falls : (a b : ℕ) (f : File) → FileFalls f (punched a b f)
 punched_falls a b f = file_falls f (punched a b f) (cells_punched a b f.cells) (maps_fall (map_punched a b) (punched_has a b) (punched_owes a b) f.maps)
@@ -134,17 +134,17 @@ range_has : (a b : ℕ) (t : ℕ → ℕ → Bool) (m : Map) → map_has t (with
 range_has a b t m = any_edit_range (place_has t) (λ p. Gone) (gone_down t) (a - m.start) (b - m.start) m.places
 
 range_owes : (a b : ℕ) (m : Map) → owner_reserves (without_range a b m) ≤ owner_reserves m
-range_owes a b m = grind (arith, common_steps, owed_if, sum_by-edit_range_le, gone_owes)
+range_owes a b m = grind (arith, owed_if, sum_by-edit_range_le, gone_owes)
 
 range_has_if : (d : Bool) (a b : ℕ) (t : ℕ → ℕ → Bool) (m : Map) → map_has t (if d then without_range a b m else m) ≡ true → map_has t m ≡ true
 range_has_if true a b t m e = range_has a b t m e
 range_has_if false a b t m e = e
 
 range_owes_if : (d : Bool) (a b : ℕ) (m : Map) → owner_reserves (if d then without_range a b m else m) ≤ owner_reserves m
-range_owes_if d a b m = grind (arith, common_steps, range_owes)
+range_owes_if d a b m = grind (arith, range_owes)
 
 maps_filtered : (test : Map → Bool) (xs ys : List Map) → MapsFall xs ys → MapsFall xs (filter test ys)
-maps_filtered test xs ys fall = grind (arith, common_steps, any_filter, sum_by-filter_le)
+maps_filtered test xs ys fall = grind (arith, any_filter, sum_by-filter_le)
 
 pub unmapped_falls : (test : Map → Bool) (a b : ℕ) (f : File) → FileFalls f (file_unmapped test a b f)
 unmapped_falls test a b f =
@@ -156,7 +156,7 @@ pub without_falls : (task : ℕ) (f : File) → FileFalls f (file_without task f
 without_falls task f = file_falls f (file_without task f) (same_cells f.cells) (maps_filtered (λ m. not (is_of task m)) f.maps f.maps (same_maps f.maps))
 
 fresh_has : (t : ℕ → ℕ → Bool) (p : Place Copy) → place_has t (unconsumed p) ≡ true → place_has t p ≡ true
-fresh_has t p e = grind (arith, common_steps)
+fresh_has t p e = grind arith
 
 child_owes : (child : ℕ) (ms : List Map) → sum_by owner_reserves (map (map_for child) ms) ≡ 0
 child_owes child [] = refl

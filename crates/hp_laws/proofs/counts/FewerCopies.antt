@@ -36,13 +36,13 @@ abbrev Stays : Place Copy → Place Copy → Type 0
 Stays p q = (a : Copy) → copy_of p ≡ Some a → p ≡ q
 
 stays_if : (b : Bool) (p q : Place Copy) → Stays p q → Stays (if b then Gone else p) (if b then Gone else q)
-stays_if b p q h a e = grind (arith, common_steps)
+stays_if b p q h a e = grind arith
 
 less_by : (x : Map) (mark : Bool) (ps : List (Place Copy)) → ((k : ℕ) → Stays (get_or ps k Gone) (get_or x.places k Gone)) → IsLess x (record x { unmapped = mark; places = ps })
 less_by x mark ps h = grind (arith, stays_if)
 
 without_stays : (p : Place Copy) → Stays (without_copy p) p
-without_stays p a e = grind (arith, common_steps)
+without_stays p a e = grind arith
 
 pub less_range : (a b : ℕ) (x : Map) → IsLess x (without_range a b x)
 less_range a b x =

@@ -43,7 +43,7 @@ pub live_at : (m : Map) (i : ℕ) (c : Bool) (o : Option Copy) → place_at m i 
 live_at m i c o e = grind (arith, common_steps)
 
 pub or_false : (b : Bool) → b ≡ (b || false)
-or_false b = grind (arith, common_steps)
+or_false b = grind arith
 
 -- where a copy is put where none is
 put_has : (t : ℕ → ℕ → Bool) (m : Map) (i : ℕ) (c d : Bool) (new : Copy) → IsLiveAt m i c None → map_has t (with_place m i (Live d (Some new))) ≡ (t new.stamp new.page.node || map_has t m)
@@ -81,13 +81,13 @@ reserves_step f k m i c d o q here at =
     omega (arith, maps, was, step, is)
 
 pub same_owed : (m : Map) (c : Bool) (o q : Option Copy) → owed m (Live c o) ≡ owed m (Live c q)
-same_owed m c o q = grind (arith, common_steps)
+same_owed m c o q = grind arith
 
 owned : (b : Bool) → b ≡ true → ◌≡◌ {A = ℕ} (cond b 1 0) 1
-owned b e = grind (arith, common_steps)
+owned b e = grind arith
 
 pub spent : (b : Bool) → ◌≡◌ {A = ℕ} (cond b 0 0) 0
-spent b = grind (arith, common_steps)
+spent b = grind arith
 
 -- ---- a new copy where there is none
 
@@ -194,4 +194,4 @@ some_node q f e = maps_node q f.maps e
 -- in an agreed file every test of a stamp at its node finds what the stamp finds
 pub agreed_test : (t : ℕ → ℕ → Bool) (stamp node : ℕ) (f r : File) → IsAgreed f → ((u : ℕ → ℕ → Bool) → file_has u r ≡ true → file_has u f ≡ true)
     → file_has (is_stamp_at node stamp) f ≡ true → file_has (is_stamp stamp) r ≡ true → t stamp node ≡ true → file_has t r ≡ true
-agreed_test t stamp node f r agreed within here held passes = grind (arith, common_steps, some_node, is_stamp_at, weaker, and_parts, eqb-true)
+agreed_test t stamp node f r agreed within here held passes = grind (arith, some_node, is_stamp_at, weaker, and_parts, eqb-true)

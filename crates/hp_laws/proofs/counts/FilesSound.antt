@@ -75,7 +75,7 @@ module _ (n pages : ℕ) (x : Map) (i : ℕ) (a : Copy) (from : n ≤ i) (to : i
   cut = edit_range without_copy (n - x.start) (n + pages - x.start) x.places
 
   none_left : (p : Place Copy) → copy_of (without_copy p) ≡ Some a → ⊥
-  none_left p e = grind (arith, common_steps)
+  none_left p e = grind arith
 
   none_at : x.start ≤ i → copy_of (get_or cut (i - x.start) Gone) ≡ Some a → ⊥
   none_at low has = grind (arith, none_left, get_or-edit_in, ltb-true, ltb-false, length-edit_range, get_or_past)

@@ -38,7 +38,7 @@ module _ (size a b : ℕ) (nodes : List ℕ) (f : File) where
   same_longer i = same_more (λ c. c) Hole f.cells (replicate (b - length f.cells) Hole) (same_none (λ c. c) Hole (b - length f.cells)) i
 
   holes_asked : unentered a b f ≡ count_by is_hole (part a b longer)
-  holes_asked = grind (arith, common_steps)
+  holes_asked = grind arith
 
   module _ (all : length nodes ≡ lacking a b f) where
     few : length pages ≤ bare a b longer

@@ -66,7 +66,7 @@ pub new_grows : (m : Mount) (name : Option (List ℕ)) (g : File) (u : ℕ) → 
 new_grows m name g u grows = grind (arith, common_steps)
 
 pub nothing_more : (b : Bool) (n : ℕ) → n ≡ n + cond b 0 0
-nothing_more b n = grind (arith, common_steps)
+nothing_more b n = grind arith
 
 -- a change of one file that no count sees
 pub edit_grows : (m : Mount) (at_no : ℕ) (h : File → File) → ((f : File) → FileGrows f (h f) 0 0 0) → MountGrows m (record m { files = edit_at h m.files at_no }) 0 0 0

@@ -27,7 +27,7 @@ use Rattle.hp_laws.proofs.lists.AtMostOne.{bit}
 -- ---- sums over the files
 
 pub bit_le : (a b : Bool) → (a ≡ true → b ≡ true) → bit a ≤ bit b
-bit_le a b h = grind (arith, common_steps)
+bit_le a b h = grind arith
 
 pub count_maps : (p : Map → Bool) (fs : List File) → count_by p (flat_map (λ f. f.maps) fs) ≡ sum_by (λ f. count_by p f.maps) fs
 count_maps p [] = refl

@@ -1,5 +1,4 @@
 -- The pages at the nodes together are no more than the pages.
-use Rattle.std.proofs.lemmas.Grind.{common_steps}
 use Rattle.std.proofs.Common.{◌≡◌, ◌≢◌, ⊎_elim, subst, ℕ, zero, suc, ◌+◌, ◌<◌, ◌≤◌, Bool, true, false, ◌&&◌, ◌==◌}
 use Rattle.std.proofs.Common.{not, None, Some, List, [], ◌∷◌, length, map, refl, sym, ap, ◌∙◌, cond, arith, if◌then◌else◌}
 use Rattle.std.specs.List.{sum_by, count_by, filter_map, cons_option, range_with_len, All}
@@ -25,7 +24,7 @@ sum_plus f g [] = refl
 sum_plus f g (n ∷ ns) = omega (arith, sum_by-cons (λ n. f n + g n) n ns, sum_by-cons f n ns, sum_by-cons g n ns, sum_plus f g ns)
 
 sum_same : (f g : ℕ → ℕ) → ((n : ℕ) → f n ≡ g n) → (ns : List ℕ) → sum_by f ns ≡ sum_by g ns
-sum_same f g h ns = grind (arith, common_steps)
+sum_same f g h ns = grind arith
 
 sum_none : (ns : List ℕ) → sum_by (λ n. 0) ns ≡ 0
 sum_none [] = refl
@@ -57,10 +56,10 @@ abbrev Agreed : List Copy → Type 0
 Agreed cs = (q m n : ℕ) → is_among q (held_at m cs) ≡ true → is_among q (held_at n cs) ≡ true → m ≡ n
 
 among_if : (b : Bool) (q s : ℕ) (rest : List ℕ) → is_among q rest ≡ true → is_among q (cons_option (if b then Some s else None) rest) ≡ true
-among_if b q s rest e = grind (arith, common_steps)
+among_if b q s rest e = grind arith
 
 among_here : (b : Bool) (s : ℕ) (rest : List ℕ) → b ≡ true → is_among s (cons_option (if b then Some s else None) rest) ≡ true
-among_here b s rest e = grind (arith, common_steps)
+among_here b s rest e = grind arith
 
 some_node : (q : ℕ) (cs : List Copy) → is_among q (map (λ c. c.stamp) cs) ≡ true → (n : ℕ) × (is_among q (held_at n cs) ≡ true)
 some_node q [] e = cc
@@ -75,7 +74,7 @@ some_node q (c ∷ cs) e =
 
 one_step : (x b : Bool) (s : ℕ) (rest : List ℕ) → (x ≡ true → b ≡ true → is_among s rest ≡ true) →
     length (distinct (cons_option (if x then Some s else None) rest)) ≤ length (distinct rest) + cond (not b && x) 1 0
-one_step x b s rest h = grind (arith, common_steps)
+one_step x b s rest h = grind arith
 
 -- whether the stamp is among the others, each node has at most what it may
 copies_more : (ns : List ℕ) → ((node : ℕ) → count_by (λ n. node == n) ns ≤ 1) → (c : Copy) (cs : List Copy) → Agreed (c ∷ cs) → (b : Bool) → is_among c.stamp (map (λ c. c.stamp) cs) ≡ b
@@ -129,7 +128,7 @@ slot_below ns once (Some m) sound =
     swap_le IsSoundFile file_pages_at file_pages ns (λ f good. file_below ns once f (agreed_file f good)) m.files sound.files
 
 pub pages-le-committed : (s : Slot) → slot_pages s ≤ slot_committed s
-pages-le-committed s = grind (arith, common_steps)
+pages-le-committed s = grind arith
 
 -- a range has each node once
 none_from : (node a k : ℕ) → node < a → count_by (λ n. node == n) (range_with_len a k) ≡ 0
@@ -165,16 +164,16 @@ held_among q n (c ∷ cs) e = held_if (c.page.node == n) q c.stamp (held_at n cs
 -- a stamp that the others don't have makes one more
 one_more : (x b : Bool) (s : ℕ) (rest : List ℕ) → (b ≡ false → is_among s rest ≡ false) →
     length (distinct rest) + cond (not b && x) 1 0 ≤ length (distinct (cons_option (if x then Some s else None) rest))
-one_more x b s rest h = grind (arith, common_steps)
+one_more x b s rest h = grind arith
 
 not_held : (q n : ℕ) (cs : List Copy) (b : Bool) → is_among q (held_at n cs) ≡ b → is_among q (map (λ c. c.stamp) cs) ≡ false → is_among q (held_at n cs) ≡ false
-not_held q n cs b e h = grind (arith, common_steps, held_among)
+not_held q n cs b e h = grind (arith, held_among)
 
 abbrev Far : List ℕ → (ℕ → ℕ) → Type 0
 Far ns g = (n : ℕ) → count_by (λ k. n == k) ns ≡ 0 → g n ≡ 0
 
 listed : (ns : List ℕ) (g : ℕ → ℕ) (n k : ℕ) → Far ns g → count_by (λ j. n == j) ns ≡ k → 1 ≤ g n → 1 ≤ count_by (λ j. n == j) ns
-listed ns g n k far e some = grind (arith, common_steps)
+listed ns g n k far e some = grind arith
 
 copies_case : (ns : List ℕ) (c : Copy) (cs : List Copy) → Far ns (λ n. length (distinct (held_at n (c ∷ cs)))) → (b : Bool) → is_among c.stamp (map (λ c. c.stamp) cs) ≡ b
     → length (distinct (map (λ c. c.stamp) cs)) ≤ sum_by (λ n. length (distinct (held_at n cs))) ns

@@ -34,10 +34,10 @@ pub cells_longer : (n : ℕ) (xs : List (Cell Page)) → CellsWait xs (at_least 
 cells_longer n xs = grind (arith, common_steps)
 
 entered_same : (test : Cell Page → Bool) → test Entered ≡ test Hole → (x : Cell Page) → bit (test (entered x)) ≡ bit (test x)
-entered_same test e x = grind (arith, common_steps)
+entered_same test e x = grind arith
 
 wait_one : (x : Cell Page) → bit (is_waiting (entered x)) ≡ bit (is_waiting x) + bit (is_hole x)
-wait_one x = grind (arith, common_steps)
+wait_one x = grind arith
 
 wait_more : (xs : List (Cell Page)) → count_by is_waiting (map entered xs) ≡ count_by is_waiting xs + count_by is_hole xs
 wait_more [] = refl
@@ -52,10 +52,10 @@ wait_more (x ∷ xs) =
     )
 
 range_same : (test : Cell Page → Bool) → test Entered ≡ test Hole → (a b : ℕ) (xs : List (Cell Page)) → count_by test (edit_range entered a b xs) ≡ count_by test xs
-range_same test e a b xs = grind (arith, common_steps, bit, sum_by-edit_range, sum_by-map_same, entered_same, sum_by-take-drop)
+range_same test e a b xs = grind (arith, bit, sum_by-edit_range, sum_by-map_same, entered_same, sum_by-take-drop)
 
 range_waits : (a b : ℕ) (xs : List (Cell Page)) → count_by is_waiting (edit_range entered a b xs) ≡ count_by is_waiting xs + count_by is_hole (take (b - a) (drop a xs))
-range_waits a b xs = grind (arith, common_steps, bit, sum_by-edit_range, wait_more, sum_by-take-drop)
+range_waits a b xs = grind (arith, bit, sum_by-edit_range, wait_more, sum_by-take-drop)
 
 width : (a n : ℕ) → (a + n) - a ≡ n
 width a n = omega arith
@@ -82,7 +82,7 @@ owes_all : (n : ℕ) → count_by (is_unconsumed {C = Copy}) (replicate n (Live 
 owes_all n = grind (arith, common_steps)
 
 or_none : (a b : Bool) → b ≡ false → (a || (b || false)) ≡ a
-or_none a b e = grind (arith, common_steps)
+or_none a b e = grind arith
 
 map_more : (f : File) (cells : List (Cell Page)) (m : Map) (u w : ℕ) → CellsWait f.cells cells w → ((t : ℕ → ℕ → Bool) → map_has t m ≡ false) → owner_reserves m + w ≡ u
     → FileGrows f (record f { cells = cells; maps = f.maps ++ m ∷ [] }) 0 0 u

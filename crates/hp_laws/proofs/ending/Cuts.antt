@@ -47,7 +47,7 @@ module _ {X : Type 0} (f : X → X) (a b : ℕ) (xs : List X) (k : ℕ) (d : X) 
   ranged_in none from to = grind (arith, get_or-edit_in, beyond, get_or_past, cases_lt)
 
   pub ranged_out : (k < a) ⊎ (b ≤ k) → get_or (edit_range f a b xs) k d ≡ get_or xs k d
-  ranged_out out = grind (arith, common_steps, get_or-edit_below, get_or-edit_past, cases_lt, beyond, get_or_past)
+  ranged_out out = grind (arith, get_or-edit_below, get_or-edit_past, cases_lt, beyond, get_or_past)
 
   pub ranged : f d ≡ d → get_or (edit_range f a b xs) k d ≡ (if is_in a b k then f (get_or xs k d) else get_or xs k d)
   ranged none = grind (arith, ranged_in, leb-true, ltb-true, ranged_out, ltb-false, leb-false)
@@ -69,10 +69,10 @@ pub record IsCut (size : ℕ) (f g : File) (h : Map → Map) (cut : ℕ → Bool
   pub seen : (y : Map) → IsSoundMap (length f.cells) y → (x : ℕ) → value size g (h y) x ≡ (if cut x then zeros size else value size f y x)
 
 no_copy : (size : ℕ) (p : Place Copy) (v : List ℕ) → by_place size (without_copy p) v ≡ v
-no_copy size p v = grind (arith, common_steps)
+no_copy size p v = grind arith
 
 punched_shows : (size : ℕ) (c : Cell Page) → shown size (cell_punched c) ≡ zeros size
-punched_shows size c = grind (arith, common_steps)
+punched_shows size c = grind arith
 
 module _ (size a b : ℕ) (f : File) where
   punch_cells : (x : ℕ) → look size x (punched a b f) ≡ (if is_in a b x then zeros size else look size x f)
@@ -89,7 +89,7 @@ module _ (size n : ℕ) (f : File) where
   cut_cells x c past = grind (arith, common_steps)
 
   none_beyond : (y : Map) → IsSoundMap (length f.cells) y → (x : ℕ) → length f.cells ≤ x → (v : List ℕ) → by_place size (place_at y x) v ≡ v
-  none_beyond y sound x past v = grind (arith, common_steps)
+  none_beyond y sound x past v = grind arith
 
   cut_seen : (y : Map) → IsSoundMap (length f.cells) y → (x : ℕ) (c : Bool) → nat_le n x ≡ c →
       value size (truncated n f) (map_punched n (n + length f.cells) y) x ≡ (if c then zeros size else value size f y x)
@@ -101,10 +101,10 @@ module _ (size n : ℕ) (f : File) where
       by_tests : (c d : Bool) → nat_le n x ≡ c → nat_lt x (n + length f.cells) ≡ d
           → by_place size (if nat_le n x && d then without_copy (place_at y x) else place_at y x) (if c then zeros size else look size x f) ≡ (if c then zeros size else value size f y x)
       by_tests true true from to = ap (λ z. by_place size (if z && true then without_copy (place_at y x) else place_at y x) (zeros size)) from ∙ no_copy size (place_at y x) (zeros size)
-      by_tests c d from to = grind (arith, common_steps, ltb-false, none_beyond, look)
+      by_tests c d from to = grind (arith, ltb-false, none_beyond, look)
 
   pub truncate_cut : IsCut size f (truncated n f) (map_punched n (n + length f.cells)) (nat_le n)
-  truncate_cut = grind (arith, common_steps, pages_same, places, length-edit_range, cut_cells, seen, cut_seen)
+  truncate_cut = grind (arith, pages_same, places, length-edit_range, cut_cells, seen, cut_seen)
 
 -- ---- its mount
 
@@ -136,7 +136,7 @@ module _ (size : ℕ) (m : Mount) (sound : IsSoundMount m) (name : List ℕ) (q 
   cut_there j x other old = ap (λ b. cut_off (b && cut x) old) (sym (means j ∙ false_from_ne_true (q.0 == j) (λ e. other (sym (eqb-true q.0 j e)))))
 
   cells_cut : (j x : ℕ) → look size x (file_in after j) ≡ cut_off (means_file (Some m) name j && cut x) (look size x (file_in m j))
-  cells_cut j x = grind (arith, common_steps, cases_eq, look, file_now, file_was, cut_here, file_other, cut_there)
+  cells_cut j x = grind (arith, cases_eq, look, file_now, file_was, cut_here, file_other, cut_there)
 
   -- the map at a place of the file
   module _ (l : ℕ) (within : l < length q.1.maps) where
@@ -205,7 +205,7 @@ module _ (size : ℕ) (m : Mount) (name : List ℕ) (q : ℕ × File) (named : f
 
   -- another name is not that of the file
   not_named : (other : List ℕ) → bytes_eq name other ≡ false → has_name other q.1 ≡ false
-  not_named other apart = grind (arith, common_steps, found_place, bytes_eq-Decides)
+  not_named other apart = grind (arith, found_place, bytes_eq-Decides)
 
   -- the file that was found, and its maps
   abbrev moved : ℕ × File → ℕ × File

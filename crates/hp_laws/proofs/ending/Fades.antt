@@ -1,5 +1,4 @@
 -- What a script keeps whose events on slots only end maps of one task: a fork's, or an exit's.
-use Rattle.std.proofs.lemmas.Grind.{common_steps}
 use Rattle.std.proofs.Common.{false, ◌≡◌, inl, inr, subst, ℕ, ◌<◌, ◌≤◌, ◌==◌, None, Some, Ok, Err, List, [], ◌∷◌, ◌++◌, length, refl, sym, ap, ◌∙◌, arith}
 use Rattle.std.specs.List.{range_with_len, slice_index_or, slice_set}
 use Rattle.std.proofs.lemmas.Bool.{cases_eq, ltb-true}
@@ -50,12 +49,12 @@ pub record Fades (size gone : ℕ) (x y : Slot) : Type 0 where
 
 module _ (size gone : ℕ) where
   pub stays : (x : Slot) → Fades size gone x x
-  stays x = grind (arith, common_steps)
+  stays x = grind arith
 
   -- one after the other
   module _ (x y z : Slot) where
     map_then : (p q r : Spot) (i : ℕ) → KeptMap size x (slot.ExitMaps gone) y p q i → KeptMap size y (slot.ExitMaps gone) z q r i → KeptMap size x (slot.ExitMaps gone) z p r i
-    map_then p q r i first second = grind (arith, common_steps)
+    map_then p q r i first second = grind arith
 
     keeps_then : SlotKeeps size x (slot.ExitMaps gone) y → SlotKeeps size y (slot.ExitMaps gone) z → SlotKeeps size x (slot.ExitMaps gone) z
     keeps_then first second = record {
@@ -73,10 +72,10 @@ module _ (size gone : ℕ) where
     }
 
   limits_then : (x y z : Slot) → SameLimits x y → SameLimits y z → SameLimits x z
-  limits_then x y z a b = grind (arith, common_steps)
+  limits_then x y z a b = grind arith
 
   whole_then : (x y z : Slot) → Whole gone x y → Whole gone y z → Whole gone x z
-  whole_then x y z a b task number p other found = grind (arith, common_steps)
+  whole_then x y z a b task number p other found = grind arith
 
   pub fades_then : (x y z : Slot) → Fades size gone x y → Fades size gone y z → Fades size gone x z
   fades_then x y z a b =
@@ -103,7 +102,7 @@ module _ (size gone : ℕ) where
 
   -- a child's maps end by its fork as by its exit
   fork_map : (x y : Slot) (parent : ℕ) (p q : Spot) (i : ℕ) → KeptMap size x (slot.ForkMaps parent gone) y p q i → KeptMap size x (slot.ExitMaps gone) y p q i
-  fork_map x y parent p q i kept = grind (arith, common_steps)
+  fork_map x y parent p q i kept = grind arith
 
   pub fork_fades : (m : Mount) (parent : ℕ) → Fades size gone (Some m) (Some (forked parent gone m))
   fork_fades m parent =
@@ -183,7 +182,7 @@ module _ (gone : ℕ) where
       slot_fades s k (slot.ForkMaps parent child) reply t
       (λ c. subst (λ x. Always (FadesTo s.page_size gone (slot_at s k)) (slot_event s.page_size k c (slot_at s k) (slot.ForkMaps parent x))) (sym of)
       (forks s.page_size gone k c (slot_at s k) parent)) is
-  event_fades s e reply t of is = grind (arith, common_steps)
+  event_fades s e reply t of is = grind arith
 
   all_then : (s m t : State) → AllFade gone s m → AllFade gone m t → AllFade gone s t
   all_then s m t a b = record {
@@ -216,14 +215,14 @@ module _ (gone : ℕ) where
   undone_of done r = exits_of done _ (tt, λ reply. tt)
 
   or_of : (done : List ℕ) (r : Reply) (next : Script) → AllOf next → AllOf (or_undone done gone r next)
-  or_of done r next all = grind (arith, common_steps, undone_of)
+  or_of done r next all = grind (arith, undone_of)
 
   forks_of : (ks done : List ℕ) (parent : ℕ) → AllOf (fork_slots ks done parent gone)
   forks_of [] done parent = tt
   forks_of (k ∷ ks) done parent = ((refl, λ r. or_of done r (fork_slots ks (done ++ k ∷ []) parent gone) (forks_of ks (done ++ k ∷ []) parent)), forks_of ks done parent)
 
   when_of : (r : Reply) (next : Script) → AllOf next → AllOf (when_done r next)
-  when_of r next all = grind (arith, common_steps)
+  when_of r next all = grind arith
 
 -- ---- fork and exit
 
@@ -248,4 +247,4 @@ exits_done task r t (k ∷ ks) s is = either_way (has_maps_of task (slot_at s k)
 
 -- what a refused exit left is as it was
 pub exit_refused : (s : State) (task : ℕ) (r : Refusal) (t : State) → IsScripted s (Exit task) (Err r) t → t ≡ s
-exit_refused s task r t is = grind (arith, common_steps, exits_done)
+exit_refused s task r t is = grind (arith, exits_done)

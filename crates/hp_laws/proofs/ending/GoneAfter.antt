@@ -122,7 +122,7 @@ module _ (s : State) (st : IsSettledState s) where
   NoMount (Answered a new) = new ≡ None
 
   umount_none : (size k : ℕ) (c : Choice) (old : Slot) → Always NoMount (slot_event size k c old slot.Umount)
-  umount_none size k c old = grind (arith, common_steps)
+  umount_none size k c old = grind arith
 
   umount_gone : (t : State) (k : ℕ) → k < length s.slots → (o : Outcome) → NoMount o → t.slots ≡ slice_set s.slots k (left_by (slot_at s k) o) → IsGone s (step.Umount k) (reply_of o) t
   umount_gone t k l o none slots = grind (arith, common_steps)
@@ -149,10 +149,10 @@ module _ (s : State) (st : IsSettledState s) where
       let old = slot_at s k in
       let ends = event_ends (Ends task number a b old) s k (slot.Unmap task number a b) reply t (λ c. unmap_ends task number a b s.page_size k c old (left_sound s k l st)) is in
       subst (λ r. IsGone s (step.Unmap task k number a b) r t) (sym ends.replied) (number_gone t k task number a b l ends.outcome ends.holds ends.slots)
-  event_gone e reply t whole is = grind (arith, common_steps)
+  event_gone e reply t whole is = grind arith
 
   early_gone : (x : Step) (r : Refusal) → IsGone s x (Err r) s
-  early_gone x r = grind (arith, common_steps)
+  early_gone x r = grind arith
 
   pub step_gone : (reply : Reply) (t : State) (x : Step) → IsStep s x reply t → IsGone s x reply t
   step_gone reply t x is = by_event s (λ x reply t. IsGone s x reply t) (λ x r early. early_gone x r) event_gone (λ parent child reply t it. tt) exit_gone reply t x is

@@ -1,6 +1,5 @@
 -- What a refused fork leaves: the slots are as they were, or without the child's old maps.
 use Rattle.std.proofs.Common.{arith}
-use Rattle.std.proofs.lemmas.Grind.{common_steps}
 use Rattle.std.proofs.Common.{◌≡◌, ⊎_elim, inl, inr, ◌⊎◌, subst, ℕ, ◌||◌, ◌==◌, ◌&&◌, Bool, true, false, Option, None, Some}
 use Rattle.std.proofs.Common.{is_some, Ok, Err, List, [], ◌∷◌, ◌++◌, length, map, option_map, refl, sym, ap, ◌∙◌, if◌then◌else◌}
 use Rattle.std.specs.Bool.{MatchBool}
@@ -60,7 +59,7 @@ pub record SameSetting (s t : State) : Type 0 where
   pub overcommit : t.overcommit ≡ s.overcommit
 
 outcome_setting : (s : State) (k : ℕ) (o : Outcome) → SameSetting s (with_outcome s k o).1
-outcome_setting s k o = grind (arith, common_steps)
+outcome_setting s k o = grind arith
 
 pub plan_setting : (s : State) (k : ℕ) (p : Plan) → Gives p → SameSetting s (planned s k p).1
 plan_setting s k (Finish o) h = outcome_setting s k o
@@ -72,7 +71,7 @@ plan_setting s k (Ask sec f) h =
 
 pub event_setting : (s : State) (k : ℕ) (e : SlotEvent) (reply : Reply) (t : State)
     → ((c : Choice) → Gives (slot_event s.page_size k c (slot_at s k) e)) → IsEvent s (OnSlot k e) reply t → SameSetting s t
-event_setting s k e reply t h is = grind (arith, common_steps, plan_setting)
+event_setting s k e reply t h is = grind (arith, plan_setting)
 
 -- ---- what becomes of a slot
 
@@ -85,13 +84,13 @@ module _ (child : ℕ) where
   BecomesBy f old (Answered a new) = new ≡ option_map f old
 
   pub exit_becomes : (size k : ℕ) (c : Choice) (old : Slot) → Always (λ o. left_by old o ≡ option_map (without_task child) old) (slot_event size k c old (slot.ExitMaps child))
-  exit_becomes size k c old = grind (arith, common_steps)
+  exit_becomes size k c old = grind arith
 
   exit_gives : (size k : ℕ) (c : Choice) (old : Slot) → Gives (slot_event size k c old (slot.ExitMaps child))
-  exit_gives size k c old = grind (arith, common_steps, gives_back)
+  exit_gives size k c old = grind (arith, gives_back)
 
   pub fork_becomes : (parent size k : ℕ) (c : Choice) (old : Slot) → Always (BecomesBy (forked parent child) old) (slot_event size k c old (slot.ForkMaps parent child))
-  fork_becomes parent size k c old = grind (arith, common_steps)
+  fork_becomes parent size k c old = grind arith
 
   fork_gives : (parent size k : ℕ) (c : Choice) (old : Slot) → Gives (slot_event size k c old (slot.ForkMaps parent child))
   fork_gives parent size k c old = grind (arith, plan_unless, gives_back)
@@ -121,7 +120,7 @@ module _ (child : ℕ) where
 
   -- without them it stays so
   twice : (x : Slot) → without (without x) ≡ without x
-  twice x = grind (arith, common_steps, without_after, twice_without)
+  twice x = grind (arith, without_after, twice_without)
 
   cleared : (old now : Slot) (todo : Bool) → Goes old now todo → Touched old (without now) false
   cleared old now todo goes = record { same = twice now ∙ same_without old now todo goes; swept = swept_clear now; clean = inr (twice now) }
@@ -132,16 +131,16 @@ module _ (child : ℕ) where
 
   -- nothing of the child is there
   bare : (now : Slot) → has_maps_of child now ≡ false → option_map swept now ≡ now → without now ≡ now
-  bare now none is = grind (arith, common_steps, without_none)
+  bare now none is = grind (arith, without_none)
 
   left : (old new : Slot) → Goes old new false → IsForkLeft child old new
-  left old new h = grind (arith, common_steps)
+  left old new h = grind arith
 
   for_good : (old new : Slot) (todo : Bool) → Touched old new false → Touched old new todo
   for_good old new todo touched = record { same = touched.same; swept = touched.swept; clean = ⊎_elim (λ e. cc) (λ clean. inr clean) touched.clean }
 
   still_to_do : (old new : Slot) (todo more : Bool) → (todo ≡ true → more ≡ true) → Goes old new todo → Goes old new more
-  still_to_do old new todo more h h' = grind (arith, common_steps)
+  still_to_do old new todo more h h' = grind arith
 
 -- ---- the task table
 
@@ -165,7 +164,7 @@ added_removed child home (x ∷ xs) e = by_test (x.0 == child) refl e (added_rem
 -- ---- a fork under way
 
 pub either_with : {P Q R : Type 0} (b : Bool) → (b ≡ true → P → R) → (b ≡ false → Q → R) → MatchBool b P Q → R
-either_with b f g is = grind (arith, common_steps)
+either_with b f g is = grind arith
 
 module _ (s : State) (parent child home : ℕ) (unknown : is_known s.table child ≡ false) (t : State) where
   record Forking (todo : List ℕ) (u : State) : Type 0 where
@@ -208,12 +207,12 @@ module _ (s : State) (parent child home : ℕ) (unknown : is_known s.table child
 
   -- where no map of the child is left, there is nothing to be undone
   none_forking : (k : ℕ) (ks : List ℕ) (u : State) → has_maps_of child (slot_at u k) ≡ false → Forking (k ∷ ks) u → Forking ks u
-  none_forking k ks u none forking = grind (arith, common_steps, cases_eq, bare, still_to_do, after_first)
+  none_forking k ks u none forking = grind (arith, cases_eq, bare, still_to_do, after_first)
 
   -- ---- undone
 
   removes : (u : State) (r : Refusal) (reply : Reply) → Forking [] u → IsScript u (Do (Tasks (table.Remove child)) (λ q. Answer_with (Err r))) reply t → LeavesOthers s child t
-  removes u r reply forking is = grind (arith, common_steps, find_added, added_removed, left)
+  removes u r reply forking is = grind (arith, find_added, added_removed, left)
 
   undone_leaves : (todo : List ℕ) (r : Refusal) (u : State) (reply : Reply) → Forking todo u → IsScript u (undone todo child r) reply t → LeavesOthers s child t
   undone_leaves [] r u reply forking is = removes u r reply forking is
@@ -296,4 +295,4 @@ fork_refused s st parent child r t is =
 
 -- a fork onto a task that is there changes nothing
 pub fork_known : (s : State) (parent child : ℕ) (r : Refusal) (t : State) → is_known s.table child ≡ true → IsScripted s (Fork parent child) (Err r) t → t ≡ s
-fork_known s parent child r t known is = grind (arith, common_steps)
+fork_known s parent child r t known is = grind arith

@@ -16,7 +16,7 @@ use Rattle.hp_laws.proofs.making.FilesMade.{any_in_files}
 
 module _ {X : Type 0} (p : X → Bool) where
   kept_head : (x : X) (ys : List X) (b : Bool) → p x ≡ b → filter p (cond b (x ∷ ys) ys) ≡ cond b (x ∷ filter p ys) (filter p ys)
-  kept_head x ys b is = grind (arith, common_steps)
+  kept_head x ys b is = grind arith
 
   -- what is left of what is left
   filter_twice : (xs : List X) → filter p (filter p xs) ≡ filter p xs

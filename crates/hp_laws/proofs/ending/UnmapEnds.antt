@@ -1,5 +1,4 @@
 -- An unmap of all that was left of a map ends its number.
-use Rattle.std.proofs.lemmas.Grind.{common_steps}
 use Rattle.std.proofs.Common.{◌≡◌, map, option_map, ℕ, ◌+◌, ◌≤◌, Bool, true, false, ◌||◌, not, Option, None, Some, List, [], ◌∷◌, get_or}
 use Rattle.std.proofs.Common.{refl, sym, ap, ◌∙◌, arith, if◌then◌else◌}
 use Rattle.std.specs.List.{count_by, filter, list_any, sum_by}
@@ -33,7 +32,7 @@ module _ (task number a b : ℕ) where
   left ms = filter (is_left (is_map task number)) (map (map_unmapped (is_map task number) a b) ms)
 
   same_test : (y : Map) → is_map task number (map_unmapped (is_map task number) a b y) ≡ is_map task number y
-  same_test y = grind (arith, common_steps)
+  same_test y = grind arith
 
   any_cut : (ms : List Map) → list_any (is_map task number) (map (map_unmapped (is_map task number) a b) ms) ≡ list_any (is_map task number) ms
   any_cut [] = refl
@@ -41,7 +40,7 @@ module _ (task number a b : ℕ) where
       ap (λ c. c || list_any (is_map task number) (map (map_unmapped (is_map task number) a b) xs)) (same_test x) ∙ ap (λ c. is_map task number x || c) (any_cut xs)
 
   none_left : (ms : List Map) → list_any (is_map task number) ms ≡ false → list_any (is_map task number) (left ms) ≡ false
-  none_left ms none = grind (arith, common_steps, false_from_ne_true, any_filter, any_cut)
+  none_left ms none = grind (arith, false_from_ne_true, any_filter, any_cut)
 
   counted : (ms : List Map) → list_any (is_map task number) ms ≡ true → 1 ≤ count_by (is_map task number) ms
   counted ms some = (let there = any_there (is_map task number) no_map ms some in some_counted (is_map task number) no_map ms there.0 there.1 there.2)

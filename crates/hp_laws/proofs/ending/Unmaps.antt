@@ -30,10 +30,10 @@ use Rattle.hp_laws.proofs.accesses.Shown as shows
 
 -- a map that is found passes
 pub spot_passes : (m : Mount) (test : Map → Bool) (s : Spot) → spot m test ≡ Some s → test s.map ≡ true
-spot_passes m test s e = grind (arith, common_steps, some_file, spot_in_file, found_place)
+spot_passes m test s e = grind (arith, some_file, spot_in_file, found_place)
 
 not_not : (c : Bool) → not c ≡ false → c ≡ true
-not_not c e = grind (arith, common_steps)
+not_not c e = grind arith
 
 twice : {X : Type 0} (f g : X → X) (xs : List X) → map g (map f xs) ≡ map (λ x. g (f x)) xs
 twice f g [] = refl
@@ -71,7 +71,7 @@ module _ (size : ℕ) (m : Mount) (task number a b : ℕ) where
 
     -- it is the one of the event's number where it passes the event's test
     same_number : test p.map ≡ true → spot m (is_map task number) ≡ Some p
-    same_number on = grind (arith, common_steps, and_parts, spot_passes, eqb-true)
+    same_number on = grind (arith, and_parts, spot_passes, eqb-true)
 
     agrees : is_at (spot m (is_map task number)) p.file_no p.map_no ≡ test p.map
     agrees = by_test (test p.map) refl
@@ -189,7 +189,7 @@ module _ (size : ℕ) (m : Mount) (task number a b : ℕ) where
 module _ (size : ℕ) (m : Mount) (e : SlotEvent) (stores : (j x : ℕ) (old : List ℕ) → old ≡ stored_by size (Some m) e j x old)
     (sees : (j l x : ℕ) (old : List ℕ) → old ≡ seen_by size (Some m) e j l x old) where
   pub same_keeps : SlotKeeps size (Some m) e (Some m)
-  same_keeps = grind (arith, common_steps)
+  same_keeps = grind arith
 
   -- but for the maps of a task, of which the numbers end
   module _ (gone : ℕ) (h : File → File) (each : FilesFollow h (is_not_of gone)) (ends : (t u : ℕ) → ends_number (Some m) e t u ≡ (gone == t))
@@ -198,7 +198,7 @@ module _ (size : ℕ) (m : Mount) (e : SlotEvent) (stores : (j x : ℕ) (old : L
     others = record m { files = map h m.files }
 
     not_gone : (t u : ℕ) (q : Spot) → ends_number (Some m) e t u ≡ false → spot m (is_map t u) ≡ Some q → is_not_of gone q.map ≡ true
-    not_gone t u q goes_on found = grind (arith, common_steps, eqb-true, and_parts, spot_passes, false_from_ne_true, eqb-false)
+    not_gone t u q goes_on found = grind (arith, eqb-true, and_parts, spot_passes, false_from_ne_true, eqb-false)
 
     pub task_keeps : SlotKeeps size (Some m) e (Some (swept others))
     task_keeps =

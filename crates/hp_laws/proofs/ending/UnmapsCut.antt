@@ -1,6 +1,5 @@
 -- An unmap takes its range from the map that it names, and leaves the places of all other maps and the cells of all files.
 use Rattle.std.proofs.Common.{arith}
-use Rattle.std.proofs.lemmas.Grind.{common_steps}
 use Rattle.std.proofs.Common.{◌≡◌, subst, ℕ, ◌<◌, ◌&&◌, ◌==◌, Bool, true, false, None, Some, Err, [], ◌∷◌, length, sym, ap, ◌∙◌, if◌then◌else◌}
 use Rattle.std.specs.List.{slice_set}
 use Rattle.std.proofs.lemmas.Bool.{and_parts, eq-eqb, eqb-true, ltb-true}
@@ -46,7 +45,7 @@ module _ (owner gone a b : ℕ) where
   cut_places c y i = grind (arith, place_ranged)
 
   same_mark : (c : Bool) (y : Map) → (if c then without_range a b y else y).unmapped ≡ y.unmapped
-  same_mark c y = grind (arith, common_steps)
+  same_mark c y = grind arith
 
   unmap_leaves : (size k : ℕ) (c : Choice) (old : Slot) → Always (CutsTo old) (slot_event size k c old (slot.Unmap owner gone a b))
   unmap_leaves size k c None = tt
@@ -80,10 +79,10 @@ module _ (s : State) where
   event_cuts (OnSlot k (slot.Unmap owner gone a b)) reply t whole is =
       let ends = event_ends (CutsTo owner gone a b (slot_at s k)) s k (slot.Unmap owner gone a b) reply t (λ c. unmap_leaves owner gone a b s.page_size k c (slot_at s k)) is in
       subst (λ r. Unmaps s (step.Unmap owner k gone a b) r t) (sym ends.replied) (step_cuts t k owner gone a b (ltb-true k (length s.slots) is.1.0) ends.outcome ends.holds ends.slots)
-  event_cuts e reply t whole is = grind (arith, common_steps)
+  event_cuts e reply t whole is = grind arith
 
   early_cuts : (x : Step) (r : Refusal) → Unmaps s x (Err r) s
-  early_cuts x r = grind (arith, common_steps)
+  early_cuts x r = grind arith
 
   pub step_unmaps : (reply : Reply) (t : State) (x : Step) → IsStep s x reply t → Unmaps s x reply t
   step_unmaps reply t x is =

@@ -86,7 +86,7 @@ module _ (m : Mount) (sound : IsSoundMount m) (k : ℕ) (name : List ℕ) (q : �
   bare = with_file m q.0 (unlinked q.1)
 
   no_not : (b : Bool) → not b ≡ true → b ≡ false
-  no_not b e = grind (arith, common_steps)
+  no_not b e = grind arith
 
   unlink_kept : Keeps (Some m) (step.Unlink k name) (Some (swept bare))
   unlink_kept =
@@ -121,7 +121,7 @@ module _ (m : Mount) (sound : IsSoundMount m) (k : ℕ) (name : List ℕ) (q : �
     holed = punched a b q.1
 
     in_range : {X : Type 0} (c : Bool) (new old cut : X) → new ≡ (if c then cut else old) → (new ≡ old) ⊎ ((c ≡ true) × (new ≡ cut))
-    in_range c new old cut e = grind (arith, common_steps)
+    in_range c new old cut e = grind arith
 
     punch_kept : Keeps (Some m) (step.Punch k name a b) (Some (swept (with_file m q.0 holed)))
     punch_kept =
@@ -153,7 +153,7 @@ module _ (m : Mount) (task k : ℕ) (name : List ℕ) (a n : ℕ) (q : ℕ × Fi
   map_cell : (number : ℕ) (sharing : Sharing) (reserving : Reserving) (i : ℕ)
       → (cell_at (mapped task number a n sharing reserving q.1) i ≡ cell_at q.1 i) ⊎ MapCell sharing reserving q.0 i (cell_at q.1 i) (cell_at (mapped task number a n sharing reserving q.1) i)
   map_cell number Shared Reserve i = grind (arith, means_it, entered_cell)
-  map_cell number sharing reserving i = grind (arith, common_steps, long_cell)
+  map_cell number sharing reserving i = grind (arith, long_cell)
 
   map_kept : (sharing : Sharing) (reserving : Reserving)
       → Keeps (Some m) (step.Map task k name a n sharing reserving) (Some (with_file m q.0 (mapped task (next_number task m) a n sharing reserving q.1)))
@@ -192,7 +192,7 @@ module _ (m : Mount) (k size : ℕ) (name : List ℕ) (a b : ℕ) (pages : List 
 -- ---- accesses
 
 some_copy : (o : Option Copy) → is_some o ≡ true → (copy : Copy) × (o ≡ Some copy)
-some_copy o e = grind (arith, common_steps)
+some_copy o e = grind arith
 
 spot_sound : (n : Mount) (sound : IsSoundMount n) (q : Spot) → IsSpot n q → IsSoundMap (length q.file.cells) q.map
 spot_sound n sound q at =
@@ -282,15 +282,15 @@ module _ (size k : ℕ) (c : Choice) (m : Mount) (sound : IsSoundMount m) where
   KeptIf x n = keys n ≡ keys m → IsSoundMount n → Keeps (Some m) x (Some n)
 
   joined : (x : Step) (o : Outcome) → On (KeptIf x) o → On Stays o → KeepsTo (Some m) x o
-  joined x o h stays = grind (arith, common_steps)
+  joined x o h stays = grind arith
 
   both_on : (P Q : Mount → Type 0) (o : Outcome) → On P o → On Q o → On (λ n. P n × Q n) o
-  both_on P Q o p q = grind (arith, common_steps)
+  both_on P Q o p q = grind arith
 
   module _ (task home number i : ℕ) where
     fault_kept : (intent : Intent) (s : Spot) (found : spot m (is_map task number) ≡ Some s) (n : Mount) → Held size m sound s (spot_is m (is_map task number) s found) i intent n
         → KeptIf (step.Fault task k number i intent) n
-    fault_kept Read s found n held same whole = grind (arith, common_steps, access_kept, placed_same)
+    fault_kept Read s found n held same whole = grind (arith, access_kept, placed_same)
     fault_kept Write s found n held same whole = grind (arith, access_kept, placed_same)
 
     module _ (s : Spot) (found : spot m (is_map task number) ≡ Some s) where
@@ -340,10 +340,10 @@ module _ (size k : ℕ) (c : Choice) (m : Mount) (sound : IsSoundMount m) where
   given x n h = always_gives (KeepsTo (Some m) x) Done (Some m) (Some n) (λ whole. h)
 
   refused_kept : (e : SlotEvent) (r : Refusal) → KeepsOn (Some m) k e (Refused r)
-  refused_kept e r = grind (arith, common_steps, files_same)
+  refused_kept e r = grind (arith, files_same)
 
   told_kept : (e : SlotEvent) (a : Answer) → tells_all e ≡ true → KeepsOn (Some m) k e (Answered a (Some m))
-  told_kept e a told = grind (arith, common_steps, same_keeps)
+  told_kept e a told = grind (arith, same_keeps)
 
   kept_walks : Walks size k c m (λ e. Always (KeepsOn (Some m) k e))
   kept_walks = record {
@@ -403,7 +403,7 @@ slot_kept size k c (Some m) e sound =
 module _ (s : State) (st : IsSettledState s) (t : State) (tt_sound : (k : ℕ) → IsSound (slot_at t k)) where
   own_slot : (x : Step) (k : ℕ) (a : Answer) (y : Slot) → k < length s.slots → t.slots ≡ slice_set s.slots k y → KeepsTo (slot_at s k) x (Answered a y)
       → (o : ℕ) → (k == o) ≡ true → Keeps (slot_at s o) x (slot_at t o)
-  own_slot x k a y l slots keeps o on = grind (arith, common_steps, get_or-set_same, eqb-true)
+  own_slot x k a y l slots keeps o on = grind (arith, get_or-set_same, eqb-true)
 
   outcome_kept : (k : ℕ) (e : SlotEvent) (o : Outcome) → is_whole (OnSlot k e) ≡ true → k < length s.slots → t.slots ≡ slice_set s.slots k (left_by (slot_at s k) o)
       → KeepsOn (slot_at s k) k e o → KeepsOwn s (slot_step k e) (reply_of o) t
@@ -415,10 +415,10 @@ module _ (s : State) (st : IsSettledState s) (t : State) (tt_sound : (k : ℕ) �
       let l = ltb-true k (length s.slots) is.1.0 in
       let ends = event_ends (KeepsOn (slot_at s k) k e) s k e reply t (λ c. slot_kept s.page_size k c (slot_at s k) e (left_sound s k l st)) is in
       subst (λ r. KeepsOwn s (slot_step k e) r t) (sym ends.replied) (outcome_kept k e ends.outcome whole l ends.slots ends.holds)
-  event_kept e reply whole is = grind (arith, common_steps, step_of)
+  event_kept e reply whole is = grind (arith, step_of)
 
 early_kept : (s : State) (x : Step) (r : Refusal) → KeepsOwn s x (Err r) s
-early_kept s x r = grind (arith, common_steps, files_same)
+early_kept s x r = grind (arith, files_same)
 
 sound_at : (t : State) → IsSettledState t → (k : ℕ) → IsSound (slot_at t k)
 sound_at t st k = ⊎_elim (λ l. left_sound t k l st) (λ past. subst IsSound (sym (get_or_past t.slots k None past)) tt) (cases_lt k (length t.slots))

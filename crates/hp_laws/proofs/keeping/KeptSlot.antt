@@ -1,6 +1,5 @@
 -- What each event keeps on its slot: the places of maps, and the cells of files.
 use Rattle.std.proofs.Common.{arith}
-use Rattle.std.proofs.lemmas.Grind.{common_steps}
 use Rattle.std.proofs.Common.{◌≡◌, ⊎_elim, inl, inr, ◌⊎◌, map, ℕ, ◌<◌, Bool, true, false, ◌&&◌, ◌==◌}
 use Rattle.std.proofs.Common.{Option, None, Some, List, [], ◌∷◌, length, refl, sym, ap, ◌∙◌, subst}
 use Rattle.std.specs.List.{slice_index_or}
@@ -34,7 +33,7 @@ only_file o f g e w = (let same : Some f ≡ Some g = sym e ∙ w in cc)
 
 -- a slot with all its files and maps as they were
 pub alike_keeps : (x y : Slot) (step : Step) → ((task number : ℕ) → spot_on y task number ≡ spot_on x task number) → ((name : List ℕ) → named_on y name ≡ named_on x name) → Keeps x step y
-alike_keeps x y step spots names = grind (arith, common_steps)
+alike_keeps x y step spots names = grind arith
 
 -- a slot that is as it was
 pub same_keeps : (x : Slot) (step : Step) → Keeps x step x

@@ -34,10 +34,10 @@ EndsBy R ends old (Answered a new) = ends ≡ false → R old new
 
 -- for an event that ends nothing it is shown by the mount that it leaves
 pub ends_on : (R : Slot → Slot → Type 0) (m : Mount) (Q : Mount → Type 0) → ((n : Mount) → Q n → R (Some m) (Some n)) → (o : Outcome) → On Q o → EndsBy R false (Some m) o
-ends_on R m Q h o on = grind (arith, common_steps)
+ends_on R m Q h o on = grind arith
 
 pub ends_unless : (R : Slot → Slot → Type 0) (old : Slot) (b : Bool) (p : Plan) → (b ≡ false → Always (EndsBy R false old) p) → Always (EndsBy R b old) p
-ends_unless R old b p h = grind (arith, common_steps)
+ends_unless R old b p h = grind arith
 
 -- on a slot that is not mounted an event mounts one, or is refused
 pub ends_open : (size k : ℕ) (c : Choice) (e : SlotEvent) (R : Slot → Slot → Type 0) → ((new : Slot) → R None new) → Always (EndsBy R (relimits e) None) (slot_event size k c None e)
@@ -48,7 +48,7 @@ ends_open size k c other R h = tt
 
 -- an umount ends the mount of its slot, and a remount its limits; nothing else does
 ends_here : (k : ℕ) (e : SlotEvent) (a : Answer) (reply : Reply) → reply ≡ Ok a → is_relimited (slot_step k e) reply k ≡ false → relimits e ≡ false
-ends_here k e a reply replied there = grind (arith, common_steps)
+ends_here k e a reply replied there = grind arith
 
 -- R holds of every slot before and after, but of those that pass
 abbrev pub KeepsBut : (Slot → Slot → Type 0) → (ℕ → Bool) → State → State → Type 0
@@ -56,7 +56,7 @@ KeepsBut R gone s t = (k : ℕ) → gone k ≡ false → R (slot_at s k) (slot_a
 
 module _ (R : Slot → Slot → Type 0) (same : (old : Slot) → R old old) where
   slots_stay : (s t : State) (gone : ℕ → Bool) → t.slots ≡ s.slots → KeepsBut R gone s t
-  slots_stay s t gone slots k there = grind (arith, common_steps)
+  slots_stay s t gone slots k there = grind arith
 
   -- a slot of its own is set, which keeps its mount where it does not pass
   set_keeps : (s t : State) (k : ℕ) (n : Slot) (gone : ℕ → Bool) → k < length s.slots → t.slots ≡ slice_set s.slots k n

@@ -76,28 +76,28 @@ module _ (s : State) (step : Step) (reply : Reply) (t : State) (slot : ℕ) (siz
 -- ---- what is made of bytes
 
 refused_stores : (s : State) (step : Step) (r : Refusal) (k j x : ℕ) (old : List ℕ) → old ≡ stored_over s step (Err r) k j x old
-refused_stores s step r l j x old = grind (arith, common_steps)
+refused_stores s step r l j x old = grind arith
 
 refused_writes : (s : State) (step : Step) (r : Refusal) (k j l x : ℕ) (old : List ℕ) → old ≡ seen_over s step (Err r) k j l x old
-refused_writes s step r o j l x old = grind (arith, common_steps)
+refused_writes s step r o j l x old = grind arith
 
 module _ (s : State) (k : ℕ) (a : Answer) where
   stored_here : (e : SlotEvent) (j i : ℕ) (old : List ℕ) → stored_by s.page_size (slot_at s k) e j i old ≡ stored_over s (slot_step k e) (Ok a) k j i old
-  stored_here e j i old = grind (arith, common_steps)
+  stored_here e j i old = grind arith
 
   -- what the event does not end its step does not end
   name_here : (e : SlotEvent) (name : List ℕ) → ends_name e name ≡ is_ended_name (slot_step k e) (Ok a) k name
-  name_here e name = grind (arith, common_steps)
+  name_here e name = grind arith
 
   number_here : (e : SlotEvent) (task number : ℕ) → ends_number (slot_at s k) e task number ≡ is_ended_number s (slot_step k e) (Ok a) k task number
-  number_here e task number = grind (arith, common_steps)
+  number_here e task number = grind arith
 
   module _ (o : ℕ) (other : (k == o) ≡ false) where
     stored_there : (e : SlotEvent) (j i : ℕ) (old : List ℕ) → old ≡ stored_over s (slot_step k e) (Ok a) o j i old
-    stored_there e j i old = grind (arith, common_steps)
+    stored_there e j i old = grind arith
 
     seen_there : (e : SlotEvent) (j l i : ℕ) (old : List ℕ) → old ≡ seen_over s (slot_step k e) (Ok a) o j l i old
-    seen_there e j l i old = grind (arith, common_steps)
+    seen_there e j l i old = grind arith
 
 -- ---- a step
 
@@ -109,7 +109,7 @@ module _ (s : State) (k : ℕ) (e : SlotEvent) (a : Answer) (t : State) (size : 
   goes_on b c same e = same ∙ e
 
   map_meant : (p q : Spot) (i : ℕ) → KeptMap s.page_size (slot_at s k) e (slot_at t k) p q i → StillMapped s step (Ok a) t k p q i
-  map_meant p q i kept = grind (arith, common_steps)
+  map_meant p q i kept = grind arith
 
   slot_meant : SlotMeant s step (Ok a) t k
   slot_meant = record {
@@ -128,20 +128,20 @@ Idle s step reply =
     ((k j i : ℕ) (old : List ℕ) → old ≡ stored_over s step reply k j i old) × ((k j l i : ℕ) (old : List ℕ) → old ≡ seen_over s step reply k j l i old)
 
 idle_meant : (s : State) (step : Step) (reply : Reply) (t : State) → t.page_size ≡ s.page_size → t.slots ≡ s.slots → Idle s step reply → Meant s step reply t
-idle_meant s step reply t size slots idle k = grind (arith, common_steps, still_meant)
+idle_meant s step reply t size slots idle k = grind (arith, still_meant)
 
 table_idle : (s : State) (e : TableEvent) (reply : Reply) → Idle s (step_of (Tasks e)) reply
-table_idle s e reply = grind (arith, common_steps)
+table_idle s e reply = grind arith
 
 pool_idle : (s : State) (e : PoolEvent) (reply : Reply) → Idle s (step_of (OnPool e)) reply
-pool_idle s e reply = grind (arith, common_steps)
+pool_idle s e reply = grind arith
 
 -- ---- a step that ends maps of a task
 
 module _ (s : State) (step : Step) (reply : Reply) (t : State) (gone : ℕ) (fade : AllFade gone s t) (idle : Idle s step reply)
     (number : (k task no : ℕ) → is_ended_number s step reply k task no ≡ false → (gone == task) ≡ false) where
   fade_map : (k : ℕ) (p q : Spot) (i : ℕ) → KeptMap s.page_size (slot_at s k) (slot.ExitMaps gone) (slot_at t k) p q i → StillMapped s step reply t k p q i
-  fade_map k p q i kept = grind (arith, common_steps)
+  fade_map k p q i kept = grind arith
 
   fade_meant : Meant s step reply t
   fade_meant k = record {
@@ -187,7 +187,7 @@ module _ (s : State) (h : (k : ℕ) (c : Choice) (e : SlotEvent) → IsSound (sl
       let l = ltb-true k (length s.slots) is.1.0 in
       let ends = event_ends (KeepsSlot s.page_size (slot_at s k) e) s k e reply t (λ c. h k c e (left_sound s k l st)) is in
       subst (λ r. Meant s (slot_step k e) r t) (sym ends.replied) (outcome_meant k e t ends.outcome l ends.size ends.slots ends.holds)
-  event_meant e reply t whole is = grind (arith, common_steps, idle_meant, step_of, table_idle, pool_idle)
+  event_meant e reply t whole is = grind (arith, idle_meant, step_of, table_idle, pool_idle)
 
   pub step_meant : (reply : Reply) (t : State) (step : Step) → IsStep s step reply t → Meant s step reply t
   step_meant reply t step is =

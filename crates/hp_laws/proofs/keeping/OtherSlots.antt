@@ -1,6 +1,5 @@
 -- A step leaves every slot that it is not on as it was.
 use Rattle.std.proofs.Common.{arith}
-use Rattle.std.proofs.lemmas.Grind.{common_steps}
 use Rattle.std.proofs.Common.{◌≡◌, ℕ, true, false, None, List, refl, sym, ap, ◌∙◌}
 use Rattle.std.specs.List.{slice_index_or}
 use Rattle.std.proofs.lemmas.List.{get_or-set_other}
@@ -19,10 +18,10 @@ use Rattle.hp_laws.proofs.steps.Outcomes.{Always, event_ends}
 use Rattle.hp_laws.proofs.steps.Whole.{by_event, is_whole, slot_step, step_of}
 
 off_slot : (k o : ℕ) (e : SlotEvent) → is_whole (OnSlot k e) ≡ true → is_on (slot_step k e) o ≡ false → o ≡ k → ⊥
-off_slot k o e whole off same = grind (arith, common_steps)
+off_slot k o e whole off same = grind arith
 
 pub any_outcome : (p : Plan) → Always (λ o. Unit {0}) p
-any_outcome p = grind (arith, common_steps)
+any_outcome p = grind arith
 
 module _ (s : State) where
   abbrev Elsewhere : Step → State → Type 0

@@ -45,7 +45,7 @@ pub section_numbers : (p : Pool) (x : Section) → Numbers p (section p x)
 section_numbers p x = grind (arith, puts_are)
 
 all_give : (p : Plan) → Gives p
-all_give p = grind (arith, common_steps, section_numbers)
+all_give p = grind (arith, section_numbers)
 
 slot_setting : (s : State) (k : ℕ) (e : SlotEvent) (reply : Reply) (t : State) → IsEvent s (OnSlot k e) reply t → SameSetting s t
 slot_setting s k e reply t is = event_setting s k e reply t (λ c. all_give (slot_event s.page_size k c (slot_at s k) e)) is
@@ -87,13 +87,13 @@ module _ (s : State) where
   -- nothing is set
   unset : (x : Step) (reply : Reply) (t : State) → ((task : ℕ) → home_of s.table task ≡ home_after s x reply task) → nr_after s x reply ≡ s.nr → overcommit_after s x reply ≡ s.overcommit
       → TellsNr x reply t → SameSetting s t → IsSet s x reply t
-  unset x reply t homes nr overcommit told same = grind (arith, common_steps)
+  unset x reply t homes nr overcommit told same = grind arith
 
   -- a task is added, and the rest leaves the table
   one_added : (x : Step) (a : Answer) (new home : ℕ) (u t : State) → is_known s.table new ≡ false → u ≡ record s { table = added s.table new home } → SameSetting u t
       → ((task : ℕ) → (if new == task then Some home else home_of s.table task) ≡ home_after s x (Ok a) task) → nr_after s x (Ok a) ≡ s.nr → overcommit_after s x (Ok a) ≡ s.overcommit
       → TellsNr x (Ok a) t → IsSet s x (Ok a) t
-  one_added x a new home u t unknown made same homes nr overcommit told = grind (arith, common_steps, home_added)
+  one_added x a new home u t unknown made same homes nr overcommit told = grind (arith, home_added)
 
   connect_sets : (new home : ℕ) (reply : Reply) (t : State) → IsEvent s (Tasks (table.Add new home)) reply t → IsSet s (step.Connect new home) reply t
   connect_sets new home reply t is = by_tests (nat_le (length s.nodes) home) (is_known s.table new) refl (is_crowded s.table) reply t is.2
@@ -140,7 +140,7 @@ module _ (s : State) where
       by_home (Some home) known q mid e go = by_tests home known (is_known s.table child) refl (is_crowded s.table) q mid e go
 
   exit_sets : (gone : ℕ) (a : Answer) (t : State) → IsScripted s (step.Exit gone) (Ok a) t → IsSet s (step.Exit gone) (Ok a) t
-  exit_sets gone a t is = grind (arith, common_steps, exits_set, home_removed)
+  exit_sets gone a t is = grind (arith, exits_set, home_removed)
 
   -- what of the steps leaves all as it was
   record Unset (x : Step) (reply : Reply) : Type 0 where
@@ -150,23 +150,23 @@ module _ (s : State) where
     told : (t : State) → TellsNr x reply t
 
   refused_unset : (x : Step) (r : Refusal) → Unset x (Err r)
-  refused_unset x r = grind (arith, common_steps)
+  refused_unset x r = grind arith
 
   slot_unset : (k : ℕ) (e : SlotEvent) (reply : Reply) → is_whole (OnSlot k e) ≡ true → Unset (slot_step k e) reply
-  slot_unset k e reply whole = grind (arith, common_steps)
+  slot_unset k e reply whole = grind arith
 
   leaves : (x : Step) (reply : Reply) (t : State) → Unset x reply → SameSetting s t → IsSet s x reply t
   leaves x reply t un same = unset x reply t un.homes un.nr un.overcommit (un.told t) same
 
   limit_sets : (n : ℕ) (b : Bool) (reply : Reply) (t : State)
       → with_pool_reply s (if b then (Ok Done, record (pool_of s) { overcommit = n }) else (Err OutOfRange, pool_of s)) ≡ (reply, t) → IsSet s (step.Overcommit n) reply t
-  limit_sets n b reply t e = grind (arith, common_steps)
+  limit_sets n b reply t e = grind arith
 
   event_sets : (e : Event) (reply : Reply) (t : State) → is_whole e ≡ true → IsEvent s e reply t → IsSet s (step_of e) reply t
   event_sets (Tasks (table.Add new home)) reply t whole is = connect_sets new home reply t is
   event_sets (OnSlot k e) reply t whole is = leaves (slot_step k e) reply t (slot_unset k e reply whole) (slot_setting s k e reply t is)
   event_sets (OnPool (pool.Overcommit n)) reply t whole is = limit_sets n (nat_le n most_overcommit) reply t is.2
-  event_sets e reply t whole is = grind (arith, common_steps)
+  event_sets e reply t whole is = grind arith
 
   forked_sets : IsSettledState s → (parent child : ℕ) (reply : Reply) (t : State) → IsScripted s (step.Fork parent child) reply t → IsSet s (step.Fork parent child) reply t
   forked_sets st parent child (Ok a) t is = fork_sets parent child a t is

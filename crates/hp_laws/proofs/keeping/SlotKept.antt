@@ -1,6 +1,5 @@
 -- Each event that is answered keeps what names and numbers mean on its slot.
 use Rattle.std.proofs.Common.{arith}
-use Rattle.std.proofs.lemmas.Grind.{common_steps}
 use Rattle.std.proofs.Common.{◌≡◌, ⊎_elim, inl, inr, subst, ℕ, ◌+◌, true, None, Some, List, [], ◌∷◌, length, refl, sym, nat_le, ◌<◌, Option}
 use Rattle.hp_model.specs.declared.answer.Answer.TheVariants.{Done, MapNo}
 use Rattle.hp_model.specs.declared.event.SlotEvent.{SlotEvent}
@@ -42,7 +41,7 @@ use Rattle.hp_model.specs.pool.Grant.{is_full, rise}
 
 -- both of what holds whatever the pool answers
 pub always_both : (P Q R : Outcome → Type 0) → ((o : Outcome) → P o → Q o → R o) → (p : Plan) → Always P p → Always Q p → Always R p
-always_both P Q R h p p' q = grind (arith, common_steps)
+always_both P Q R h p p' q = grind arith
 
 module _ (size k : ℕ) (c : Choice) (m : Mount) where
   -- ---- names and numbers stay in place
@@ -50,7 +49,7 @@ module _ (size k : ℕ) (c : Choice) (m : Mount) where
   module _ (e : SlotEvent) (stores : (j x : ℕ) (old : List ℕ) → old ≡ stored_by size (Some m) e j x old) (sees : (j l x : ℕ) (old : List ℕ) → old ≡ seen_by size (Some m) e j l x old) where
     quiet_keeps : (o : Outcome) → Quiet size (Some m) o → On (Placed m) o → KeepsSlot size (Some m) e o
     quiet_keeps (Answered a (Some n)) quiet stays = grind (arith, by_place)
-    quiet_keeps o quiet stays = grind (arith, common_steps)
+    quiet_keeps o quiet stays = grind arith
 
   on_placed : (p : Plan) → Always (On (λ n. keys n ≡ keys m)) p → Always (On (Placed m)) p
   on_placed p all = placed_on c m p all
@@ -69,7 +68,7 @@ module _ (size k : ℕ) (c : Choice) (m : Mount) where
     -- an access by a fault, its tests passed
     fault_tested : (Q : Outcome → Type 0) → ((r : Refusal) → Q (Refused r)) → (intent : Intent) → (i < length s.file.cells → Always Q (access c size m s home i intent))
         → Always Q (fault c size m home i intent s)
-    fault_tested Q stops intent h = grind (arith, common_steps)
+    fault_tested Q stops intent h = grind arith
 
     same_quiet : (o : Outcome) → On (Same size m s at i) o → Quiet size (Some m) o
     same_quiet o on = grind arith
@@ -87,7 +86,7 @@ module _ (size k : ℕ) (c : Choice) (m : Mount) where
               (touched_seen size m sound s at i 0 [] n done p.file_no p.map_no x);
           marks = λ t u p e marked. touched_marks size m sound s at i 0 [] n done p.file_no p.map_no marked;
         })
-    touched sound o done same = grind (arith, common_steps)
+    touched sound o done same = grind arith
 
     fault_keeps : IsSoundMount m → (intent : Intent) → Always (KeepsSlot size (Some m) (slot.Fault task home number i intent)) (fault c size m home i intent s)
     fault_keeps sound Read =
@@ -111,7 +110,7 @@ module _ (size k : ℕ) (c : Choice) (m : Mount) where
     stored_keeps : (offset : ℕ) (bytes : List ℕ) (o : Outcome) → Stores size (Some m) (spot_on (Some m) task number) i offset bytes o → On (Placed m) o
         → KeepsSlot size (Some m) (slot.Store task home number i offset bytes) o
     stored_keeps offset bytes (Answered a (Some n)) stored stays = grind (arith, by_place)
-    stored_keeps offset bytes o stored stays = grind (arith, common_steps)
+    stored_keeps offset bytes o stored stays = grind arith
 
     store_keeps : IsSoundMount m → (offset : ℕ) (bytes : List ℕ) → Always (KeepsSlot size (Some m) (slot.Store task home number i offset bytes)) (store c size m home i offset bytes s)
     store_keeps sound offset bytes =
@@ -122,7 +121,7 @@ module _ (size k : ℕ) (c : Choice) (m : Mount) where
         (on_placed plan (store_stays c m s at size home i offset bytes))
 
   told_keeps : (e : SlotEvent) → tells_all e ≡ true → SlotKeeps size (Some m) e (Some m)
-  told_keeps e told = grind (arith, common_steps)
+  told_keeps e told = grind arith
 
   -- ---- the walk
 
@@ -183,10 +182,10 @@ module _ (size k : ℕ) (c : Choice) (m : Mount) where
       quiet_keeps (slot.Remount options) (λ j x old. refl) (λ j l x old. refl) (Answered Done (Some n)) (λ j x. refl, λ j l x. refl, λ j l. refl) (placed_same m n refl))) size options
 
   umount_keeps : Always (KeepsSlot size (Some m) slot.Umount) (gives Done (Some m) None)
-  umount_keeps = grind (arith, common_steps)
+  umount_keeps = grind arith
 
 open_keeps : (size : ℕ) (e : SlotEvent) (p : Plan) → Always (KeepsSlot size None e) p
-open_keeps size e p = grind (arith, common_steps)
+open_keeps size e p = grind arith
 
 pub slot_keeps : (size k : ℕ) (c : Choice) (old : Slot) (e : SlotEvent) → IsSound old → Always (KeepsSlot size old e) (slot_event size k c old e)
 slot_keeps size k c None e sound = open_keeps size e (slot_event size k c None e)

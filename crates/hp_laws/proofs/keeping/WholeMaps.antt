@@ -1,6 +1,5 @@
 -- An exit and a fork leave every map of other tasks as it was.
 use Rattle.std.proofs.Common.{arith}
-use Rattle.std.proofs.lemmas.Grind.{common_steps}
 use Rattle.std.proofs.Common.{◌≡◌, ℕ, true}
 use Rattle.hp_model.specs.declared.event.Event.{Event}
 use Rattle.hp_model.specs.declared.refusal.Refusal.{Refusal}
@@ -18,10 +17,10 @@ module _ (s : State) where
   all_whole gone t fade k task number p other found = (fade.slots k).whole task number p other found
 
   early_whole : (x : Step) (r : Refusal) → LeavesWhole s x s
-  early_whole x r = grind (arith, common_steps)
+  early_whole x r = grind arith
 
   event_whole : (e : Event) (reply : Reply) (t : State) → is_whole e ≡ true → IsEvent s e reply t → LeavesWhole s (step_of e) t
-  event_whole e reply t whole is = grind (arith, common_steps)
+  event_whole e reply t whole is = grind arith
 
   pub step_whole : (reply : Reply) (t : State) (x : Step) → IsStep s x reply t → LeavesWhole s x t
   step_whole reply t x is =

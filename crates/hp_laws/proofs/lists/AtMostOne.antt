@@ -1,5 +1,4 @@
 -- At most one element of a list passes a test: by the count, and by places.
-use Rattle.std.proofs.lemmas.Grind.{common_steps}
 use Rattle.std.proofs.Common.{◌≡◌, ℕ, zero, suc, ◌<◌, ◌≤◌, Bool, true, false, List, [], ◌∷◌, length, get_or, cond, arith, refl, ap}
 use Rattle.std.specs.List.{count_by}
 use Rattle.std.proofs.lemmas.Bool.{false_from_ne_true}
@@ -34,6 +33,6 @@ module _ {X : Type 0} (p : X → Bool) (d : X) where
 
   pub single : (xs : List X) → count_by p xs ≤ 1 → (j k : ℕ) → j < length xs → k < length xs → p (get_or xs j d) ≡ true → p (get_or xs k d) ≡ true → j ≡ k
   single [] few j k lj lk a b = absurd (omega (arith, lj))
-  single (x ∷ xs) few zero (suc k) lj lk a b = grind (arith, common_steps, some_counted, count_cons)
+  single (x ∷ xs) few zero (suc k) lj lk a b = grind (arith, some_counted, count_cons)
   single (x ∷ xs) few (suc j) (suc k) lj lk a b = ap suc (single xs (let cons = count_cons p x xs in omega (arith, cons, few)) j k (omega (arith, lj)) (omega (arith, lk)) a b)
-  single (x ∷ xs) few j zero lj lk a b = grind (arith, common_steps, some_counted, count_cons)
+  single (x ∷ xs) few j zero lj lk a b = grind (arith, some_counted, count_cons)

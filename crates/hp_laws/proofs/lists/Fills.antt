@@ -1,5 +1,4 @@
 -- Cells whose indices of a range get pages, each the lowest without one.
-use Rattle.std.proofs.lemmas.Grind.{common_steps}
 use Rattle.std.proofs.Common.{◌≡◌, ⊎_elim, inl, inr, ◌⊎◌, ℕ, zero, suc, ◌+◌, ◌-◌, ◌<◌, ◌≤◌, Bool, true, false, not, ◌==◌}
 use Rattle.std.proofs.Common.{List, [], ◌∷◌, length, take, drop, refl, sym, ap, ◌∙◌, cond, arith, subst}
 use Rattle.std.specs.List.{All, count_by, position_or_len, slice_set}
@@ -24,20 +23,20 @@ no_page : (c : Cell Page) → lacks_page c ≡ true → has_page c ≡ false
 no_page c lacks = not-true (has_page c) lacks
 
 none_at : (n : ℕ) (c : Cell Page) → has_page c ≡ false → is_page_at n c ≡ false
-none_at n c none = grind (arith, common_steps)
+none_at n c none = grind arith
 
 entered_or_hole : (c : Cell Page) → bit (is_entered c) + bit (is_hole c) ≡ 1
-entered_or_hole c = grind (arith, common_steps)
+entered_or_hole c = grind arith
 
 hole_lacks : (c : Cell Page) → bit (is_hole c) ≤ bit (lacks_page c)
-hole_lacks c = grind (arith, common_steps)
+hole_lacks c = grind arith
 
 pub holes_lack : (xs : List (Cell Page)) → count_by is_hole xs ≤ count_by lacks_page xs
 holes_lack [] = omega arith
 holes_lack (x ∷ xs) = omega (arith, count_cons is_hole x xs, count_cons lacks_page x xs, hole_lacks x, holes_lack xs)
 
 entry_kind : (c : Cell Page) → bit (is_entered c) ≡ bit (has_page c) + bit (is_waiting c)
-entry_kind c = grind (arith, common_steps)
+entry_kind c = grind arith
 
 -- an entry has a page, or waits for one
 pub entries_are : (xs : List (Cell Page)) → count_by is_entered xs ≡ count_by has_page xs + count_by is_waiting xs
@@ -73,7 +72,7 @@ module _ (a b : ℕ) where
     pub lacks : has_page (cell_in xs i) ≡ false
 
   next_is : (xs : List (Cell Page)) → 1 ≤ bare xs → IsNext xs (next_bare a xs)
-  next_is xs some = grind (arith, common_steps, first_before, length-drop, no_page, get_or-drop, passes_at_first)
+  next_is xs some = grind (arith, first_before, length-drop, no_page, get_or-drop, passes_at_first)
 
   -- a count over the range, where a cell of it changes
   part_set : (t : Cell Page → Bool) (xs : List (Cell Page)) (j : ℕ) (c : Cell Page) → j < b - a → a + j < length xs
@@ -89,7 +88,7 @@ module _ (a b : ℕ) where
     pub each : (n : ℕ) → count_by (is_page_at n) ys ≡ count_by (is_page_at n) xs + bit (p.node == n)
 
   step : (xs : List (Cell Page)) (p : Page) → 1 ≤ bare xs → Step xs (slice_set xs (next_bare a xs) (Present p)) p
-  step xs p some = grind (arith, common_steps, next_is, sum_by-set, bit, part_set, entered_or_hole, length-set, none_at)
+  step xs p some = grind (arith, next_is, sum_by-set, bit, part_set, entered_or_hole, length-set, none_at)
 
   -- so many pages, one after another
   pub record Fill (xs ys : List (Cell Page)) (ps : List Page) : Type 0 where

@@ -37,14 +37,14 @@ get_map h d e xs j = grind (arith, common_steps)
 module _ {X Y : Type 0} (g : X → Y) (d : X) where
   -- one element is another, which looks the same
   pub same_put : (xs : List X) (k : ℕ) (y : X) → k < length xs → g y ≡ g (get_or xs k d) → (j : ℕ) → g (get_or (set xs k y) j d) ≡ g (get_or xs j d)
-  same_put xs k y l e j = grind (arith, common_steps, cases_eq, get_or-set_same, get_or-set_other)
+  same_put xs k y l e j = grind (arith, cases_eq, get_or-set_same, get_or-set_other)
 
   -- elements more that look like none
   pub same_more : (xs ys : List X) → ((j : ℕ) → g (get_or ys j d) ≡ g d) → (j : ℕ) → g (get_or (xs ++ ys) j d) ≡ g (get_or xs j d)
   same_more xs ys h j = grind (arith, common_steps)
 
   pub same_one : (x : X) → g x ≡ g d → (j : ℕ) → g (get_or (x ∷ []) j d) ≡ g d
-  same_one x e j = grind (arith, common_steps)
+  same_one x e j = grind arith
 
   pub same_none : (n j : ℕ) → g (get_or (replicate n d) j d) ≡ g d
   same_none n j = grind (arith, common_steps)
@@ -59,7 +59,7 @@ pub edit_other : {X : Type 0} (f : X → X) (d : X) (xs : List X) (k j : ℕ) �
 edit_other f d [] k j other = refl
 edit_other f d (x ∷ xs) zero (suc j) other = refl
 edit_other f d (x ∷ xs) (suc k) (suc j) other = edit_other f d xs k j (λ same. other (ap suc same))
-edit_other f d (x ∷ xs) k zero other = grind (arith, common_steps)
+edit_other f d (x ∷ xs) k zero other = grind arith
 
 pub edit_here : {X : Type 0} (f : X → X) (d : X) → f d ≡ d → (xs : List X) (k : ℕ) → get_or (edit_at f xs k) k d ≡ f (get_or xs k d)
 edit_here f d e [] k = sym e
@@ -81,4 +81,4 @@ pub same_edit : {X Y : Type 0} (g : X → Y) (d : X) (f : X → X) → ((x : X) 
 same_edit g d f h [] k j = refl
 same_edit g d f h (x ∷ xs) zero (suc j) = refl
 same_edit g d f h (x ∷ xs) (suc k) (suc j) = same_edit g d f h xs k j
-same_edit g d f h (x ∷ xs) k zero = grind (arith, common_steps)
+same_edit g d f h (x ∷ xs) k zero = grind arith

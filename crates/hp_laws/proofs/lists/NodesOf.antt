@@ -15,7 +15,7 @@ abbrev pub count_of : ℕ → List ℕ → ℕ
 count_of n nodes = count_by (λ k. k == n) nodes
 
 pub length-nodes_of : (n : ℕ) (counts : List ℕ) → length (rising_nodes n counts) ≡ n
-length-nodes_of n counts = grind (arith, common_steps, length-append, length-replicate, length-take)
+length-nodes_of n counts = grind (arith, length-append, length-replicate, length-take)
 
 length-nodes_from : (node : ℕ) (counts : List ℕ) → length (nodes_from node counts) ≡ sum counts
 length-nodes_from node [] = refl

@@ -61,7 +61,7 @@ in_file test None = None
 in_file test (Some f) = option_map (spot_in f) (found test f.1.maps)
 
 pub spot_in_file : (m : Mount) (test : Map → Bool) → spot m test ≡ in_file test (found (λ (f : File). list_any test f.maps) m.files)
-spot_in_file m test = grind (arith, common_steps)
+spot_in_file m test = grind arith
 
 pub spot_none : (m : Mount) (test : Map → Bool) → found (λ (f : File). list_any test f.maps) m.files ≡ None → spot m test ≡ None
 spot_none m test e = spot_in_file m test ∙ ap (in_file test) e
@@ -216,7 +216,7 @@ FileMade old name (Answered a new) = IsNewFile old new name
 
 -- a file of the name is not there, and is found once it is made
 pub named_none : {X : Type 0} (o : Option X) → is_some o ≡ false → o ≡ None
-named_none o e = grind (arith, common_steps)
+named_none o e = grind arith
 
 pub found_none : {X : Type 0} (t : X → Bool) (xs : List X) → found t xs ≡ None → list_any t xs ≡ false
 found_none t [] e = refl
@@ -225,7 +225,7 @@ found_none {X = X} t (x ∷ xs) e = by_head (t x) refl (found t xs) refl e (foun
     by_head : (b : Bool) → t x ≡ b → (r : Option (ℕ × X)) → found t xs ≡ r → (if b then Some (0, x) else option_map one_on r) ≡ None →
         (found t xs ≡ None → list_any t xs ≡ false) → list_any t (x ∷ xs) ≡ false
     by_head true is r was e rest = cc
-    by_head b is r was e rest = grind (arith, common_steps)
+    by_head b is r was e rest = grind arith
 
 create_made : (size k : ℕ) (c : Choice) (old : Slot) (name : List ℕ) → Always (FileMade old name) (slot_event size k c old (slot.Create name))
 create_made size k c None name = tt
@@ -244,7 +244,7 @@ create_made size k c (Some m) name =
 module _ (s : State) where
   -- a refusal makes nothing
   makes_none : (t : State) (step : Step) (r : Refusal) → Makes s step (Err r) t
-  makes_none t step r = grind (arith, common_steps)
+  makes_none t step r = grind arith
 
   module _ (t : State) (k : ℕ) (l : k < length s.slots) where
     file_makes : (name : List ℕ) (o : Outcome) → FileMade (slot_at s k) name o → t.slots ≡ slice_set s.slots k (left_by (slot_at s k) o) → Makes s (CreateStep k name) (reply_of o) t
@@ -279,7 +279,7 @@ module _ (s : State) where
       let ends = event_ends (AnonMade (slot_at s k) task n sharing reserving) s k e reply t (λ c. anon_made s.page_size k c (slot_at s k) task home n sharing reserving) is in
       subst (λ x. Makes s (AnonStep task n sharing reserving) x t) (sym ends.replied)
       (anon_makes t k (ltb-true k (length s.slots) is.1.0) task n sharing reserving ends.outcome (eqb-true k 0 whole) ends.holds ends.slots)
-  event_makes e reply t whole is = grind (arith, common_steps)
+  event_makes e reply t whole is = grind arith
 
   pub step_makes : (reply : Reply) (t : State) (step : Step) → IsStep s step reply t → Makes s step reply t
   step_makes reply t step is = by_event s (λ step reply t. Makes s step reply t) (λ step r early. makes_none s step r) event_makes

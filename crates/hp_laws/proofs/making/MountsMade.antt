@@ -36,7 +36,7 @@ Made l (Refused r) = Unit {0}
 Made l (Answered a new) = IsMountedWith None new l
 
 mount_made : (c : Choice) (a : PoolAnswer) (l : ResultOf Limits Refusal) → Made l (mount_outcome c a l)
-mount_made c a l = grind (arith, common_steps)
+mount_made c a l = grind arith
 
 module _ (s : State) (k : ℕ) (options : List ℕ) (within : k < length s.slots) where
   abbrev wanted : ResultOf Limits Refusal
@@ -62,7 +62,7 @@ Remade m l (Refused r) = Unit {0}
 Remade m l (Answered a new) = IsRemountedWith (Some m) new l
 
 remount_made : (m : Mount) (first : Bool) (a : PoolAnswer) (l : ResultOf Limits Refusal) → Remade m l (if first then Refused SlotTaken else remount_outcome m a l)
-remount_made m first a l = grind (arith, common_steps)
+remount_made m first a l = grind arith
 
 module _ (s : State) (k : ℕ) (options : List ℕ) (reply : Reply) (t : State) (is : IsEvent s (OnSlot k (slot.Remount options)) reply t) where
   abbrev limited : ResultOf Limits Refusal
@@ -86,10 +86,10 @@ module _ (s : State) (k : ℕ) (options : List ℕ) (reply : Reply) (t : State) 
 
 module _ (s : State) where
   event_mounted : (e : Event) (reply : Reply) (t : State) → is_whole e ≡ true → IsEvent s e reply t → Mounts s (step_of e) reply t
-  event_mounted e reply t whole is = grind (arith, common_steps, by_old, ltb-true, remount_mounted)
+  event_mounted e reply t whole is = grind (arith, by_old, ltb-true, remount_mounted)
 
   early_mounted : (x : Step) (r : Refusal) → Mounts s x (Err r) s
-  early_mounted x r = grind (arith, common_steps)
+  early_mounted x r = grind arith
 
   pub step_mounted : (reply : Reply) (t : State) (x : Step) → IsStep s x reply t → Mounts s x reply t
   step_mounted reply t x is =

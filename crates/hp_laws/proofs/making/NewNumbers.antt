@@ -1,5 +1,4 @@
 -- The number of a new map is one that its task doesn't use, and where such a map is found.
-use Rattle.std.proofs.lemmas.Grind.{common_steps}
 use Rattle.std.proofs.Common.{◌≡◌, ⊎_elim, inl, inr, ◌⊎◌, subst, ℕ, zero, suc, ◌+◌, ◌<◌, ◌≤◌, ◌||◌, ◌==◌, Bool, true}
 use Rattle.std.proofs.Common.{false, None, Option, Some, List, [], ◌∷◌, ◌++◌, length, option_map, add-one, not, refl, ap, arith, if◌then◌else◌}
 use Rattle.std.specs.List.{list_any, position_or_len, range_with_len, slice_set}
@@ -37,13 +36,13 @@ first_or_none t a (suc k) = by_test (t a) refl (first_or_none t (a + 1) k)
   where
     by_test : (b : Bool) → t a ≡ b → FirstOrNone t (a + 1) (range_with_len (a + 1) k) → FirstOrNone t a (range_with_len a (suc k))
     by_test true is rest = inl (rw is (subst (λ x. t x ≡ true) {x = a} {y = a + 0} (omega arith) is))
-    by_test b is other = grind (arith, common_steps, eqb-true, or_cases)
+    by_test b is other = grind (arith, eqb-true, or_cases)
 
 not_not : (b : Bool) → not b ≡ true → b ≡ false
-not_not b e = grind (arith, common_steps)
+not_not b e = grind arith
 
 not_false : (b : Bool) → not b ≡ false → b ≡ true
-not_false b e = grind (arith, common_steps)
+not_false b e = grind arith
 
 pub least_is_unused : (xs : List ℕ) → is_among (least_unused xs) xs ≡ false
 least_is_unused xs =
@@ -66,10 +65,10 @@ number_used task n (m ∷ ms) = by_task (m.task == task) refl (number_used task 
 
 -- where none passes, the first does not, and none of the others
 none_first : (a b : Bool) → (a || b) ≡ false → a ≡ false
-none_first a b e = grind (arith, common_steps)
+none_first a b e = grind arith
 
 none_later : (a b : Bool) → (a || b) ≡ false → b ≡ false
-none_later a b e = grind (arith, common_steps)
+none_later a b e = grind arith
 
 module _ {X : Type 0} (t : X → Bool) where
   pub found_not : (xs : List X) → list_any t xs ≡ false → found t xs ≡ None
@@ -92,7 +91,7 @@ module _ {X : Type 0} (t : X → Bool) where
   -- the one that was found is put again, and still passes
   again_step : (x : X) (xs : List X) (q : ℕ × X) (y : X) → ((p : ℕ × X) → found t xs ≡ Some p → found t (slice_set xs p.0 y) ≡ Some (p.0, y)) → t y ≡ true
       → (b : Bool) → t x ≡ b → (r : Option (ℕ × X)) → found t xs ≡ r → (if b then Some (0, x) else option_map one_on r) ≡ Some q → found t (slice_set (x ∷ xs) q.0 y) ≡ Some (q.0, y)
-  again_step x xs q y rest is true here r was e = grind (arith, common_steps)
+  again_step x xs q y rest is true here r was e = grind arith
   again_step x xs q y rest is false here None was e = cc
   again_step x xs q y rest is false here (Some p) was e =
       subst (λ (p : ℕ × X). found t (slice_set (x ∷ xs) p.0 y) ≡ Some (p.0, y)) (let same : (p.0 + 1, p.1) ≡ q = cc in same)

@@ -62,21 +62,21 @@ no_more made new x = record { held = λ e. e; names = λ name off is. is; number
 -- where more may be made
 pub more_made : (made made_too : List ℕ → Bool) (new new_too : ℕ → ℕ → Bool) (x y : Slot) → ((name : List ℕ) → made_too name ≡ false → made name ≡ false)
     → ((task number : ℕ) → new_too task number ≡ false → new task number ≡ false) → NoMore made new x y → NoMore made_too new_too x y
-more_made made made_too new new_too x y a b h = grind (arith, common_steps)
+more_made made made_too new new_too x y a b h = grind arith
 
 pub no_more_then : (made : List ℕ → Bool) (new : ℕ → ℕ → Bool) (x y z : Slot) → NoMore made new x y → NoMore made new y z → NoMore made new x z
-no_more_then made new x y z a b = grind (arith, common_steps)
+no_more_then made new x y z a b = grind arith
 
 -- ---- what is found nowhere
 
 pub name_absent : (name : List ℕ) (x : Slot) → named_on x name ≡ None → any_file (has_name name) x ≡ false
-name_absent name x e = grind (arith, common_steps, found_none)
+name_absent name x e = grind (arith, found_none)
 
 pub name_none : (name : List ℕ) (x : Slot) → any_file (has_name name) x ≡ false → named_on x name ≡ None
-name_none name x e = grind (arith, common_steps, found_not)
+name_none name x e = grind (arith, found_not)
 
 pub number_none : (task number : ℕ) (x : Slot) → any_file (has_map task number) x ≡ false → spot_on x task number ≡ None
-number_none task number x e = grind (arith, common_steps, spot_none, found_not)
+number_none task number x e = grind (arith, spot_none, found_not)
 
 pub number_absent : (task number : ℕ) (x : Slot) → spot_on x task number ≡ None → any_file (has_map task number) x ≡ false
 number_absent task number x e = grind (arith, spot_in_file, found_none, in_file, found_place)
@@ -92,10 +92,10 @@ any_keyed t key [] = refl
 any_keyed t key (x ∷ xs) = ap (λ b. t (key x) || b) (any_keyed t key xs)
 
 same_all : {X : Type 0} (t u : X → Bool) → ((x : X) → t x ≡ u x) → (xs : List X) → list_all t xs ≡ list_all u xs
-same_all t u h xs = grind (arith, common_steps)
+same_all t u h xs = grind arith
 
 same_any : {X : Type 0} (t u : X → Bool) → ((x : X) → t x ≡ u x) → (xs : List X) → list_any t xs ≡ list_any u xs
-same_any t u h xs = grind (arith, common_steps)
+same_any t u h xs = grind arith
 
 abbrev kept_key : FileKey → Bool
 kept_key k = is_some k.0 || nat_lt 0 (length k.1)
@@ -156,11 +156,11 @@ module _ (made : List ℕ → Bool) (new : ℕ → ℕ → Bool) (m : Mount) whe
   }
 
   all_fewer : (h : File → File) → ((f : File) → FileFewer new f (h f)) → Fewer new m (record m { files = map h m.files })
-  all_fewer h each = grind (arith, common_steps, any_map_down)
+  all_fewer h each = grind (arith, any_map_down)
 
   -- what is left of it when files without a name and without maps are gone
   swept_fewer : (n : Mount) → Fewer new m n → NoMore made new (Some m) (Some (swept n))
-  swept_fewer n fewer = grind (arith, common_steps, all_filter, any_filter)
+  swept_fewer n fewer = grind (arith, all_filter, any_filter)
 
   -- a map more
   more_fewer : (f : File) (cells : List (Cell Page)) (x : Map) → ((task number : ℕ) → new task number ≡ false → is_map task number x ≡ false)
@@ -193,10 +193,10 @@ module _ (new : ℕ → ℕ → Bool) where
   unlinked_fewer f = record { names = λ name is. cc; numbers = λ task number off is. is }
 
   truncated_fewer : (n : ℕ) (f : File) → FileFewer new f (truncated n f)
-  truncated_fewer n f = grind (arith, common_steps, any_map_down)
+  truncated_fewer n f = grind (arith, any_map_down)
 
   punched_fewer : (a b : ℕ) (f : File) → FileFewer new f (punched a b f)
-  punched_fewer a b f = grind (arith, common_steps, any_map_down)
+  punched_fewer a b f = grind (arith, any_map_down)
 
   unmapped_fewer : (t : Map → Bool) (a b : ℕ) (f : File) → FileFewer new f (file_unmapped t a b f)
   unmapped_fewer t a b f = grind (arith, any_map_down, cond_both, any_filter)
@@ -211,7 +211,7 @@ module _ (new : ℕ → ℕ → Bool) where
       (or_cases (is_map task number (map_for child x)) (list_any (is_map task number) (map (map_for child) xs)) e)
 
   forked_fewer : (parent child : ℕ) → ((task number : ℕ) → new task number ≡ false → (child == task) ≡ false) → (f : File) → FileFewer new f (file_forked parent child f)
-  forked_fewer parent child own f = grind (arith, common_steps, any_filter, is_child, or_cases, any_append)
+  forked_fewer parent child own f = grind (arith, any_filter, is_child, or_cases, any_append)
 
 -- a slot that a task's maps left
 pub without_more : (made : List ℕ → Bool) (new : ℕ → ℕ → Bool) (gone : ℕ) (x : Slot) → NoMore made new x (option_map (without_task gone) x)
@@ -239,7 +239,7 @@ MakesNo e x (Answered a y) = NoMore (made_by e) (new_by e a) x y
 
 module _ (size k : ℕ) (c : Choice) (m : Mount) where
   by_keys : (e : SlotEvent) (o : Outcome) → On (λ n. keys n ≡ keys m) o → MakesNo e (Some m) o
-  by_keys e o on = grind (arith, common_steps, same_keys)
+  by_keys e o on = grind (arith, same_keys)
 
   none_more : (made : List ℕ → Bool) (new : ℕ → ℕ → Bool) → NoMore made new (Some m) None
   none_more made new = record { held = λ e. refl; names = λ name off is. cc; numbers = λ task number off is. cc }

@@ -58,4 +58,4 @@ module _ (s : State) (k : ℕ) (options : List ℕ) (m : Mount) where
 
   -- it grants what the pool can commit; and giving back is never refused
   pub told_granted : (l : Limits) → wanted ≡ Ok l → remount_told.granted ≡ false → can_grant (committed_with m l.min - committed_of m) (pool_of s) ≡ false
-  told_granted l is = grind (arith, common_steps)
+  told_granted l is = grind arith

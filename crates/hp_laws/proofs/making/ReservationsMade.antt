@@ -45,7 +45,7 @@ use Rattle.hp_laws.proofs.steps.Whole.{by_event, is_whole, step_of}
 -- ---- the range of a new map
 
 is_in_entered : (c : Cell Page) → is_entered (entered c) ≡ true
-is_in_entered c = grind (arith, common_steps)
+is_in_entered c = grind arith
 
 abbrev fresh : Place Copy
 fresh = Live false None
@@ -67,7 +67,7 @@ module _ (task number a n : ℕ) where
 
   pub new_range : (sharing : Sharing) (reserving : Reserving) (f : File) (s : Spot) → s.map ≡ new_map task number a n sharing reserving
       → s.file ≡ mapped task number a n sharing reserving f → IsRange s (length f.cells) a n reserving
-  new_range sharing reserving f s map file = grind (arith, common_steps, cells_long, range_there)
+  new_range sharing reserving f s map file = grind (arith, cells_long, range_there)
 
 -- ---- the file of a new map
 
@@ -96,7 +96,7 @@ file_mapped size k c (Some m) task home name a n sharing reserving =
 map_range : (old new : Slot) (name : List ℕ) (task number a n : ℕ) (sharing : Sharing) (reserving : Reserving)
     → IsMapped old new name task number a n sharing reserving → IsNewMap old new name (new_map task number a n sharing reserving)
     → HasRange (spot_on new task number) (pages_of_file (named_on old name)) a n reserving
-map_range old new name task number a n sharing reserving file made = grind (arith, common_steps, new_range)
+map_range old new name task number a n sharing reserving file made = grind (arith, new_range)
 
 anon_range : (old new : Slot) (task number n : ℕ) (sharing : Sharing) (reserving : Reserving)
     → IsNewAnon old new task number n sharing reserving → HasRange (spot_on new task number) 0 0 n reserving
@@ -113,7 +113,7 @@ MapsFile s step reply t = Unit {0}
 
 module _ (s : State) where
   maps_none : (t : State) (step : Step) (r : Refusal) → MapsFile s step (Err r) t
-  maps_none t step r = grind (arith, common_steps)
+  maps_none t step r = grind arith
 
   file_maps : (t : State) (k : ℕ) (l : k < length s.slots) (task : ℕ) (name : List ℕ) (a n : ℕ) (sharing : Sharing) (reserving : Reserving) (o : Outcome)
       → FileMapped (slot_at s k) name task a n sharing reserving o → t.slots ≡ slice_set s.slots k (left_by (slot_at s k) o)
@@ -126,7 +126,7 @@ module _ (s : State) where
       let ends = event_ends (FileMapped (slot_at s k) name task a n sharing reserving) s k e reply t (λ c. file_mapped s.page_size k c (slot_at s k) task home name a n sharing reserving) is in
       subst (λ x. MapsFile s (MapStep task k name a n sharing reserving) x t) (sym ends.replied)
       (file_maps t k (ltb-true k (length s.slots) is.1.0) task name a n sharing reserving ends.outcome ends.holds ends.slots)
-  event_maps e reply t whole is = grind (arith, common_steps)
+  event_maps e reply t whole is = grind arith
 
   step_maps : (reply : Reply) (t : State) (step : Step) → IsStep s step reply t → MapsFile s step reply t
   step_maps reply t step is = by_event s (λ step reply t. MapsFile s step reply t) (λ step r early. maps_none s step r) event_maps
@@ -136,7 +136,7 @@ module _ (s : State) where
   both_range (Ok (MapNo number)) t (MapStep task k name a n sharing reserving) file made =
       map_range (slot_at s k) (slot_at t k) name task number a n sharing reserving file made
   both_range (Ok (MapNo number)) t (AnonStep task n sharing reserving) file made = anon_range (slot_at s 0) (slot_at t 0) task number n sharing reserving made
-  both_range reply t step file made = grind (arith, common_steps)
+  both_range reply t step file made = grind arith
 
   pub step_ranges : (reply : Reply) (t : State) (step : Step) → IsStep s step reply t → Ranges s step reply t
   step_ranges reply t step is = both_range reply t step (step_maps reply t step is) (step_makes s reply t step is)

@@ -59,32 +59,32 @@ pub get_mapped : {X : Type 0} (f : X → X) (xs : List X) (k : ℕ) (d : X) → 
 get_mapped f xs k d l = grind (arith, common_steps)
 
 back_put : (f : File) (k stamp : ℕ) (x : Map) → IsMapAt f k x → file_key (with_map (record f { maps = map (robbed stamp) f.maps }) k x) ≡ file_key f
-back_put f k stamp x at = grind (arith, common_steps, key_set, get_mapped, robbed_key, key_map)
+back_put f k stamp x at = grind (arith, key_set, get_mapped, robbed_key, key_map)
 
 -- ---- accesses
 
 module _ (c : Choice) (m : Mount) (Q : Mount → Type 0) (own : Q m) (s : Spot) (at : IsSpot m s) (put : (f : File) → file_key f ≡ file_key s.file → Q (with_file m s.file_no f)) (size home i : ℕ) where
   shared_on : (cell : Cell Page) → Always (On Q) (shared_access c size m s home i cell)
-  shared_on cell = grind (arith, common_steps)
+  shared_on cell = grind arith
 
   -- the map with a copy there
   copied_on : (consumed : Bool) (copy : Copy) → On Q (copied m s i consumed copy)
   copied_on consumed copy = grind (arith, common_steps, map_put, pages_same, length-set)
 
   new_on : (consumed : Bool) → Always (On Q) (new_copy c size m s home i consumed)
-  new_on consumed = grind (arith, common_steps, always_if, On, on_reserved_page, copied_on, on_grant_page)
+  new_on consumed = grind (arith, always_if, On, on_reserved_page, copied_on, on_grant_page)
 
   uncopied_on : (consumed : Bool) (intent : Intent) → Always (On Q) (uncopied_access c size m s home i consumed intent)
   uncopied_on consumed intent = grind (arith, new_on, always_if, On)
 
   write_on : (consumed : Bool) (copy : Copy) → Always (On Q) (copy_write c m s home i consumed copy)
-  write_on consumed copy = grind (arith, common_steps, On, back_put, always_if, outcome_if, copied_on, on_grant_page)
+  write_on consumed copy = grind (arith, On, back_put, always_if, outcome_if, copied_on, on_grant_page)
 
   private_on : (p : Place Copy) (intent : Intent) → Always (On Q) (private_access c size m s home i p intent)
-  private_on p intent = grind (arith, common_steps, write_on, always_if, On, uncopied_on)
+  private_on p intent = grind (arith, write_on, always_if, On, uncopied_on)
 
   pub access_on : (intent : Intent) → Always (On Q) (access c size m s home i intent)
-  access_on intent = grind (arith, common_steps, always_if, On, shared_on, private_on)
+  access_on intent = grind (arith, always_if, On, shared_on, private_on)
 
   pub bytes_on : (offset count : ℕ) (intent : Intent) → Always (On Q) (byte_access c size m home i offset count intent s)
-  bytes_on offset count intent = grind (arith, common_steps, always_unless, On, access_on)
+  bytes_on offset count intent = grind (arith, always_unless, On, access_on)

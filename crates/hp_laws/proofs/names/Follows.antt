@@ -39,7 +39,7 @@ module _ {X : Type 0} (keep : X → Bool) where
       → ((p : ℕ × X) → found t xs ≡ Some p → keep p.1 ≡ true → found t (filter keep xs) ≡ Some (rank keep xs p.0, p.1)) → keep q.1 ≡ true
       → (b : Bool) → t x ≡ b → (r : Option (ℕ × X)) → found t xs ≡ r → (if b then Some (0, x) else option_map one_on r) ≡ Some q
       → found t (filter keep (x ∷ xs)) ≡ Some (rank keep (x ∷ xs) q.0, q.1)
-  found_head t x xs q rest stays b is r was e = grind (arith, common_steps)
+  found_head t x xs q rest stays b is r was e = grind arith
 
   -- what is found and stays is found still
   pub found_filter : (t : X → Bool) (xs : List X) (q : ℕ × X) → found t xs ≡ Some q → keep q.1 ≡ true → found t (filter keep xs) ≡ Some (rank keep xs q.0, q.1)
@@ -89,7 +89,7 @@ pub record Follows (m n : Mount) (ok : Map → Bool) : Type 0 where
   pub apart : (a b : ℕ × ℕ) (q o : Spot) → spot m (is_map a.0 a.1) ≡ Some q → spot m (is_map b.0 b.1) ≡ Some o → (to q.file_no == to o.file_no) ≡ (q.file_no == o.file_no)
 
 pub both_same : (together : Bool) (x y : Option Spot) → SameFiles together x y → (p : Spot) (o : Spot) → x ≡ Some p → y ≡ Some o → (p.file_no == o.file_no) ≡ together
-both_same together x y same p o e w = grind (arith, common_steps)
+both_same together x y same p o e w = grind arith
 
 -- what an event keeps up to m it keeps up to n
 module _ (size : ℕ) (x : Slot) (e : SlotEvent) (m n : Mount) (ok : Map → Bool) (follows : Follows m n ok) (keeps : SlotKeeps size x e (Some m))
@@ -137,7 +137,7 @@ longer : {X : Type 0} (t : X → Bool) (xs : List X) → list_any t xs ≡ true 
 longer t xs e = grind (arith, common_steps)
 
 pub is_open : (name : List ℕ) (f : File) → has_name name f ≡ true → is_kept f ≡ true
-is_open name f e = grind (arith, common_steps)
+is_open name f e = grind arith
 
 module _ (m : Mount) where
   has_maps : (test : Map → Bool) (f : File) → list_any test f.maps ≡ true → is_kept f ≡ true
@@ -151,7 +151,7 @@ module _ (m : Mount) where
   -- what is found in the file, there or elsewhere
   pub some_file : (test : Map → Bool) (o : Option (ℕ × File)) (q : Spot) → in_file test o ≡ Some q →
       (f : ℕ × File) × (o ≡ Some f) × ((p : ℕ × Map) × (found test f.1.maps ≡ Some p) × (spot_in f p ≡ q))
-  some_file test o q e = grind (arith, common_steps)
+  some_file test o q e = grind arith
 
   pub sweep_follows : Follows m (swept m) (λ y. true)
   sweep_follows = record {
@@ -195,7 +195,7 @@ found_fewer {X = X} t u less (x ∷ xs) q e passes = by_head (t x) refl (found t
         → (if b then Some (0, x) else option_map one_on r) ≡ Some q → found u (x ∷ xs) ≡ Some q
     by_head true is r was rest e =
         let same : (0, x) ≡ q = cc in subst (λ (p : ℕ × X). found u (x ∷ xs) ≡ Some p) same (rw (subst (λ (p : ℕ × X). u p.1 ≡ true) (sym same) passes) refl)
-    by_head b is r was rest e = grind (arith, common_steps, not_first)
+    by_head b is r was rest e = grind (arith, not_first)
 
 -- each file has its name and cells, and a map that passes is found in it still
 pub record FilesFollow (h : File → File) (ok : Map → Bool) : Type 0 where
@@ -214,7 +214,7 @@ module _ (m : Mount) (h : File → File) (ok : Map → Bool) (each : FilesFollow
   same_named name f = ap (λ (o : Option (List ℕ)). elim o [ None ↦ false | Some n ↦ bytes_eq n name ]) (each.names f)
 
   name_stays : (name : List ℕ) (g : ℕ × File) → file_named m name ≡ Some g → file_named after name ≡ Some (g.0, h g.1)
-  name_stays name g e = grind (arith, common_steps, found_mapped, keyed, found_same, same_named)
+  name_stays name g e = grind (arith, found_mapped, keyed, found_same, same_named)
 
   pub edit_follows : Follows m after ok
   edit_follows = record {

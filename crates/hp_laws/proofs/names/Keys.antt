@@ -1,6 +1,5 @@
 -- Where a name and a map's number are found depends on the names and numbers alone.
 use Rattle.std.proofs.Common.{arith}
-use Rattle.std.proofs.lemmas.Grind.{common_steps}
 use Rattle.std.proofs.Common.{◌≡◌, ℕ, ◌&&◌, ◌||◌, ◌==◌, Bool, true, false, None, Option, Some, List, [], ◌∷◌, map, option_map, refl, sym, ap, ◌∙◌, if◌then◌else◌}
 use Rattle.std.specs.List.{list_any}
 use Rattle.std.specs.Str.{bytes_eq}
@@ -45,10 +44,10 @@ found_mapped {X = X} t key (x ∷ xs) = by_head (t (key x)) (found (λ x. t (key
     by_head : (b : Bool) (r : Option (ℕ × X)) → found t (map key xs) ≡ option_map (keyed key) r
         → (if b then Some (0, key x) else option_map one_on (found t (map key xs))) ≡ option_map (keyed key) (if b then Some (0, x) else option_map one_on r)
     by_head true r e = refl
-    by_head b r e = grind (arith, common_steps)
+    by_head b r e = grind arith
 
 pub found_same : {X : Type 0} (t u : X → Bool) → ((x : X) → t x ≡ u x) → (xs : List X) → found t xs ≡ found u xs
-found_same t u h xs = grind (arith, common_steps)
+found_same t u h xs = grind arith
 
 pub any_mapped : (t : Shape → Bool) (ms : List Map) → list_any (λ m. t (shape_of m)) ms ≡ list_any t (map shape_of ms)
 any_mapped t [] = refl

@@ -81,7 +81,7 @@ module _ (m : Mount) where
 
 -- what a store writes leaves names and numbers
 pub written_key : (s : Spot) (i offset : ℕ) (bytes : List ℕ) (f : File) → file_key (file_written s i offset bytes f) ≡ file_key f
-written_key s i offset bytes f = grind (arith, common_steps, cond_both, file_key, key_edit, pages_same, places, length-edit_at)
+written_key s i offset bytes f = grind (arith, cond_both, file_key, key_edit, pages_same, places, length-edit_at)
 
 module _ (c : Choice) (m : Mount) where
   abbrev Stays : Mount → Type 0

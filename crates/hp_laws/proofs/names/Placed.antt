@@ -33,7 +33,7 @@ found_more {X = X} t (x ∷ xs) ys q e = by_head (t x) (found t xs) refl (λ p w
     by_head : (b : Bool) (r : Option (ℕ × X)) → found t xs ≡ r → ((p : ℕ × X) → found t xs ≡ Some p → found t (xs ++ ys) ≡ Some p)
         → (if b then Some (0, x) else option_map one_on r) ≡ Some q → (if b then Some (0, x) else option_map one_on (found t (xs ++ ys))) ≡ Some q
     by_head true r was rest e = e
-    by_head b r was rest e = grind (arith, common_steps)
+    by_head b r was rest e = grind arith
 
 pub lead_more : (ks more : List FileKey) → KeysLead ks (ks ++ more)
 lead_more ks more =
@@ -50,7 +50,7 @@ abbrev pub put_at : {X : Type 0} → ℕ → X → ℕ × X → ℕ × X
 put_at j y p = (p.0, if p.0 == j then y else p.1)
 
 suc_eq : (a b : ℕ) → (a + 1 == suc b) ≡ (a == b)
-suc_eq a b = grind (arith, common_steps)
+suc_eq a b = grind arith
 
 suc_not_zero : (a : ℕ) → (a + 1 == 0) ≡ false
 suc_not_zero a = false_from_ne_true (a + 1 == 0) (λ e. (let same = eqb-true (a + 1) 0 e in absurd (omega (arith, same))))
@@ -66,13 +66,13 @@ first_later y p = ap (λ b. (p.0 + 1, if b then y else p.1)) (sym (suc_not_zero 
 
 pub found_set : {X : Type 0} (t : X → Bool) (xs : List X) (j : ℕ) (y : X) → t y ≡ t (get_or xs j y) → found t (slice_set xs j y) ≡ option_map (put_at j y) (found t xs)
 found_set t [] j y same = refl
-found_set {X = X} t (x ∷ xs) zero y same = grind (arith, common_steps, first_later)
+found_set {X = X} t (x ∷ xs) zero y same = grind (arith, first_later)
 found_set {X = X} t (x ∷ xs) (suc j) y same = by_head (t x) (found t xs) (found t (slice_set xs j y)) (found_set t xs j y same)
   where
     by_head : (b : Bool) (r s : Option (ℕ × X)) → s ≡ option_map (put_at j y) r →
         (if b then Some (0, x) else option_map one_on s) ≡ option_map (put_at (suc j) y) (if b then Some (0, x) else option_map one_on r)
     by_head true r s rest = ap (λ b. Some (0, if b then y else x)) (sym (zero_not_suc j))
-    by_head b r s rest = grind (arith, common_steps, later)
+    by_head b r s rest = grind (arith, later)
 
 -- ---- a file gets one map more, of a key that is not there yet
 
@@ -120,7 +120,7 @@ pub record Placed (m n : Mount) : Type 0 where
   pub numbers : (task number : ℕ) (p : Spot) → spot m (is_map task number) ≡ Some p → (q : Spot) × (spot n (is_map task number) ≡ Some q) × (places q ≡ places p)
 
 unkeyed : {X K Y : Type 0} (f : X → Y) (g : K → Y) (key : X → K) → ((x : X) → g (key x) ≡ f x) → (o : Option X) (k : K) → option_map key o ≡ Some k → (x : X) × (o ≡ Some x) × (f x ≡ g k)
-unkeyed f g key same o k e = grind (arith, common_steps)
+unkeyed f g key same o k e = grind arith
 
 pub placed : (m n : Mount) → KeysLead (keys m) (keys n) → Placed m n
 placed m n lead =

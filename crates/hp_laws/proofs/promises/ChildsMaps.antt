@@ -1,5 +1,4 @@
 -- A fork that is answered gives the child the maps of its parent, on every slot.
-use Rattle.std.proofs.lemmas.Grind.{common_steps}
 use Rattle.std.proofs.Common.{◌≡◌, ⊎_elim, subst, map, option_map, ℕ, zero, suc, ◌+◌, ◌<◌, ◌≤◌, Bool, true, false, ◌&&◌, ◌||◌, ◌==◌, not}
 use Rattle.std.proofs.Common.{Option, None, Some, is_some, Ok, Err, List, [], ◌∷◌, ◌++◌, length, refl, sym, ap, ◌∙◌, arith, if◌then◌else◌}
 use Rattle.std.specs.List.{filter, list_any, range_with_len, slice_set}
@@ -95,7 +94,7 @@ module _ (parent child number : ℕ) where
       by_test false is rest = rw (is, is) rest
 
   any_file : (f : File) → list_any (is_map child number) (file_forked parent child f).maps ≡ list_any (is_map parent number) f.maps
-  any_file f = grind (arith, common_steps, any_append, is_not_of, none_old, any_child)
+  any_file f = grind (arith, any_append, is_not_of, none_old, any_child)
 
   finds_child : (ms : List Map) (q : ℕ × Map) → found (is_map parent number) ms ≡ Some q → Finds (is_map child number) (map (map_for child) (filter (is_of parent) ms)) (map_for child q.1)
   finds_child [] q e = cc
@@ -294,10 +293,10 @@ module _ (s : State) (parent child : ℕ) where
       by_home (Some home) at q mid e go = by_tests home at (is_known s.table child) (is_crowded s.table) refl q mid e go
 
   event_forks : (e : Event) (reply : Reply) (t : State) → is_whole e ≡ true → IsEvent s e reply t → Forks s (step_of e) reply t
-  event_forks e reply t whole is = grind (arith, common_steps)
+  event_forks e reply t whole is = grind arith
 
 early_forks : (s : State) (x : Step) (r : Refusal) → Forks s x (Err r) s
-early_forks s x r = grind (arith, common_steps)
+early_forks s x r = grind arith
 
 pub step_forks : (s : State) (reply : Reply) (t : State) (x : Step) → IsStep s x reply t → Forks s x reply t
 step_forks s reply t x is =

@@ -47,11 +47,11 @@ use Rattle.hp_laws.proofs.steps.Whole.{by_event, is_whole, step_of}
 -- ---- one file
 
 without_none : (p : Place Copy) → copy_of (without_copy p) ≡ None
-without_none p = grind (arith, common_steps)
+without_none p = grind arith
 
 -- a range of a map's copies is gone
 map_cut : (a b : ℕ) (y : Map) (x : ℕ) → is_in a b x ≡ true → copy_of (place_at (map_punched a b y) x) ≡ None
-map_cut a b y x within = grind (arith, common_steps, place_ranged, without_none)
+map_cut a b y x within = grind (arith, place_ranged, without_none)
 
 module _ (f : File) where
   -- no map changes where there is none
@@ -59,7 +59,7 @@ module _ (f : File) where
   no_map_punched a b l = grind (arith, common_steps)
 
   punch_left : (a b : ℕ) → HasLeft (punched a b f) (length f.cells) (is_in a b) (λ i. cell_punched (cell_at f i))
-  punch_left a b = grind (arith, common_steps, length-edit_range, and_parts, ranged_in, leb-true, ltb-true, no_map_punched, map_cut)
+  punch_left a b = grind (arith, length-edit_range, and_parts, ranged_in, leb-true, ltb-true, no_map_punched, map_cut)
 
   long : (n : ℕ) → length (cells_to n f.cells) ≡ n
   long n = grind (arith, common_steps)
@@ -113,7 +113,7 @@ module _ (size k : ℕ) (c : Choice) where
 
 module _ (s : State) (st : IsSettledState s) where
   uncut : (x : Step) (r : Refusal) (t : State) → Cuts s x (Err r) t
-  uncut x r t = grind (arith, common_steps)
+  uncut x r t = grind arith
 
   module _ (t : State) (k : ℕ) (l : k < length s.slots) (name : List ℕ) (many : ℕ) (cut : ℕ → Bool) (cell : ℕ → Cell Page) where
     -- what the outcome says of the slot that it leaves
@@ -134,7 +134,7 @@ module _ (s : State) (st : IsSettledState s) where
       (λ c. punch_cuts s.page_size k c (slot_at s k) name a b) is in
       subst (λ r. Cuts s (step.Punch k name a b) r t) (sym ends.replied)
       (is_cut t k l name (pages_of_file was) (is_in a b) (λ i. cell_punched (cell_of was i)) (step.Punch k name a b) (λ r. tt) (λ x h. h) ends.outcome ends.holds ends.slots)
-  event_cuts e reply t whole is = grind (arith, common_steps)
+  event_cuts e reply t whole is = grind arith
 
   pub step_cuts : (reply : Reply) (t : State) (x : Step) → IsStep s x reply t → Cuts s x reply t
   step_cuts reply t x is = by_event s (λ x reply t. Cuts s x reply t) (λ x r early. uncut x r s) event_cuts (λ parent child reply t it. tt) (λ task reply t it. tt) reply t x is

@@ -1,6 +1,5 @@
 -- Only the event that asks for the names of files answers a list of names.
 use Rattle.std.proofs.Common.{arith}
-use Rattle.std.proofs.lemmas.Grind.{common_steps}
 use Rattle.std.proofs.Common.{◌≡◌, ℕ, false}
 use Rattle.hp_model.specs.declared.event.SlotEvent.{SlotEvent}
 use Rattle.hp_model.specs.machine.Plan.{Choice, Outcome, Slot}
@@ -11,7 +10,7 @@ use Rattle.hp_laws.proofs.accesses.SlotShows.{always_value}
 use Rattle.hp_laws.proofs.promises.SmallReplies.{Plain, slot_plain}
 
 plain_names_none : (o : Outcome) → Plain o → HasNoNames o
-plain_names_none o h = grind (arith, common_steps)
+plain_names_none o h = grind arith
 
 pub names_are_listed : (size k : ℕ) (c : Choice) (old : Slot) (e : SlotEvent) → lists_names e ≡ false → Always HasNoNames (slot_event size k c old e)
-names_are_listed size k c old e e' = grind (arith, common_steps, always_value, always_weaker, Plain, plain_names_none, slot_plain)
+names_are_listed size k c old e e' = grind (arith, always_value, always_weaker, Plain, plain_names_none, slot_plain)

@@ -68,10 +68,10 @@ has_page_at n j x = has_page (cell_at (file_in n j) x)
 
 -- a store leaves them
 place_same : (offset : ℕ) (bytes : List ℕ) (p : Place Copy) → is_some (copy_of (place_written offset bytes p)) ≡ is_some (copy_of p)
-place_same offset bytes p = grind (arith, common_steps)
+place_same offset bytes p = grind arith
 
 cell_same : (offset : ℕ) (bytes : List ℕ) (c : Cell Page) → has_page (cell_written offset bytes c) ≡ has_page c
-cell_same offset bytes c = grind (arith, common_steps)
+cell_same offset bytes c = grind arith
 
 module _ (s : Spot) (i offset : ℕ) (bytes : List ℕ) where
   map_same : (y : Map) (x : ℕ) → is_some (copy_of (place_at (map_written i offset bytes y) x)) ≡ is_some (copy_of (place_at y x))
@@ -122,10 +122,10 @@ module _ (u : State) (size : ℕ) (m : Mount) (s : Spot) (at : IsSpot m s) (i : 
   stays = inl (λ j l x has. has)
 
   page_there : (intent : Intent) (n : Mount) → is_shared s.map.sharing ≡ true → has_page_at n s.file_no i ≡ true → There intent n
-  page_there intent n shared has = grind (arith, common_steps)
+  page_there intent n shared has = grind arith
 
   copy_there : (intent : Intent) (n : Mount) → is_shared s.map.sharing ≡ false → has_copy n s.file_no s.map_no i ≡ true → There intent n
-  copy_there intent n apart has = grind (arith, common_steps)
+  copy_there intent n apart has = grind arith
 
   page_here : has_page (cell_at s.file i) ≡ true → has_page_at m s.file_no i ≡ true
   page_here has = ap (λ f. has_page (cell_at f i)) (at.file.is (new_file None)) ∙ has
@@ -165,7 +165,7 @@ module _ (u : State) (size : ℕ) (m : Mount) (s : Spot) (at : IsSpot m s) (i : 
               (cases_eq x i)
 
       has_left : (intent : Intent) (consumed : Bool) (copy : Copy) → place_at s.map i ≡ Live consumed (Some copy) → Left intent m
-      has_left intent consumed copy is = grind (arith, common_steps)
+      has_left intent consumed copy is = grind arith
 
       new_left : (intent : Intent) (consumed : Bool) → place_at s.map i ≡ Live consumed None → Always (On (Left intent)) (new_copy c size m s home i consumed)
       new_left intent consumed is =
@@ -229,13 +229,13 @@ module _ (u : State) (size : ℕ) (m : Mount) (s : Spot) (at : IsSpot m s) (i : 
         (λ apart. private_left apart (place_at s.map i) intent refl)
 
     fault_left : (intent : Intent) → At u (On (Left intent)) (fault c size m home i intent s)
-    fault_left intent = grind (arith, common_steps, at_test, On, at_if, access_left, leb-false)
+    fault_left intent = grind (arith, at_test, On, at_if, access_left, leb-false)
 
     bytes_left : (offset count : ℕ) (intent : Intent) → At u (On (Left intent)) (byte_access c size m home i offset count intent s)
-    bytes_left offset count intent = grind (arith, common_steps, at_test, On, at_if, access_left, leb-false)
+    bytes_left offset count intent = grind (arith, at_test, On, at_if, access_left, leb-false)
 
     load_left : (offset count : ℕ) → At u (On (Left Read)) (load c size m home i offset count s)
-    load_left offset count = grind (arith, common_steps, at_then, On, on_follows, bytes_left)
+    load_left offset count = grind (arith, at_then, On, on_follows, bytes_left)
 
     store_left : (offset : ℕ) (bytes : List ℕ) → At u (On (Left Write)) (store c size m home i offset bytes s)
     store_left offset bytes =
@@ -254,7 +254,7 @@ module _ (u : State) (size : ℕ) (m : Mount) (s : Spot) (at : IsSpot m s) (i : 
 
 module _ (u : State) where
   at_both : (P Q R : Outcome → Type 0) → ((o : Outcome) → P o → Q o → R o) → (p : Plan) → At u P p → At u Q p → At u R p
-  at_both P Q R h p a b = grind (arith, common_steps)
+  at_both P Q R h p a b = grind arith
 
   at_ends : (P : Outcome → Type 0) (k : ℕ) (p : Plan) → At u P p → Ends P u k (planned u k p).0 (planned u k p).1
   at_ends P k p h = grind (arith, common_steps)
@@ -282,7 +282,7 @@ module _ (u : State) where
         (each : (s : Spot) (found : spot m (is_map task number) ≡ Some s) → At u (On (Left u size m s (spot_is m (is_map task number) s found) i intent)) (f s)) where
       joined : (s : Spot) (found : spot m (is_map task number) ≡ Some s) (o : Outcome) → On (Left u size m s (spot_is m (is_map task number) s found) i intent) o → On (λ n. keys n ≡ keys m) o
           → Ended (Some m) o
-      joined s found o left same = grind (arith, common_steps)
+      joined s found o left same = grind arith
 
       ended : At u (Ended (Some m)) (with_value (spot m (is_map task number)) NoSuchMap f)
       ended = by_spot (spot m (is_map task number)) refl all
@@ -322,11 +322,11 @@ module _ (u : State) where
 -- ---- what is told of names and numbers
 
 same_copy : (own p : Place Copy) → is_same_copy own p ≡ true → is_some (copy_of p) ≡ true
-same_copy own p same = grind (arith, common_steps)
+same_copy own p same = grind arith
 
 -- a map that is as it was has lost nothing
 nothing_lost : (o a : Option Spot) (i : ℕ) (p q : Spot) (j : ℕ) → Some q ≡ Some p → IsLostTo o a i p q j → ⊥
-nothing_lost o a i p q j same lost = grind (arith, common_steps)
+nothing_lost o a i p q j same lost = grind arith
 
 module _ (u : State) (size task number i : ℕ) (intent : Intent) (m n : Mount) (it : Through u size task number i intent m n) where
   -- a map is found where it was
@@ -363,7 +363,7 @@ module _ (u : State) (size task number i : ℕ) (intent : Intent) (m n : Mount) 
     where
       held : (o a : Option Spot) → IsLostTo o a i p q j → (is_some (copy_of (place_at p.map j)) ≡ true) × (copy_of (place_at q.map j) ≡ None)
       held None a lost = absurd lost
-      held (Some o) a lost = grind (arith, common_steps, same_copy)
+      held (Some o) a lost = grind (arith, same_copy)
 
       kept : ((j l x : ℕ) → has_copy m j l x ≡ true → has_copy n j l x ≡ true) → ⊥
       kept keeps =
@@ -397,7 +397,7 @@ module _ (s : State) where
       is_touched : (o : Outcome) → Ended s s.page_size task number i intent (slot_at s k) o → t.slots ≡ slice_set s.slots k (left_by (slot_at s k) o)
           → (a : Answer) → reply_of o ≡ Ok a → IsTouched intent (map_named t k task number) i
       is_touched (Answered b (Some n)) it slots a answered = grind (arith, left_there, touched)
-      is_touched o it slots a answered = grind (arith, common_steps)
+      is_touched o it slots a answered = grind arith
 
       is_taken : (o : Outcome) → Ended s s.page_size task number i intent (slot_at s k) o → t.slots ≡ slice_set s.slots k (left_by (slot_at s k) o)
           → (v w j : ℕ) (p q : Spot) → map_named s k v w ≡ Some p → map_named t k v w ≡ Some q → IsLostTo (map_named s k task number) (map_named t k task number) i p q j
@@ -408,23 +408,23 @@ module _ (s : State) where
   reach x reply t a b = record { touched = a; taken = b }
 
   untouched : (x : Step) (r : Refusal) (t : State) → Touches x (Err r) t
-  untouched x r t = grind (arith, common_steps)
+  untouched x r t = grind arith
 
   -- where nothing changed nothing was taken
   none_taken : (x : Step) → Takes s x s
-  none_taken x k v w j p q was now lost = grind (arith, common_steps)
+  none_taken x k v w j p q was now lost = grind arith
 
   -- what is told of the reply is told of an answer
   by_reply : (intent : Intent) (o : Option Spot) (i : ℕ) (x : Step) (t : State) → ((a : Answer) → IsTouched intent o i → Touches x (Ok a) t) → ((r : Refusal) → Touches x (Err r) t)
       → (reply : Reply) → ((a : Answer) → reply ≡ Ok a → IsTouched intent o i) → Touches x reply t
-  by_reply intent o i x t answered refused reply h = grind (arith, common_steps)
+  by_reply intent o i x t answered refused reply h = grind arith
 
   -- on another slot nothing is lost
   on_slot : (t : State) (k task number i : ℕ) → ((v w j : ℕ) (p q : Spot) → map_named s k v w ≡ Some p → map_named t k v w ≡ Some q
       → IsLostTo (map_named s k task number) (map_named t k task number) i p q j → can_have_page (pool_of s) (slot_at s k) ≡ false)
       → (o v w j : ℕ) (p q : Spot) → map_named s o v w ≡ Some p → map_named t o v w ≡ Some q → (k ≡ o) × IsLostTo (map_named s k task number) (map_named t k task number) i p q j
       → can_have_page (pool_of s) (slot_at s o) ≡ false
-  on_slot t k task number i h o v w j p q was now lost = grind (arith, common_steps)
+  on_slot t k task number i h o v w j p q was now lost = grind arith
 
   event_reaches : (e : Event) (reply : Reply) (t : State) → is_whole e ≡ true → IsEvent s e reply t → Reaches s (step_of e) reply t
   event_reaches (OnSlot k (slot.Fault task home number i intent)) reply t whole is =
@@ -456,7 +456,7 @@ module _ (s : State) where
       (by_reply Write (map_named t k task number) i (step.Store task k number i offset bytes) t (λ a there. there) (λ r. tt) reply
       (λ a answered. is_touched t k l task number i Write ends.outcome ends.holds ends.slots a (sym ends.replied ∙ answered)))
       (on_slot t k task number i (is_taken t k l task number i Write ends.outcome ends.holds ends.slots))
-  event_reaches e reply t whole is = grind (arith, common_steps, reach, slot_step, step_of)
+  event_reaches e reply t whole is = grind (arith, reach, slot_step, step_of)
 
   pub step_reaches : (reply : Reply) (t : State) (x : Step) → IsStep s x reply t → Reaches s x reply t
   step_reaches reply t x is =

@@ -14,7 +14,7 @@ use Rattle.hp_laws.proofs.names.Follows.{is_not_of}
 use Rattle.hp_laws.proofs.making.FilesMade.{any_in_files}
 
 or_false : (b : Bool) → (b || false) ≡ b
-or_false b = grind (arith, common_steps)
+or_false b = grind arith
 
 module _ (task : ℕ) where
   abbrev has : File → Bool

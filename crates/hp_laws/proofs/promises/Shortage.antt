@@ -1,6 +1,5 @@
 -- A step that is refused for want of pages lacks what it asks for: past its mount's limit, or more than the pool can commit.
 use Rattle.std.proofs.Common.{arith}
-use Rattle.std.proofs.lemmas.Grind.{common_steps}
 use Rattle.std.proofs.Common.{◌≡◌, subst, ℕ, ◌-◌, ◌&&◌, ◌==◌, Bool, true, false, not, Option, None, Some, Result, Ok, Err, List, [], ◌∷◌}
 use Rattle.std.proofs.Common.{◌++◌, length, refl, sym, ap, ◌∙◌, if◌then◌else◌}
 use Rattle.std.proofs.lemmas.Bool.{and_parts, cond_both, eqb-true}
@@ -65,7 +64,7 @@ use Rattle.hp_model.specs.files.Fill.{lacking}
 -- ---- limits
 
 limits_plain : (nr size : ℕ) (w : Option Wanted) (r : Refusal) → limits nr size w ≡ Err r → is_for_pages r ≡ false
-limits_plain nr size w r e = grind (arith, common_steps)
+limits_plain nr size w r e = grind arith
 
 -- ---- outcomes at the state's pool
 
@@ -76,7 +75,7 @@ module _ (s : State) where
   At P (Ask sec f) = P (f (section (pool_of s) (sec s.nr)).0)
 
   pub at_any : (P : Outcome → Type 0) (p : Plan) → Always P p → At P p
-  at_any P p all = grind (arith, common_steps)
+  at_any P p all = grind arith
 
   pub at_if : (P : Outcome → Type 0) (b : Bool) (p q : Plan) → (b ≡ true → At P p) → (b ≡ false → At P q) → At P (if b then p else q)
   at_if P b p q h k = cond_both b p q (At P) h k
@@ -85,10 +84,10 @@ module _ (s : State) where
   at_test P b r p stops h = cond_both b (refuse r) p (At P) (λ e. stops) (λ e. h)
 
   pub at_then : (P : Outcome → Type 0) (f : Mount → Outcome) → ((o : Outcome) → P o → P (continued f o)) → (p : Plan) → At P p → At P (and_then f p)
-  at_then P f h p at = grind (arith, common_steps)
+  at_then P f h p at = grind arith
 
   planned_at : (P : Outcome → Type 0) (k : ℕ) (p : Plan) → At P p → (o : Outcome) × P o × ((planned s k p).0 ≡ reply_of o)
-  planned_at P k p at = grind (arith, common_steps)
+  planned_at P k p at = grind arith
 
   event_at : (P : Outcome → Type 0) (k : ℕ) (e : SlotEvent) (reply : Reply) (t : State) → ((c : Choice) → At P (slot_event s.page_size k c (slot_at s k) e)) → IsEvent s (OnSlot k e) reply t
       → (o : Outcome) × P o × (reply ≡ reply_of o)
@@ -104,7 +103,7 @@ module _ (s : State) where
 
   granted_lacks : (m : Mount) (pages : ℕ) (b : Bool) (o : Outcome) → is_full m pages ≡ false → can_grant (rise m pages) (pool_of s) ≡ b → Lacks m pages o → (a : PoolAnswer)
       → a.granted ≡ b → Lacks m pages (when_granted o a)
-  granted_lacks m pages b o room can h a e = grind (arith, common_steps)
+  granted_lacks m pages b o room can h a e = grind arith
 
   pub page_granted : (home d : ℕ) → (section (pool_of s) (GrantPage home d)).0.granted ≡ can_grant d (pool_of s)
   page_granted home d = cond_both (can_grant d (pool_of s)) _ _ (λ (x : PoolAnswer × Pool). x.0.granted ≡ can_grant d (pool_of s)) (λ e. sym e) (λ e. sym e)
@@ -116,7 +115,7 @@ module _ (s : State) where
   fill_lacks c size m a b f = grind (arith, at_if, at_test, granted_lacks, fill_granted)
 
   grant_lacks : (c : Choice) (m : Mount) (home pages : ℕ) (o : Outcome) → Lacks m pages o → At (Lacks m pages) (grant c m home pages o)
-  grant_lacks c m home pages o h = grind (arith, common_steps)
+  grant_lacks c m home pages o h = grind arith
 
   -- ---- accesses
 
@@ -128,21 +127,21 @@ module _ (s : State) where
     Wants intent o = Lacks m (page_for intent (Some p) i) o
 
     shared_lacks : (t : Intent) (cell : Cell Page) → is_shared p.map.sharing ≡ true → cell_at p.file i ≡ cell → At (Wants t) (shared_access c size m p home i cell)
-    shared_lacks t cell shared is = grind (arith, common_steps)
+    shared_lacks t cell shared is = grind arith
 
     module _ (apart : is_shared p.map.sharing ≡ false) where
       new_lacks : (t : Intent) (consumed : Bool) → place_at p.map i ≡ Live consumed None → has_own t p i ≡ false → At (Wants t) (new_copy c size m p home i consumed)
-      new_lacks t consumed is none = grind (arith, common_steps)
+      new_lacks t consumed is none = grind arith
 
       uncopied_lacks : (t : Intent) (consumed : Bool) → place_at p.map i ≡ Live consumed None → At (Wants t) (uncopied_access c size m p home i consumed t)
-      uncopied_lacks Write consumed is = grind (arith, common_steps, new_lacks)
+      uncopied_lacks Write consumed is = grind (arith, new_lacks)
       uncopied_lacks Read consumed is = grind (arith, at_if, new_lacks)
 
       write_lacks : (consumed : Bool) (copy : Copy) → place_at p.map i ≡ Live consumed (Some copy) → At (Wants Write) (copy_write c m p home i consumed copy)
-      write_lacks consumed copy is = grind (arith, common_steps)
+      write_lacks consumed copy is = grind arith
 
       private_lacks : (t : Intent) (q : Place Copy) → place_at p.map i ≡ q → At (Wants t) (private_access c size m p home i q t)
-      private_lacks t q is = grind (arith, common_steps, write_lacks, at_test, uncopied_lacks)
+      private_lacks t q is = grind (arith, write_lacks, at_test, uncopied_lacks)
 
     access_lacks : (t : Intent) → At (Wants t) (access c size m p home i t)
     access_lacks t = at_if (Wants t) (is_shared p.map.sharing) _ _ (λ e. shared_lacks t (cell_at p.file i) e refl) (λ e. private_lacks e t (place_at p.map i) refl)
@@ -161,10 +160,10 @@ module _ (s : State) where
       at_test P x.0 x.1 (unless xs p) (h x.1 (no_not (is_for_pages x.1) both.0)) (at_tests P h xs both.1 p at)
     where
       no_not : (b : Bool) → not b ≡ true → b ≡ false
-      no_not b e = grind (arith, common_steps)
+      no_not b e = grind arith
 
   plain_short : (m : Mount) (pages : ℕ) (r : Refusal) → is_for_pages r ≡ false → IsShort (pool_of s) m pages r
-  plain_short m pages r e = grind (arith, common_steps)
+  plain_short m pages r e = grind arith
 
   -- ---- events that ask for pages
 
@@ -173,12 +172,12 @@ module _ (s : State) where
   ShortOn old x (Answered a new) = Unit {0}
 
   after_lacks : (m : Mount) (pages : ℕ) (f : Mount → Outcome) → ((n : Mount) → Lacks m pages (f n)) → (o : Outcome) → Lacks m pages o → Lacks m pages (continued f o)
-  after_lacks m pages f h o lacks = grind (arith, common_steps)
+  after_lacks m pages f h o lacks = grind arith
 
   -- the outcomes of a mount, by the pages that its step asks for
   module _ (m : Mount) (x : Step) where
     at_short : (p : Plan) → At (Lacks m (asks m x)) p → At (ShortOn (Some m) x) p
-    at_short p at = grind (arith, common_steps)
+    at_short p at = grind arith
 
   module _ (c : Choice) (size k : ℕ) where
     of_map : (old : Slot) (task home : ℕ) (name : List ℕ) (a n : ℕ) (sharing : Sharing) (reserving : Reserving)
@@ -257,7 +256,7 @@ module _ (s : State) where
     MountShort options (Answered a new) = Unit {0}
 
     section_told : (d : ℕ) → (a : PoolAnswer) → a ≡ (section (pool_of s) (mount_section c d)).0 → (a.nr ≡ s.nr) × (a.granted ≡ can_grant d (pool_of s))
-    section_told d a is = grind (arith, common_steps)
+    section_told d a is = grind arith
 
     -- what the answer leads to, by the limits
     mount_leads : (options : List ℕ) (x : Result Limits Refusal) → limits s.nr size (wanted_of options) ≡ x → (a : PoolAnswer) → a.granted ≡ can_grant (mount_pages c x) (pool_of s)
@@ -265,7 +264,7 @@ module _ (s : State) where
     mount_leads options x is a told = grind (arith, limits_plain)
 
     taken_short : (p : Pool) (x : Result Limits Refusal) → IsMountShort p x SlotTaken
-    taken_short p x = grind (arith, common_steps)
+    taken_short p x = grind arith
 
     of_mount : (old : Slot) (options : List ℕ) → At (MountShort options) (slot_event size k c old (slot.Mount options))
     of_mount (Some m) options = taken_short (pool_of s) (limits s.nr size (wanted_of options))
@@ -284,10 +283,10 @@ module _ (s : State) where
     given old new = at_any KeepsGoing (gives Done old new) (always_gives KeepsGoing Done old new tt)
 
     of_unmap : (old : Slot) (task number a b : ℕ) → At KeepsGoing (slot_event size k c old (slot.Unmap task number a b))
-    of_unmap old task number a b = grind (arith, common_steps)
+    of_unmap old task number a b = grind arith
 
     of_fork : (old : Slot) (parent child : ℕ) → At KeepsGoing (slot_event size k c old (slot.ForkMaps parent child))
-    of_fork old parent child = grind (arith, common_steps)
+    of_fork old parent child = grind arith
 
     abbrev is_plain : SlotEvent → Bool
     is_plain (slot.Mount options) = false
@@ -301,9 +300,9 @@ module _ (s : State) where
     is_plain e = true
 
     goes_event : (old : Slot) (e : SlotEvent) → is_plain e ≡ true → At KeepsGoing (slot_event size k c old e)
-    goes_event None e plain = grind (arith, common_steps)
+    goes_event None e plain = grind arith
     goes_event (Some m) slot.Df plain = tt
-    goes_event (Some m) e plain = grind (arith, common_steps, goes_tests, given, of_unmap, of_fork)
+    goes_event (Some m) e plain = grind (arith, goes_tests, given, of_unmap, of_fork)
 
   -- ---- steps of one event
 
@@ -313,14 +312,14 @@ module _ (s : State) where
   is_remount e = false
 
   at_weaker : (P Q : Outcome → Type 0) → ((o : Outcome) → P o → Q o) → (p : Plan) → At P p → At Q p
-  at_weaker P Q h p at = grind (arith, common_steps)
+  at_weaker P Q h p at = grind arith
 
   abbrev Meets : ℕ → SlotEvent → Outcome → Type 0
   Meets k e o = MeetsShortage s (slot_step k e) (reply_of o)
 
   module _ (c : Choice) (k : ℕ) where
     plain_meets : (e : SlotEvent) → is_plain c s.page_size k e ≡ true → (o : Outcome) → KeepsGoing o → Meets k e o
-    plain_meets e plain o h = grind (arith, common_steps)
+    plain_meets e plain o h = grind arith
 
     turn : (e : SlotEvent) (P : Outcome → Type 0) → ((o : Outcome) → P o → Meets k e o) → At P (slot_event s.page_size k c (slot_at s k) e)
         → At (Meets k e) (slot_event s.page_size k c (slot_at s k) e)
@@ -330,28 +329,28 @@ module _ (s : State) where
     of_plain e plain = turn e KeepsGoing (plain_meets e plain) (goes_event c s.page_size k (slot_at s k) e plain)
 
     mount_meets : (options : List ℕ) (o : Outcome) → MountShort c s.page_size k options o → Meets k (slot.Mount options) o
-    mount_meets options o h = grind (arith, common_steps)
+    mount_meets options o h = grind arith
 
     map_meets : (task home : ℕ) (name : List ℕ) (a n : ℕ) (sharing : Sharing) (reserving : Reserving) (o : Outcome)
         → ShortOn (slot_at s k) (step.Map task k name a n sharing reserving) o → Meets k (slot.Map task home name a n sharing reserving) o
-    map_meets task home name a n sharing reserving o h = grind (arith, common_steps)
+    map_meets task home name a n sharing reserving o h = grind arith
 
     fill_meets : (name : List ℕ) (a b : ℕ) (o : Outcome) → ShortOn (slot_at s k) (step.Preallocate k name a b) o → Meets k (slot.Preallocate name a b) o
-    fill_meets name a b o h = grind (arith, common_steps)
+    fill_meets name a b o h = grind arith
 
     anon_meets : k ≡ 0 → (task home n : ℕ) (sharing : Sharing) (reserving : Reserving) (o : Outcome)
         → ShortOn (slot_at s k) (step.Anon task n sharing reserving) o → Meets k (slot.Anon task home n sharing reserving) o
-    anon_meets here task home n sharing reserving o h = grind (arith, common_steps)
+    anon_meets here task home n sharing reserving o h = grind arith
 
     fault_meets : (task home number i : ℕ) (t : Intent) (o : Outcome) → ShortOn (slot_at s k) (step.Fault task k number i t) o → Meets k (slot.Fault task home number i t) o
-    fault_meets task home number i t o h = grind (arith, common_steps)
+    fault_meets task home number i t o h = grind arith
 
     load_meets : (task home number i offset count : ℕ) (o : Outcome) → ShortOn (slot_at s k) (step.Load task k number i offset count) o → Meets k (slot.Load task home number i offset count) o
-    load_meets task home number i offset count o h = grind (arith, common_steps)
+    load_meets task home number i offset count o h = grind arith
 
     store_meets : (task home number i offset : ℕ) (bytes : List ℕ) (o : Outcome)
         → ShortOn (slot_at s k) (step.Store task k number i offset bytes) o → Meets k (slot.Store task home number i offset bytes) o
-    store_meets task home number i offset bytes o h = grind (arith, common_steps)
+    store_meets task home number i offset bytes o h = grind arith
 
     meets : (e : SlotEvent) → is_remount e ≡ false → is_whole (OnSlot k e) ≡ true → At (Meets k e) (slot_event s.page_size k c (slot_at s k) e)
     meets (slot.Map task home name a n sharing reserving) other whole = grind (arith, turn, map_meets, of_map)
@@ -360,7 +359,7 @@ module _ (s : State) where
     meets (slot.Fault task home number i t) other whole = grind (arith, turn, fault_meets, of_fault)
     meets (slot.Load task home number i offset count) other whole = grind (arith, turn, load_meets, of_load)
     meets (slot.Store task home number i offset bytes) other whole = grind (arith, turn, store_meets, of_store)
-    meets e other whole = grind (arith, common_steps, turn, mount_meets, of_mount, of_plain)
+    meets e other whole = grind (arith, turn, mount_meets, of_mount, of_plain)
 
 -- ---- the table and the pool
 
@@ -370,15 +369,15 @@ Plain (Ok a) = Unit {0}
 Plain (Err r) = is_for_pages r ≡ false
 
 table_plain : (s : State) (nodes : ℕ) (old : Table) (e : TableEvent) → Plain (table_event nodes old e).0
-table_plain s nodes old e = grind (arith, common_steps)
+table_plain s nodes old e = grind arith
 
 pool_plain : (p : Pool) (e : PoolEvent) → Plain (pool_event p e).0
-pool_plain p e = grind (arith, common_steps)
+pool_plain p e = grind arith
 
 -- ---- a fork and an exit
 
 reply_plain : (o : Outcome) → KeepsGoing o → Plain (reply_of o)
-reply_plain o h = grind (arith, common_steps)
+reply_plain o h = grind arith
 
 module _ (reply : Reply) (t : State) where
   -- what all ends of the rest lead to
@@ -404,14 +403,14 @@ module _ (reply : Reply) (t : State) where
       by_reply (Ok a) mid h next it = next it
 
   when_plain : (r : Reply) (mid : State) (next : Script) → Plain r → ((u : State) → IsScript u next reply t → Plain reply) → IsScript mid (when_done r next) reply t → Plain reply
-  when_plain r mid next h go is = grind (arith, common_steps)
+  when_plain r mid next h go is = grind arith
 
   module _ (s : State) where
     table_reply : (e : TableEvent) (r : Reply) (mid : State) → IsEvent s (Tasks e) r mid → Plain r
     table_reply e r mid is = subst Plain (ap (λ (q : Reply × State). q.0) is.2) (table_plain s (length s.nodes) s.table e)
 
     fork_plain : (parent child : ℕ) → IsScripted s (step.Fork parent child) reply t → Plain reply
-    fork_plain parent child is = grind (arith, common_steps, when_plain, table_reply, forks_plain)
+    fork_plain parent child is = grind (arith, when_plain, table_reply, forks_plain)
 
     exit_plain : (task : ℕ) → IsScripted s (step.Exit task) reply t → Plain reply
     exit_plain task is =
@@ -433,16 +432,16 @@ module _ (s : State) where
   none_asked x = true
 
   by_plain : (x : Step) → none_asked x ≡ true → (reply : Reply) → Plain reply → MeetsShortage s x reply
-  by_plain x none reply h = grind (arith, common_steps)
+  by_plain x none reply h = grind arith
 
   plain_on : (old : Slot) (x : Step) (r : Refusal) → is_for_pages r ≡ false → IsShortOn (pool_of s) old x r
-  plain_on old x r e = grind (arith, common_steps)
+  plain_on old x r e = grind arith
 
   plain_mount : (l : Result Limits Refusal) (r : Refusal) → is_for_pages r ≡ false → IsMountShort (pool_of s) l r
-  plain_mount l r e = grind (arith, common_steps)
+  plain_mount l r e = grind arith
 
   plain_remount : (old : Slot) (l : Result Limits Refusal) (r : Refusal) → is_for_pages r ≡ false → IsRemountShortOn (pool_of s) old l r
-  plain_remount old l r e = grind (arith, common_steps)
+  plain_remount old l r e = grind arith
 
   -- what a remount of an open slot lacks
   remount_short : (k : ℕ) (options : List ℕ) (m : Mount) (reply : Reply) (t : State) → slot_at s k ≡ Some m → IsEvent s (OnSlot k (slot.Remount options)) reply t
@@ -457,7 +456,7 @@ module _ (s : State) where
       by_granted : (l : Limits) → limits s.nr s.page_size (wanted_of options) ≡ Ok l → (b : Bool)
           → (b ≡ false → can_grant (committed_with m l.min - committed_of m) (pool_of s) ≡ false)
           → MeetsShortage s (step.Remount k options) (reply_of (if b then Answered Done (Some (record m { limits = l })) else Refused NoPages))
-      by_granted l wanted b lacks = grind (arith, common_steps)
+      by_granted l wanted b lacks = grind arith
 
       by_limits : (first : Bool) (x : Result Limits Refusal) → limits s.nr s.page_size (wanted_of options) ≡ x → (a : PoolAnswer)
           → ((l : Limits) → limits s.nr s.page_size (wanted_of options) ≡ Ok l → a.granted ≡ false → can_grant (committed_with m l.min - committed_of m) (pool_of s) ≡ false)
@@ -469,7 +468,7 @@ module _ (s : State) where
   event_remount : (k : ℕ) (options : List ℕ) (old : Slot) → slot_at s k ≡ old → (reply : Reply) (t : State) → IsEvent s (OnSlot k (slot.Remount options)) reply t
       → MeetsShortage s (step.Remount k options) reply
   event_remount k options (Some m) there reply t is = remount_short k options m reply t there is
-  event_remount k options None there reply t is = grind (arith, common_steps, plain_remount)
+  event_remount k options None there reply t is = grind (arith, plain_remount)
 
   event_other : (k : ℕ) (e : SlotEvent) (reply : Reply) (t : State) → is_remount s e ≡ false → is_whole (OnSlot k e) ≡ true → IsEvent s (OnSlot k e) reply t
       → MeetsShortage s (slot_step k e) reply
@@ -478,15 +477,15 @@ module _ (s : State) where
 
   early_short : (x : Step) (r : Refusal) → is_early r ≡ true → MeetsShortage s x (Err r)
   early_short (step.Mount k options) r early = plain_mount (limits s.nr s.page_size (wanted_of options)) r (early_pages r early)
-  early_short x r early = grind (arith, common_steps, plain_remount, early_pages, plain_on)
+  early_short x r early = grind (arith, plain_remount, early_pages, plain_on)
 
   event_short : (e : Event) (reply : Reply) (t : State) → is_whole e ≡ true → IsEvent s e reply t → MeetsShortage s (step_of e) reply
   event_short (OnSlot k (slot.Remount options)) reply t whole is = event_remount k options (slot_at s k) refl reply t is
   event_short (OnSlot k e) reply t whole is = event_other k e reply t refl whole is
   event_short (Tasks (table.FindAndAdd parent child)) reply t whole is = cc
-  event_short (Tasks e) reply t whole is = grind (arith, common_steps, by_plain, table_reply)
-  event_short (OnPool (pool.Overcommit n)) reply t whole is = grind (arith, common_steps, by_plain, pool_plain)
-  event_short (OnPool e) reply t whole is = grind (arith, common_steps, by_plain, pool_plain)
+  event_short (Tasks e) reply t whole is = grind (arith, by_plain, table_reply)
+  event_short (OnPool (pool.Overcommit n)) reply t whole is = grind (arith, by_plain, pool_plain)
+  event_short (OnPool e) reply t whole is = grind (arith, by_plain, pool_plain)
 
   pub step_short : (reply : Reply) (t : State) (x : Step) → IsStep s x reply t → MeetsShortage s x reply
   step_short reply t x is =

@@ -1,5 +1,4 @@
 -- What an event of the pool alone tells is within the limits of a reply's text.
-use Rattle.std.proofs.lemmas.Grind.{common_steps}
 use Rattle.std.proofs.Common.{◌≡◌, ◌*◌, ◌≤◌, List, [], ◌∷◌, ◌++◌, length, map, replicate, sym, ap, subst, ◌∙◌, arith}
 use Rattle.std.specs.List.{All}
 use Rattle.std.proofs.lemmas.Bool.{cond_both}
@@ -58,15 +57,15 @@ module _ (p : Pool) (st : IsSettledPool p) (nodes : length p.nodes.rows ≤ 4) w
   nr_small = (let most = most_frames_in in let below = in_pool.total in let total = st.total in omega (arith, most, below, total))
 
   pub meminfo_small : IsWithinLimits (pool_event p pool.Meminfo).0
-  meminfo_small = grind (arith, common_steps, most_frames_in, in_pool)
+  meminfo_small = grind (arith, most_frames_in, in_pool)
 
   pub nodes_small : IsWithinLimits (pool_event p pool.Nodes).0
   nodes_small = (nodes, All-take IsSmallRow 4 (map node_count p.nodes.rows ++ replicate 4 no_count) (rows_small p.nodes.rows st.rows))
 
 -- the event is told by the pool that it leaves
 pub event_small : (p q : Pool) (e : PoolEvent) (reply : Reply) → pool_event p e ≡ (reply, q) → IsSettledPool q → length q.nodes.rows ≤ 4 → IsWithinLimits reply
-event_small p q (pool.Nr n) reply is st nodes = grind (arith, common_steps, nr_small)
-event_small p q (pool.Overcommit n) reply is st nodes = grind (arith, common_steps, cond_both)
-event_small p q pool.Meminfo reply is st nodes = grind (arith, common_steps, meminfo_small)
+event_small p q (pool.Nr n) reply is st nodes = grind (arith, nr_small)
+event_small p q (pool.Overcommit n) reply is st nodes = grind (arith, cond_both)
+event_small p q pool.Meminfo reply is st nodes = grind (arith, meminfo_small)
 event_small p q pool.Nodes reply is st nodes =
     subst IsWithinLimits (ap (λ (x : Pool). (pool_event x pool.Nodes).0) (sym (ap (λ (x : Reply × Pool). x.1) is)) ∙ ap (λ (x : Reply × Pool). x.0) is) (nodes_small q st nodes)

@@ -58,7 +58,7 @@ count_le p [] = omega arith
 count_le p (x ∷ xs) = cond_both (not (p x)) (1 + position_or_len p xs) 0 (λ n. n ≤ suc (length xs)) (λ e. (let rest = count_le p xs in omega (arith, rest))) (λ e. omega arith)
 
 filter_head : {X : Type 0} (b : Bool) (x : X) (ys : List X) (n : ℕ) → length ys ≤ n → length (cond b (x ∷ ys) ys) ≤ suc n
-filter_head b x ys n le = grind (arith, common_steps)
+filter_head b x ys n le = grind arith
 
 filter_le : {X : Type 0} (p : X → Bool) (xs : List X) → length (filter p xs) ≤ length xs
 filter_le p [] = omega arith
@@ -66,7 +66,7 @@ filter_le p (x ∷ xs) = filter_head (p x) x (filter p xs) (length xs) (filter_l
 
 -- a map's number is at most two above the number of maps
 number_le : (task : ℕ) (m : Mount) → next_number task m ≤ length (maps_of m) + 2
-number_le task m = grind (arith, common_steps, count_le, length-range_with_len, filter_le, length-map)
+number_le task m = grind (arith, count_le, length-range_with_len, filter_le, length-map)
 
 pub rows_many : (s : State) (a : ℕ) (xs : List Node) → length (rows_of s a xs) ≡ length xs
 rows_many s a [] = refl
@@ -78,7 +78,7 @@ module _ (s : State) (st : IsSettledState s) where
 
   pool_small : (e : PoolEvent) → IsWithinLimits (pool_event (pool_of s) e).0
   pool_small (pool.Nr n) = omega (arith, most_frames_in (pool_of s) st.pool few_rows)
-  pool_small (pool.Overcommit n) = grind (arith, common_steps, cond_both)
+  pool_small (pool.Overcommit n) = grind (arith, cond_both)
   pool_small pool.Meminfo = meminfo_small (pool_of s) st.pool few_rows
   pool_small pool.Nodes = nodes_small (pool_of s) st.pool few_rows
 
@@ -101,7 +101,7 @@ mount_plain : (size k : ℕ) (c : Choice) (options : List ℕ) → Always Plain 
 mount_plain size k c options = always_mount Plain (λ r. tt) (λ l. tt) c size options
 
 few_maps : (m : Mount) (task n : ℕ) → AreFewMaps m task n → next_number task m < 2 ^ 64
-few_maps m task n e = grind (arith, common_steps, or_parts, leb-false, number_le)
+few_maps m task n e = grind (arith, or_parts, leb-false, number_le)
 
 abbrev PlainUnlessTold : SlotEvent → Plan → Type 0
 PlainUnlessTold e p = tells_all e ≡ false → Always Plain p
@@ -114,7 +114,7 @@ module _ (size k : ℕ) (c : Choice) (m : Mount) where
   load_plain s at home i offset count = grind (arith, common_steps)
 
   store_plain : (s : Spot) → IsSpot m s → (home i offset : ℕ) (bytes : List ℕ) → Always Plain (store c size m home i offset bytes s)
-  store_plain s at home i offset bytes = grind (arith, common_steps)
+  store_plain s at home i offset bytes = grind arith
 
   plain_walks : Walks size k c m PlainUnlessTold
   plain_walks = record {
@@ -150,7 +150,7 @@ slot_plain size k c (Some m) e apart =
     walk_all size k c m PlainUnlessTold (plain_walks size k c m) (λ options refl. always_remounting Plain (λ r. tt) m (λ l. tt) size options) (λ refl. done_plain size k c m None) e apart
 
 plain_small : (o : Outcome) → Plain o → Small o
-plain_small o h = grind (arith, common_steps)
+plain_small o h = grind arith
 
 pub slot_small : (size k : ℕ) (c : Choice) (old : Slot) (e : SlotEvent) → tells_all e ≡ false → Always Small (slot_event size k c old e)
 slot_small size k c old e apart = always_weaker Plain Small plain_small (slot_event size k c old e) (slot_plain size k c old e apart)
@@ -164,7 +164,7 @@ is_told (OnSlot k e) = tells_all e
 is_told other = false
 
 table_small : (n : ℕ) (x : Table) (e : TableEvent) → is_told (Tasks e) ≡ false → IsWithinLimits (table_event n x e).0
-table_small n x e e' = grind (arith, common_steps)
+table_small n x e e' = grind arith
 
 module _ (s : State) (st : IsSettledState s) where
   pub event_small : (e : Event) (reply : Reply) (t : State) → IsEvent s e reply t → is_told e ≡ false → IsWithinLimits reply
@@ -188,14 +188,14 @@ script_small (Where_mapped k task mapped other) all s reply t is =
     either_way (has_maps_of task (slot_at s k)) (λ it. script_small mapped all.0 s reply t it) (λ it. script_small other all.1 s reply t it) is
 
 when_small : (r : Reply) (next : Script) → Replies next → Replies (when_done r next)
-when_small r next all = grind (arith, common_steps)
+when_small r next all = grind arith
 
 exits_small : (ks : List ℕ) (task : ℕ) (next : Script) → Replies next → Replies (exit_slots ks task next)
 exits_small [] task next all = all
 exits_small (k ∷ ks) task next all = ((λ r. exits_small ks task next all), exits_small ks task next all)
 
 or_undone_small : (done : List ℕ) (child : ℕ) (r : Reply) (next : Script) → Replies next → Replies (or_undone done child r next)
-or_undone_small done child r next all = grind (arith, common_steps, exits_small)
+or_undone_small done child r next all = grind (arith, exits_small)
 
 forks_small : (ks done : List ℕ) (parent child : ℕ) → Replies (fork_slots ks done parent child)
 forks_small [] done parent child = tt
@@ -205,7 +205,7 @@ forks_small (k ∷ ks) done parent child =
 -- ---- each step
 
 told_same : (e : Event) → is_whole e ≡ true → is_usage (step_of e) ≡ is_told e
-told_same e whole = grind (arith, common_steps)
+told_same e whole = grind arith
 
 module _ (s : State) (st : IsSettledState s) where
   abbrev SmallUnlessTold : Step → Reply → State → Type 0
@@ -222,4 +222,4 @@ module _ (s : State) (st : IsSettledState s) where
       (exits_small (range_with_len 0 (length s.slots)) task (Answer_with (Ok Done)) tt)) s reply t it) reply t step is
 
 pub within_limits : (s : State) (step : Step) (reply : Reply) (t : State) → IsSettledState s → IsStep s step reply t → (is_usage step ≡ true → IsWithinLimits reply) → IsWithinLimits reply
-within_limits s step reply t st is usage = grind (arith, common_steps, step_small)
+within_limits s step reply t st is usage = grind (arith, step_small)

@@ -45,16 +45,16 @@ pub record Makes (s : State) (step : Step) (reply : Reply) (t : State) : Type 0 
   pub only : MakesOnly s step reply t
 
 makes : (s : State) (step : Step) (reply : Reply) (t : State) → AllNoMore (is_made_name step reply) (is_made_number step reply) s t → Makes s step reply t
-makes s step reply t all = grind (arith, common_steps, name_none, false_from_ne_true, any_file, name_absent, number_none, has_map, number_absent)
+makes s step reply t all = grind (arith, name_none, false_from_ne_true, any_file, name_absent, number_none, has_map, number_absent)
 
 same_makes : (s : State) (step : Step) (reply : Reply) (t : State) → t.slots ≡ s.slots → Makes s step reply t
-same_makes s step reply t same = grind (arith, common_steps)
+same_makes s step reply t same = grind arith
 
 name_made : (k : ℕ) (e : SlotEvent) (a : Answer) → is_whole (OnSlot k e) ≡ true → (name : List ℕ) → is_made_name (slot_step k e) (Ok a) k name ≡ false → made_by e name ≡ false
-name_made k e a whole name off = grind (arith, common_steps)
+name_made k e a whole name off = grind arith
 
 number_made : (k : ℕ) (e : SlotEvent) (a : Answer) → is_whole (OnSlot k e) ≡ true → (task number : ℕ) → is_made_number (slot_step k e) (Ok a) k task number ≡ false → new_by e a task number ≡ false
-number_made k e a whole task number off = grind (arith, common_steps)
+number_made k e a whole task number off = grind arith
 
 module _ (s : State) where
   slot_step_makes : (k : ℕ) (e : SlotEvent) (reply : Reply) (t : State) → is_whole (OnSlot k e) ≡ true → IsEvent s (OnSlot k e) reply t → Makes s (slot_step k e) reply t
@@ -72,7 +72,7 @@ module _ (s : State) where
 
   event_makes : (e : Event) (reply : Reply) (t : State) → is_whole e ≡ true → IsEvent s e reply t → Makes s (step_of e) reply t
   event_makes (OnSlot k e) reply t whole is = slot_step_makes k e reply t whole is
-  event_makes e reply t whole is = grind (arith, common_steps, same_makes, step_of)
+  event_makes e reply t whole is = grind (arith, same_makes, step_of)
 
 -- ---- a fork and an exit
 
@@ -95,7 +95,7 @@ of_event gone s k e reply t numbers names is =
         (more_made (made_by e) (λ name. false) (new_by e a) (λ task number. gone == task) (slot_at s k) new (λ name off. names name) (numbers a) h) as_was
 
 task_event : (gone : ℕ) (s : State) (e : Event) (reply : Reply) (t : State) → IsOf gone e → IsEvent s e reply t → OfTask gone s t
-task_event gone s (Tasks e) reply t of is = grind (arith, common_steps, NoMore, no_more)
+task_event gone s (Tasks e) reply t of is = grind (arith, NoMore, no_more)
 task_event gone s (OnSlot k (slot.ExitMaps task)) reply t of is = of_event gone s k (slot.ExitMaps task) reply t (λ a t u off. refl) (λ name. refl) is
 task_event gone s (OnSlot k (slot.ForkMaps parent child)) reply t of is =
     of_event gone s k (slot.ForkMaps parent child) reply t (λ a t u off. ap (λ c. c == t) of ∙ off) (λ name. refl) is

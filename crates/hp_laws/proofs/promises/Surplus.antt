@@ -1,5 +1,4 @@
 -- A step that does not lower nr leaves surplus pages within overcommit, or no more than there were.
-use Rattle.std.proofs.lemmas.Grind.{common_steps}
 use Rattle.std.proofs.Common.{◌≡◌, ℕ, ◌+◌, ◌≤◌, true, refl, sym, ap, ◌∙◌, max, arith, length}
 use Rattle.std.proofs.lemmas.Bool.{cond_both}
 use Rattle.hp_model.specs.declared.event.Event.{Event}
@@ -36,10 +35,10 @@ abbrev Within : Pool → PoolAnswer × Pool → Type 0
 Within p q = q.1.committed ≤ max p.committed (p.nr + p.overcommit)
 
 granted_within : (p : Pool) (d : ℕ) → can_grant d p ≡ true → p.committed + d ≤ max p.committed (p.nr + p.overcommit)
-granted_within p d e = grind (arith, common_steps)
+granted_within p d e = grind arith
 
 section_within : (p : Pool) (x : Section) → Within p (section p x)
-section_within p x = grind (arith, common_steps, cond_both, granted_within, puts_are)
+section_within p x = grind (arith, cond_both, granted_within, puts_are)
 
 -- ---- events
 
@@ -50,7 +49,7 @@ record Commits (s t : State) : Type 0 where
 
 -- by the pool that is left
 by_pool : (s t : State) (q : Pool) → pool_of t ≡ q → q.nr ≡ s.nr → q.overcommit ≡ s.overcommit → q.committed ≤ max (committed_pages s) (s.nr + s.overcommit) → Commits s t
-by_pool s t q same nr overcommit le = grind (arith, common_steps)
+by_pool s t q same nr overcommit le = grind arith
 
 plan_commits : (s t : State) (p : Plan) → pool_of t ≡ pool_after s p → Commits s t
 plan_commits s t p same = grind (arith, by_pool, section_numbers, section_within)
@@ -78,11 +77,11 @@ same_bounded : (s t : State) → committed_pages t ≡ committed_pages s → IsB
 same_bounded s t same = λ le. omega (arith, same, le)
 
 pool_committed : (p : Pool) (e : PoolEvent) → (pool_event p e).1.committed ≡ p.committed
-pool_committed p e = grind (arith, common_steps)
+pool_committed p e = grind arith
 
 event_bounded : (s : State) → IsSettledState s → (e : Event) (reply : Reply) (t : State) → IsEvent s e reply t → IsBounded s t
 event_bounded s st (OnSlot k e) reply t is = bounded s t (slot_commits s st k e reply t is)
-event_bounded s st e reply t is = grind (arith, common_steps, bounded, table_commits, same_bounded, event_tied, pool_committed)
+event_bounded s st e reply t is = grind (arith, bounded, table_commits, same_bounded, event_tied, pool_committed)
 
 -- of scripts that end maps of a task
 abbrev Goes : (s t : State) → Type 0
@@ -94,7 +93,7 @@ goes_event gone s (OnSlot k e) reply t of is st = (event_settled s (OnSlot k e) 
 goes_event gone s (OnPool e) reply t of is st = absurd of
 
 goes_then : (s m t : State) → Goes s m → Goes m t → Goes s t
-goes_then s m t a b st = grind (arith, common_steps)
+goes_then s m t a b st = grind arith
 
 goes_same : (s : State) → Goes s s
 goes_same s st = (st, record { nr = refl; overcommit = refl; committed = omega arith })

@@ -66,7 +66,7 @@ Short o = Fits None o
 
 fits_test : (b : Bool) (r : Refusal) (ts : List (Bool × Refusal)) (p : Plan) → (b ≡ false → Always (Fits (first_failed ts)) p)
     → Always (Fits (if b then Some r else first_failed ts)) (if b then refuse r else p)
-fits_test b r ts p h = grind (arith, common_steps)
+fits_test b r ts p h = grind arith
 
 fits_tests : (ts us : List (Bool × Refusal)) (p : Plan) → Always (Fits (first_failed us)) p → Always (Fits (first_failed (ts ++ us))) (unless ts p)
 fits_tests [] us p h = h
@@ -74,16 +74,16 @@ fits_tests (t ∷ ts) us p h = fits_test t.0 t.1 (ts ++ us) (unless ts p) (λ e.
 
 fits_there : {X : Type 0} (o : Option X) (r : Refusal) (g : X → Option Refusal) (f : X → Plan) → ((x : X) → Always (Fits (g x)) (f x))
     → Always (Fits (if_there o r g)) (with_value o r f)
-fits_there o r g f h = grind (arith, common_steps)
+fits_there o r g f h = grind arith
 
 short_test : (b : Bool) (r : Refusal) (p : Plan) → Short (Refused r) → Always Short p → Always Short (if b then refuse r else p)
-short_test b r p e h = grind (arith, common_steps)
+short_test b r p e h = grind arith
 
 granted_short : (b : Bool) (o : Outcome) → Short o → Short (if b then o else Refused NoPages)
-granted_short b o h = grind (arith, common_steps)
+granted_short b o h = grind arith
 
 grant_short : (c : Choice) (m : Mount) (home k : ℕ) (o : Outcome) → Short o → Always Short (grant c m home k o)
-grant_short c m home k o h = grind (arith, common_steps)
+grant_short c m home k o h = grind arith
 
 gives_short : (old new : Slot) → Always Short (gives Done old new)
 gives_short old new = always_gives Short Done old new refl
@@ -94,7 +94,7 @@ module _ (c : Choice) (size : ℕ) (m : Mount) (s : Spot) (home i : ℕ) where
   kind_fits : (kind : Sharing) (intent : Intent) → is_unmapped s i ≡ false
       → Always (Fits (first_failed ((not (is_shared kind) && (s.map.unmapped && not (is_some (copy_of (place_at s.map i)))), TakenByOwner) ∷ [])))
       (if is_shared kind then shared_access c size m s home i (cell_at s.file i) else private_access c size m s home i (place_at s.map i) intent)
-  kind_fits kind intent live = grind (arith, common_steps)
+  kind_fits kind intent live = grind arith
 
   access_fits : (intent : Intent) → is_unmapped s i ≡ false → Always (Fits (first_failed (cut_off_test i s))) (access c size m s home i intent)
   access_fits intent live = kind_fits s.map.sharing intent live
@@ -103,7 +103,7 @@ module _ (c : Choice) (size : ℕ) (m : Mount) (s : Spot) (home i : ℕ) where
   fault_fits intent = grind (arith, common_steps)
 
   or_not : (a b : Bool) → (a || b) ≡ false → a ≡ false
-  or_not a b e = grind (arith, common_steps)
+  or_not a b e = grind arith
 
   bytes_fit : (offset count : ℕ) (intent : Intent) → Always (Fits (first_failed (byte_tests size i offset count s ++ cut_off_test i s))) (byte_access c size m home i offset count intent s)
   bytes_fit offset count intent =
@@ -113,7 +113,7 @@ module _ (c : Choice) (size : ℕ) (m : Mount) (s : Spot) (home i : ℕ) where
 
   -- what is done after an answer
   after_fits : (x : Option Refusal) (f : Mount → Outcome) → ((n : Mount) → Short (f n)) → ((n : Mount) (r : Refusal) → reply_of (f n) ≡ Err r → ⊥) → (o : Outcome) → Fits x o → Fits x (continued f o)
-  after_fits x f h done o fits = grind (arith, common_steps)
+  after_fits x f h done o fits = grind arith
 
   load_fits : (offset count : ℕ) → Always (Fits (first_failed (byte_tests size i offset count s ++ cut_off_test i s))) (load c size m home i offset count s)
   load_fits offset count =
@@ -122,7 +122,7 @@ module _ (c : Choice) (size : ℕ) (m : Mount) (s : Spot) (home i : ℕ) where
       always_then (Fits x) (Fits x) f (after_fits x f (λ n. refl) (λ n r e. cc)) (byte_access c size m home i offset count Read s) (bytes_fit offset count Read)
 
   store_fits : (offset : ℕ) (bytes : List ℕ) → Always (Fits (first_failed (byte_tests size i offset (length bytes) s ++ cut_off_test i s))) (store c size m home i offset bytes s)
-  store_fits offset bytes = grind (arith, common_steps)
+  store_fits offset bytes = grind arith
 
 -- ---- events
 
@@ -138,33 +138,33 @@ module _ (size k : ℕ) (c : Choice) where
 
   of_create : (old : Slot) (name : List ℕ) → Decides old (step.Create k name) (slot.Create name)
   of_create None name = refl
-  of_create (Some m) name = grind (arith, common_steps, fits_tests, short_test)
+  of_create (Some m) name = grind (arith, fits_tests, short_test)
 
   of_unlink : (old : Slot) (name : List ℕ) → Decides old (step.Unlink k name) (slot.Unlink name)
-  of_unlink old name = grind (arith, common_steps)
+  of_unlink old name = grind arith
 
   of_truncate : (old : Slot) (name : List ℕ) (n : ℕ) → Decides old (step.Truncate k name n) (slot.Truncate name n)
-  of_truncate old name n = grind (arith, common_steps)
+  of_truncate old name n = grind arith
 
   of_punch : (old : Slot) (name : List ℕ) (a b : ℕ) → Decides old (step.Punch k name a b) (slot.Punch name a b)
   of_punch None name a b = refl
-  of_punch (Some m) name a b = grind (arith, common_steps, fits_there, fits_tested, gives_short)
+  of_punch (Some m) name a b = grind (arith, fits_there, fits_tested, gives_short)
 
   of_preallocate : (old : Slot) (name : List ℕ) (a b : ℕ) → Decides old (step.Preallocate k name a b) (slot.Preallocate name a b)
   of_preallocate None name a b = refl
-  of_preallocate (Some m) name a b = grind (arith, common_steps, fits_there, fits_tested, always_if, short_test, granted_short)
+  of_preallocate (Some m) name a b = grind (arith, fits_there, fits_tested, always_if, short_test, granted_short)
 
   of_read : (old : Slot) (name : List ℕ) (i offset count : ℕ) → Decides old (step.Read k name i offset count) (slot.Read name i offset count)
   of_read old name i offset count = grind (arith, common_steps)
 
   of_ls : (old : Slot) → Decides old (step.Ls k) slot.Ls
-  of_ls old = grind (arith, common_steps)
+  of_ls old = grind arith
 
   of_stat : (old : Slot) (name : List ℕ) → Decides old (step.Stat k name) (slot.Stat name)
-  of_stat old name = grind (arith, common_steps)
+  of_stat old name = grind arith
 
   of_df : (old : Slot) → Decides old (step.Df k) slot.Df
-  of_df old = grind (arith, common_steps)
+  of_df old = grind arith
 
   of_map : (old : Slot) (task home : ℕ) (name : List ℕ) (a n : ℕ) (sharing : Sharing) (reserving : Reserving)
       → Decides old (step.Map task k name a n sharing reserving) (slot.Map task home name a n sharing reserving)
@@ -179,7 +179,7 @@ module _ (size k : ℕ) (c : Choice) where
 
   of_unmap : (old : Slot) (task number a b : ℕ) → Decides old (step.Unmap task k number a b) (slot.Unmap task number a b)
   of_unmap None task number a b = refl
-  of_unmap (Some m) task number a b = grind (arith, common_steps, fits_there, fits_tested, gives_short)
+  of_unmap (Some m) task number a b = grind (arith, fits_there, fits_tested, gives_short)
 
   of_fault : (old : Slot) (task home number i : ℕ) (intent : Intent) → Decides old (step.Fault task k number i intent) (slot.Fault task home number i intent)
   of_fault None task home number i intent = refl
@@ -208,7 +208,7 @@ table_meets (x ∷ ts) old after = by_test x.0 (table_meets ts old after)
   where
     by_test : (b : Bool) → IsRefusedBy (first_failed ts) (or_refused ts old (Ok Done, after)).0
         → IsRefusedBy (if b then Some x.1 else first_failed ts) (if◌then◌else◌ {A = Reply × Table} b (Err x.1, old) (or_refused ts old (Ok Done, after))).0
-    by_test b rest = grind (arith, common_steps)
+    by_test b rest = grind arith
 
 module _ (s : State) (reply : Reply) (t : State) where
   slot_meets : (k : ℕ) (x : Step) (e : SlotEvent) → ((c : Choice) → Decides s.page_size k c (slot_at s k) x e) → IsScript s (on_slot (length s.slots) k e) reply t → IsRefusedBy (failed_at s k x) reply
@@ -223,33 +223,33 @@ module _ (s : State) (reply : Reply) (t : State) where
 
   task_meets : (task : ℕ) (x : Option Refusal) (next : ℕ → Script) → ((home : ℕ) → IsScript s (next home) reply t → IsRefusedBy x reply) → IsScript s (finding task next) reply t
       → IsRefusedBy (if_there (home_of s.table task) NoSuchTask (λ home. x)) reply
-  task_meets task x next h is = grind (arith, common_steps)
+  task_meets task x next h is = grind arith
 
   access_meets : (task k : ℕ) (x : Step) (e : ℕ → SlotEvent) → ((home : ℕ) (c : Choice) → Decides s.page_size k c (slot_at s k) x (e home))
       → IsScript s (finding task (λ home. on_slot (length s.slots) k (e home))) reply t → IsRefusedBy (failed_by s task k x) reply
   access_meets task k x e all is = task_meets task (failed_at s k x) (λ home. on_slot (length s.slots) k (e home)) (λ home it. slot_meets k x (e home) (all home) it) is
 
   attach_meets : (task : ℕ) → IsEvent s (Tasks (table.Find task)) reply t → IsRefusedBy (failed s (step.Attach task)) reply
-  attach_meets task is = grind (arith, common_steps)
+  attach_meets task is = grind arith
 
   abbrev ks : List ℕ
   ks = range_with_len 0 (length s.slots)
 
   exit_meets : (task : ℕ) → IsScripted s (step.Exit task) reply t → IsRefusedBy (failed s (step.Exit task)) reply
-  exit_meets task is = grind (arith, common_steps, exits_done)
+  exit_meets task is = grind (arith, exits_done)
 
   pool_meets : (e : PoolEvent) (r : Reply) → (pool_event (pool_of s) e).0 ≡ r → IsEvent s (OnPool e) reply t → reply ≡ r
   pool_meets e r same is = sym (ap (λ (q : Reply × State). q.0) is.2) ∙ same
 
   overcommit_meets : (n : ℕ) (b : Bool) (p q : Pool) → IsRefusedBy (if not b then Some OutOfRange else None) (if◌then◌else◌ {A = Reply × Pool} b (Ok Done, p) (Err OutOfRange, q)).0
-  overcommit_meets n b p q = grind (arith, common_steps)
+  overcommit_meets n b p q = grind arith
 
   remount_meets : (k : ℕ) (options : List ℕ) → IsScripted s (step.Remount k options) reply t → IsRefusedBy (failed s (step.Remount k options)) reply
   remount_meets k options is = by_test (nat_lt k (length s.slots)) refl is
     where
       by_limits : (m : Mount) (first : Bool) (a : PoolAnswer) (l : ResultOf Limits Refusal)
           → IsRefusedBy (if first then Some SlotTaken else refused_limits l) (reply_of (if first then Refused SlotTaken else remount_outcome m a l))
-      by_limits m first a l = grind (arith, common_steps)
+      by_limits m first a l = grind arith
 
       by_slot : (old : Slot) → slot_at s k ≡ old → IsEvent s (OnSlot k (slot.Remount options)) reply t
           → IsRefusedBy (if_there old NoSuchSlot (λ m. failed_remount k (limits s.nr s.page_size (wanted_of options)))) reply
@@ -272,10 +272,10 @@ module _ (s : State) (reply : Reply) (t : State) where
   mount_meets k options is = by_test (nat_lt k (length s.slots)) is
     where
       by_limits : (c : Choice) (a : PoolAnswer) (l : ResultOf Limits Refusal) → IsRefusedBy (refused_limits l) (reply_of (mount_outcome c a l))
-      by_limits c a l = grind (arith, common_steps)
+      by_limits c a l = grind arith
 
       settled_reply : (u : State) (o : Outcome) → (with_outcome u k o).0 ≡ reply_of o
-      settled_reply u o = grind (arith, common_steps)
+      settled_reply u o = grind arith
 
       by_slot : (c : Choice) (old : Slot) → planned s k (slot_event s.page_size k c old (slot.Mount options)) ≡ (reply, t)
           → IsRefusedBy (failed_mount old (limits s.nr s.page_size (wanted_of options))) reply
@@ -318,10 +318,10 @@ module _ (s : State) (reply : Reply) (t : State) where
       by_reply (Ok a) mid h next it = next it
 
   fork_meets : (parent child : ℕ) → IsScripted s (step.Fork parent child) reply t → IsForkRefusedBy (failed s (step.Fork parent child)) reply
-  fork_meets parent child is = grind (arith, common_steps, slots_meet)
+  fork_meets parent child is = grind (arith, slots_meet)
 
   scripted_meets : (x : Step) → IsScripted s x reply t → MeetsTests s x reply
-  scripted_meets (step.Connect task home) is = grind (arith, common_steps, only_goes, table_meets)
+  scripted_meets (step.Connect task home) is = grind (arith, only_goes, table_meets)
   scripted_meets (step.Attach task) is = attach_meets task (only_goes s (Tasks (table.Find task)) reply t is)
   scripted_meets (step.Fork parent child) is = fork_meets parent child is
   scripted_meets (step.Exit task) is = exit_meets task is
@@ -332,8 +332,8 @@ module _ (s : State) (reply : Reply) (t : State) where
   scripted_meets (step.Unlink k name) is = slot_meets k (step.Unlink k name) (slot.Unlink name) (λ c. of_unlink s.page_size k c (slot_at s k) name) is
   scripted_meets (step.Truncate k name n) is = slot_meets k (step.Truncate k name n) (slot.Truncate name n) (λ c. of_truncate s.page_size k c (slot_at s k) name n) is
   scripted_meets (step.Punch k name a b) is = slot_meets k (step.Punch k name a b) (slot.Punch name a b) (λ c. of_punch s.page_size k c (slot_at s k) name a b) is
-  scripted_meets (step.Preallocate k name a b) is = grind (arith, common_steps, slot_meets, of_preallocate)
-  scripted_meets (step.Read k name i offset count) is = grind (arith, common_steps, slot_meets, of_read)
+  scripted_meets (step.Preallocate k name a b) is = grind (arith, slot_meets, of_preallocate)
+  scripted_meets (step.Read k name i offset count) is = grind (arith, slot_meets, of_read)
   scripted_meets (step.Ls k) is = slot_meets k (step.Ls k) slot.Ls (λ c. of_ls s.page_size k c (slot_at s k)) is
   scripted_meets (step.Stat k name) is = slot_meets k (step.Stat k name) (slot.Stat name) (λ c. of_stat s.page_size k c (slot_at s k) name) is
   scripted_meets (step.Df k) is = slot_meets k (step.Df k) slot.Df (λ c. of_df s.page_size k c (slot_at s k)) is
@@ -351,7 +351,7 @@ module _ (s : State) (reply : Reply) (t : State) where
       access_meets task k (step.Store task k number i offset bytes) (λ home. slot.Store task home number i offset bytes)
       (λ home c. of_store s.page_size k c (slot_at s k) task home number i offset bytes) is
   scripted_meets (step.Nr n) is = ap is_short (pool_meets (pool.Nr n) _ refl (only_goes s (OnPool (pool.Nr n)) reply t is))
-  scripted_meets (step.Overcommit n) is = grind (arith, common_steps, only_goes, overcommit_meets)
+  scripted_meets (step.Overcommit n) is = grind (arith, only_goes, overcommit_meets)
   scripted_meets step.Meminfo is = ap is_short (pool_meets pool.Meminfo _ refl (only_goes s (OnPool pool.Meminfo) reply t is))
   scripted_meets step.Nodes is = ap is_short (pool_meets pool.Nodes _ refl (only_goes s (OnPool pool.Nodes) reply t is))
 

@@ -64,7 +64,7 @@ long_granted home d p = long_surplus_times home (p.committed + d - total_of p.no
 pub long_section : (p : Pool) (s : Section) → length (section p s).1.nodes.rows ≡ length p.nodes.rows
 long_section p (TakePage home) = long_row take_row (near Free home p.nodes.rows) p.nodes.rows
 long_section p (GrantPage home d) = grind (arith, common_steps, cond_both, long_row, long_granted)
-long_section p s = grind (arith, common_steps, long_surplus_times, long_taken_times, long_give_back_times, long_puts)
+long_section p s = grind (arith, long_surplus_times, long_taken_times, long_give_back_times, long_puts)
 
 pub long_event : (p : Pool) (e : PoolEvent) → length (pool_event p e).1.nodes.rows ≡ length p.nodes.rows
 long_event p e = grind (arith, long_lower_times, long_raise_times, cond_both)

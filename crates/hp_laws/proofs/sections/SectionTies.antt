@@ -28,13 +28,13 @@ map_same f g a (suc k) h = ap (λ x. x ∷ map f (range_with_len (a + 1) k)) (h 
 
 map_past : (f g : ℕ → ℕ) (a k m : ℕ) → m < a → ((n : ℕ) → a ≤ n → n < a + k → g n ≡ f n + cond (m == n) 1 0) → map f (range_with_len a k) ≡ map g (range_with_len a k)
 map_past f g a zero m l h = refl
-map_past f g a (suc k) m l h = grind (arith, common_steps, ne_eqb, map_past f g (a + 1) k m (omega (arith, l)) (λ n l r. h n (omega (arith, l)) (omega (arith, r))))
+map_past f g a (suc k) m l h = grind (arith, ne_eqb, map_past f g (a + 1) k m (omega (arith, l)) (λ n l r. h n (omega (arith, l)) (omega (arith, r))))
 
 -- one more at a node of the range
 map_one : (f g : ℕ → ℕ) (a k j m : ℕ) → m ≡ a + j → ((n : ℕ) → a ≤ n → n < a + k → g n ≡ f n + cond (m == n) 1 0) → edit_at (λ x. x + 1) (map f (range_with_len a k)) j ≡ map g (range_with_len a k)
 map_one f g a zero j m e h = refl
-map_one f g a (suc k) zero m e h = grind (arith, common_steps, eq-eqb, map_past)
-map_one f g a (suc k) (suc j) m e h = grind (arith, common_steps, ne_eqb, map_one f g (a + 1) k j m (omega (arith, e)) (λ n l r. h n (omega (arith, l)) (omega (arith, r))))
+map_one f g a (suc k) zero m e h = grind (arith, eq-eqb, map_past)
+map_one f g a (suc k) (suc j) m e h = grind (arith, ne_eqb, map_one f g (a + 1) k j m (omega (arith, e)) (λ n l r. h n (omega (arith, l)) (omega (arith, r))))
 
 at_range : (f : ℕ → ℕ) (a k n : ℕ) → n < k → slice_index_or (map f (range_with_len a k)) n 0 ≡ f (a + n)
 at_range f a zero n l = absurd (omega (arith, l))
@@ -48,7 +48,7 @@ long_range a (suc k) = omega (arith, long_range (a + 1) k)
 -- ---- sections
 
 pub relead : (p q : Pool) (c d : ℕ) (us vs : List ℕ) → Leads p q c us → c ≡ d → us ≡ vs → Leads p q d vs
-relead p q c d us vs l e h = grind (arith, common_steps)
+relead p q c d us vs l e h = grind arith
 
 pub used_is : (p : Pool) → IsSettledPool p → used p ≡ sum (map row_used p.nodes.rows)
 used_is p s = omega (arith, used_sum p.nodes.rows s.rows)
@@ -68,7 +68,7 @@ pub same_list : (p : Pool) (f g : ℕ → ℕ) (k : ℕ) → k ≤ 4 → map row
 same_list p f g k few was pages = was ∙ map_same f g 0 k (λ n l. (let e = pages n (omega (arith, few, l)) in omega (arith, e)))
 
 compose : (p m q : Pool) (c d : ℕ) (us vs : List ℕ) → Leads p m c us → Leads m q d vs → Leads p q d vs
-compose p m q c d us vs a b = grind (arith, common_steps)
+compose p m q c d us vs a b = grind arith
 
 -- the section leads there, and takes no page at a node that there isn't
 abbrev pub Goal : Pool → PoolAnswer × Pool → Section → (ℕ → ℕ) → (ℕ → ℕ) → ℕ → ℕ → Type 0
@@ -140,7 +140,7 @@ one_more : (us : List ℕ) (i k : ℕ) → slice_index_or us k 0 ≤ slice_index
 one_more [] i k = omega arith
 one_more (u ∷ us) zero (suc k) = omega arith
 one_more (u ∷ us) (suc i) (suc k) = one_more us i k
-one_more (u ∷ us) i zero = grind (arith, common_steps)
+one_more (u ∷ us) i zero = grind arith
 
 sum_more : (us : List ℕ) (i : ℕ) → i < length us → sum (edit_at (λ x. x + 1) us i) ≡ sum us + 1
 sum_more [] i l = absurd (omega (arith, l))

@@ -38,7 +38,7 @@ long_as p q c us l = sym (length-map q.nodes.rows row_frames) ∙ ap length l.fr
 
 -- what a grant allows
 room : (p : Pool) (d : ℕ) → IsSettledPool p → can_grant d p ≡ true → p.committed + d ≤ frames_of p.nodes.rows
-room p d s e = grind (arith, common_steps, total-le-frames, eqb-true, leb-true, or_cases)
+room p d s e = grind (arith, total-le-frames, eqb-true, leb-true, or_cases)
 
 pub committed : (home d : ℕ) (p : Pool) → IsSettledPool p → can_grant d p ≡ true → Leads p (granted home d p) (p.committed + d) (map row_used p.nodes.rows)
 committed home d p s e =
@@ -118,7 +118,7 @@ gave_back puts k vs p s len each covers =
 -- ---- nr rises and falls
 
 then_leads : (p m q : Pool) (c : ℕ) (us : List ℕ) → Leads p m c us → Leads m q m.committed (map row_used m.nodes.rows) → Leads p q c us
-then_leads p m q c us a b = grind (arith, common_steps)
+then_leads p m q c us a b = grind arith
 
 -- the pool with these nodes, at another nr
 abbrev pub at_nr : ℕ → NodeRows → Pool → Pool

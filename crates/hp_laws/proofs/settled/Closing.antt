@@ -77,18 +77,18 @@ table_places nodes t (Remove task) few = at (home_of t task) refl
     at (Some home) is =
         let less = shorter {X = ℕ × ℕ} (λ e. e.0 == task) (λ e. e.1) t (ap is_some is) in
         record { enough = omega (arith, less, few); less = λ e. less }
-table_places nodes t e few = grind (arith, common_steps, cond_both, same_table, adds)
+table_places nodes t e few = grind (arith, cond_both, same_table, adds)
 
 -- ---- a slot
 
 few_of : (s : Slot) → to_exit s ≤ most_tasks → FewSlot s
-few_of s l = grind (arith, common_steps)
+few_of s l = grind arith
 
 enough_of : (s : Slot) → FewSlot s → to_exit s ≤ most_tasks
-enough_of s f = grind (arith, common_steps)
+enough_of s f = grind arith
 
 or_else : (a b c : Bool) → (b ≡ true → c ≡ true) → (a || b) ≡ true → (a || c) ≡ true
-or_else a b c h e = grind (arith, common_steps)
+or_else a b c h e = grind arith
 
 in_distinct : (q : ℕ) (xs : List ℕ) → is_among q xs ≡ true → is_among q (distinct xs) ≡ true
 in_distinct q [] e = e
@@ -106,12 +106,12 @@ has_task q (x ∷ xs) e = or_else (x.task == q) (list_any (is_of q) xs) (is_amon
 
 leaves_few : (size k : ℕ) (c : Choice) (old : Slot) (e : SlotEvent) → to_exit old ≤ most_tasks → removes_maps old e ≡ false
     → Always (λ o. KeepsPlaces most_tasks (to_exit old) (to_exit (left_by old o)) (removes_maps old e)) (slot_event size k c old e)
-leaves_few size k c old e few other = grind (arith, common_steps, always_weaker, FewSlot, enough_of, slots_stay_few, few_of)
+leaves_few size k c old e few other = grind (arith, always_weaker, FewSlot, enough_of, slots_stay_few, few_of)
 
 exit_places : (size k : ℕ) (c : Choice) (m : Mount) (task : ℕ) → length (tasks_of m) ≤ most_tasks → (b : Bool) → has_maps_of task (Some m) ≡ b
     → Always (λ o. KeepsPlaces most_tasks (to_exit (Some m)) (to_exit (left_by (Some m) o)) (has_maps_of task (Some m))) (slot_event size k c (Some m) (slot.ExitMaps task))
 exit_places size k c m task few false is = leaves_few size k c (Some m) (slot.ExitMaps task) few is
-exit_places size k c m task few true is = grind (arith, common_steps, exit_fewer, in_distinct, has_task, always_gives)
+exit_places size k c m task few true is = grind (arith, exit_fewer, in_distinct, has_task, always_gives)
 
 pub slot_places : (size k : ℕ) (c : Choice) (old : Slot) (e : SlotEvent) → to_exit old ≤ most_tasks
     → Always (λ o. KeepsPlaces most_tasks (to_exit old) (to_exit (left_by old o)) (removes_maps old e)) (slot_event size k c old e)
@@ -122,7 +122,7 @@ slot_places size k c old other few = leaves_few size k c old other few refl
 -- ---- the pool
 
 pub most_return : (p : Pool) → IsSettledPool p → to_return p ≤ 2 * frames_of p.nodes.rows
-most_return p s = grind (arith, common_steps, total-le-frames)
+most_return p s = grind (arith, total-le-frames)
 
 -- what is left of each
 abbrev minus : List ℕ → List ℕ → List ℕ
@@ -136,7 +136,7 @@ long (u ∷ us) [] = refl
 long (u ∷ us) (p ∷ ps) = ap suc (long us ps)
 
 nothing : (n : ℕ) → ◌≡◌ {A = ℕ} (slice_index_or [] n 0) 0
-nothing n = grind (arith, common_steps)
+nothing n = grind arith
 
 abbrev Within : List ℕ → List ℕ → Type 0
 Within ps us = (n : ℕ) → slice_index_or ps n 0 ≤ slice_index_or us n 0
@@ -178,7 +178,7 @@ given_less puts k p q s held is some =
 
 event_frames : (p : Pool) (e : PoolEvent) → IsSettledPool p → frames_of (pool_event p e).1.nodes.rows ≡ frames_of p.nodes.rows
 event_frames p (Nr n) s = same_frames (set_nr n p).nodes.rows p.nodes.rows (set_leads n p s).frames
-event_frames p e s = grind (arith, common_steps, cond_both)
+event_frames p e s = grind (arith, cond_both)
 
 pub step_frames : (p q : Pool) (e : PoolEntry) → IsSettledPool p → IsPoolStep p e q → frames_of q.nodes.rows ≡ frames_of p.nodes.rows
 step_frames p q (OfSlot sec a) s step = section_frames p sec a q step
@@ -186,4 +186,4 @@ step_frames p q (OfPool e r) s step = ap (λ (x : Reply × Pool). frames_of x.1.
 
 pub pool_places : (p q : Pool) (e : PoolEntry) → IsSettledPool p → IsSettledPool q → IsPoolStep p e q → GivesWhatIsInUse p e
     → KeepsPlaces (2 * frames_of p.nodes.rows) (to_return p) (to_return q) (is_giving_back e) × (frames_of q.nodes.rows ≡ frames_of p.nodes.rows)
-pool_places p q e s then step held = grind (arith, common_steps, most_return, step_frames, given_less, ltb-true)
+pool_places p q e s then step held = grind (arith, most_return, step_frames, given_less, ltb-true)

@@ -74,7 +74,7 @@ at_slot xs k j n lk lj h = grind (arith, common_steps)
 
 event_limited : (c : Choice) (s : State) (e : Event) (j : ℕ) → CanHappen c s e → j < length s.slots → IsSettledState s → IsLimited (slot_at s j) (slot_at (after c s e).1 j)
 event_limited c s (OnSlot k e) j can lj st = grind (arith, ltb-true, plan_limited, slots_are_balanced, left_sound, at_slot)
-event_limited c s e j can lj st = grind (arith, common_steps)
+event_limited c s e j can lj st = grind arith
 
 pub limits_hold : LimitsHold
 limits_hold s e reply t k l st is risen =

@@ -1,5 +1,4 @@
 -- Each event on a slot leaves it sound, whatever fresh stamp is chosen.
-use Rattle.std.proofs.lemmas.Grind.{common_steps}
 use Rattle.std.proofs.Common.{◌≡◌, ℕ, ◌+◌, ◌-◌, ◌<◌, ◌≤◌, ◌&&◌, ◌==◌, Bool, true, false, not, Option, None, Some, is_some}
 use Rattle.std.proofs.Common.{List, [], ◌∷◌, ◌++◌, length, map, set, arith, refl, sym, ap, ◌∙◌, subst, if◌then◌else◌}
 use Rattle.std.specs.List.{count_by, flat_map, list_any}
@@ -97,7 +96,7 @@ new_name m name other unused one =
 -- ---- accesses
 
 live_consumed : (b : Bool) (copy : Copy) → is_unconsumed (Live b (Some copy)) ≡ false → b ≡ true
-live_consumed b copy e = grind (arith, common_steps)
+live_consumed b copy e = grind arith
 
 module _ (m : Mount) (sound : IsSoundMount m) (s : Spot) (at : IsSpot m s) where
   -- other cells
@@ -111,7 +110,7 @@ module _ (m : Mount) (sound : IsSoundMount m) (s : Spot) (at : IsSpot m s) where
   Left Write i n = IsSoundMount n × (is_shared s.map.sharing ≡ false → IsSole n s.file_no s.map_no i)
 
   left : (intent : Intent) (i : ℕ) (n : Mount) → IsSoundMount n → (is_shared s.map.sharing ≡ false → IsSole n s.file_no s.map_no i) → Left intent i n
-  left intent i n h sole = grind (arith, common_steps)
+  left intent i n h sole = grind arith
 
   module _ (c : Choice) (new : is_among c.stamp (flat_map stamps_of m.files) ≡ false) (size home i : ℕ) (below : i < length s.file.cells) where
     -- no place holds the stamp that is chosen
@@ -127,7 +126,7 @@ module _ (m : Mount) (sound : IsSoundMount m) (s : Spot) (at : IsSpot m s) where
     shared_left e intent n h = left intent i n h (λ apart. cc)
 
     filled_left : is_shared s.map.sharing ≡ true → (intent : Intent) (page : Page) → Left intent i (with_file m s.file_no (with_cell s.file i (Present page)))
-    filled_left e intent page = grind (arith, common_steps, shared_left, cells_sound, length-set)
+    filled_left e intent page = grind (arith, shared_left, cells_sound, length-set)
 
     shared_sound : is_shared s.map.sharing ≡ true → (intent : Intent) (cell : Cell Page) → Always (On (Left intent i)) (shared_access c size m s home i cell)
     shared_sound e intent cell = grind (arith, shared_left, on_reserved_page, filled_left, on_grant_page)
@@ -144,7 +143,7 @@ module _ (m : Mount) (sound : IsSoundMount m) (s : Spot) (at : IsSpot m s) where
 
       -- an owner that asks for a grant has consumed
       owner_consumed : (consumed : Bool) → (s.map.owner && not consumed) ≡ false → s.map.owner ≡ true → consumed ≡ true
-      owner_consumed consumed e own = grind (arith, common_steps)
+      owner_consumed consumed e own = grind arith
 
       new_sound_copy : (intent : Intent) (consumed : Bool) → place_at s.map i ≡ Live consumed None → Always (On (Left intent i)) (new_copy c size m s home i consumed)
       new_sound_copy intent consumed is =
@@ -183,13 +182,13 @@ module _ (m : Mount) (sound : IsSoundMount m) (s : Spot) (at : IsSpot m s) where
 
   module _ (c : Choice) (new : is_among c.stamp (flat_map stamps_of m.files) ≡ false) (size home i : ℕ) where
     guarded : (intent : Intent) → Always (On (Left intent i)) (unless ((is_beyond s i, BeyondEnd) ∷ []) (access c size m s home i intent))
-    guarded intent = grind (arith, common_steps, always_test, On, access_sound, leb-false)
+    guarded intent = grind (arith, always_test, On, access_sound, leb-false)
 
     fault_left : (intent : Intent) → Always (On (Left intent i)) (fault c size m home i intent s)
-    fault_left intent = grind (arith, common_steps, always_unless, On, guarded)
+    fault_left intent = grind (arith, always_unless, On, guarded)
 
     bytes_left : (offset count : ℕ) (intent : Intent) → Always (On (Left intent i)) (byte_access c size m home i offset count intent s)
-    bytes_left offset count intent = grind (arith, common_steps, always_unless, On, guarded)
+    bytes_left offset count intent = grind (arith, always_unless, On, guarded)
 
 -- ---- the bytes of a store
 
@@ -235,12 +234,12 @@ module _ (n : Mount) (sound : IsSoundMount n) (s : Spot) (i offset : ℕ) (bytes
       (λ own. live_consumed live.0 sole.copy (sym (ap is_unconsumed live.1) ∙ old.consumed own)))
 
   written_sound : (is_shared s.map.sharing ≡ false → IsSole n s.file_no s.map_no i) → IsSoundMount after
-  written_sound sole = grind (arith, common_steps, shared_written, private_written)
+  written_sound sole = grind (arith, shared_written, private_written)
 
 -- ---- the events of a mount
 
 read_left : (m : Mount) (sound : IsSoundMount m) (s : Spot) (at : IsSpot m s) (i : ℕ) (intent : Intent) (n : Mount) → Left m sound s at intent i n → IsSoundMount n
-read_left m sound s at i intent n h = grind (arith, common_steps)
+read_left m sound s at i intent n h = grind arith
 
 pub empty_sound : (l : Limits) → IsSoundMount (record { limits = l; files = [] })
 empty_sound l = record { files = λ k d l. absurd (omega (arith, l)); stamps = λ stamp. omega arith; numbers = λ task number. omega arith; names = λ name. omega arith }
@@ -308,7 +307,7 @@ module _ (size k : ℕ) (c : Choice) (m : Mount) (sound : IsSoundMount m) (new :
 -- ---- a slot
 
 left_good : (m : Mount) → IsSoundMount m → (o : Outcome) → On IsSoundMount o → IsSound (left_by (Some m) o)
-left_good m sound o on = grind (arith, common_steps)
+left_good m sound o on = grind arith
 
 abbrev GoesOn : Slot → Outcome → Type 0
 GoesOn old o = IsSound (left_by old o)
@@ -318,7 +317,7 @@ slots_stay_sound size k c None (slot.Mount options) new sound = always_mount (Go
 slots_stay_sound size k c None other new sound = tt
 slots_stay_sound size k c (Some m) (slot.Remount options) new sound =
     always_remount (GoesOn (Some m)) (λ r. sound) m (λ l. record { files = sound.files; stamps = sound.stamps; numbers = sound.numbers; names = sound.names }) size k options
-slots_stay_sound size k c (Some m) slot.Umount new sound = grind (arith, common_steps, always_unless, always_gives)
+slots_stay_sound size k c (Some m) slot.Umount new sound = grind (arith, always_unless, always_gives)
 slots_stay_sound size k c (Some m) e new sound =
     always_weaker (On IsSoundMount) (GoesOn (Some m)) (left_good m sound) (on_mount size k c m e)
     (walk size k c m (λ e. Always (On IsSoundMount)) (leaves_walk size k c m IsSoundMount (stays_sound size k c m sound (not-true _ new))) e refl)

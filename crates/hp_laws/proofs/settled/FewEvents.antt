@@ -1,5 +1,4 @@
 -- How many events a step is told by.
-use Rattle.std.proofs.lemmas.Grind.{common_steps}
 use Rattle.std.proofs.Common.{◌≡◌, inl, inr, ℕ, zero, suc, ◌+◌, ◌*◌, ◌<◌, ◌≤◌, Ok, Err, List, [], ◌∷◌, ◌++◌, length, arith, subst, nat_lt}
 use Rattle.std.specs.List.{range_with_len}
 use Rattle.std.proofs.lemmas.Bool.{cond_both}
@@ -31,7 +30,7 @@ most (suc n) (Do e next) all [] reply t = absurd t
 most (suc n) (Do e next) all (x ∷ xs) reply t = (let l = most n (next x.1) (all x.1) xs reply t.1 in omega (arith, l))
 most n (Where_mapped k task mapped other) all xs reply (inl t) = most n mapped all.0 xs reply t
 most n (Where_mapped k task mapped other) all xs reply (inr t) = most n other all.1 xs reply t
-most n (Answer_with r) all xs reply t = grind (arith, common_steps)
+most n (Answer_with r) all xs reply t = grind arith
 
 front : (n : ℕ) (s : Script) → AtMost n s → (xs : List (Event × Reply)) → TellsFront s xs → length xs < n
 front n (Answer_with r) all xs t = absurd t
@@ -55,7 +54,7 @@ slot_one : (slots k : ℕ) (e : SlotEvent) → AtMost 1 (on_slot slots k e)
 slot_one slots k e = cond_both (nat_lt k slots) (only (OnSlot k e)) (Answer_with (Err NoSuchSlot)) (AtMost 1) (λ t r. tt) (λ t. tt)
 
 finding_two : (slots k : ℕ) (f : ℕ → SlotEvent) (r : Reply) → AtMost 1 (home_in r (λ home. on_slot slots k (f home)))
-finding_two slots k f r = grind (arith, common_steps)
+finding_two slots k f r = grind arith
 
 exits : (ks : List ℕ) (task n : ℕ) (next : Script) → AtMost n next → AtMost (length ks + n) (exit_slots ks task next)
 exits [] task n next all = subst (λ m. AtMost m next) (omega arith) all
@@ -110,7 +109,7 @@ steps slots (Exit task) =
     let all : AtMost (suc slots) (script slots (Exit task)) = exit_most slots task in
     let is : suc slots ≡ slots + 1 = omega arith in
     subst (λ n. AtMost n (script slots (Exit task))) is all
-steps slots step = grind (arith, common_steps, slot_one, finding_two)
+steps slots step = grind (arith, slot_one, finding_two)
 
 pub receipts_are_few : (slots : ℕ) (step : Step) (xs : List (Event × Reply)) →
     ((reply : Reply) → Tells (script slots step) xs reply → length xs ≤ most_receipts slots step)

@@ -44,7 +44,7 @@ use Rattle.hp_laws.proofs.names.Meanings.{written_key}
 -- ---- a list whose numbers are all in another has no more different ones
 
 cond_le : (b : Bool) (n : ℕ) → n ≤ cond b n (n + 1)
-cond_le b n = grind (arith, common_steps)
+cond_le b n = grind arith
 
 grows : (ys xs : List ℕ) → length (distinct xs) ≤ length (distinct (ys ++ xs))
 grows [] xs = omega arith
@@ -52,7 +52,7 @@ grows (y ∷ ys) xs = (let before = grows ys xs in let is = length_if (is_among 
     let le = cond_le (is_among y (ys ++ xs)) (length (distinct (ys ++ xs))) in omega (arith, before, is, le))
 
 covers : (a b : Bool) → (b ≡ true → a ≡ true) → (a || b) ≡ a
-covers a b h = grind (arith, common_steps)
+covers a b h = grind arith
 
 pub fewer : (xs ys : List ℕ) → ((q : ℕ) → is_among q xs ≡ true → is_among q ys ≡ true) → length (distinct xs) ≤ length (distinct ys)
 fewer xs ys within =
@@ -61,13 +61,13 @@ fewer xs ys within =
     omega (arith, more, same)
 
 or_right : (a b : Bool) → b ≡ true → (a || b) ≡ true
-or_right a b e = grind (arith, common_steps)
+or_right a b e = grind arith
 
 or_both : (a b c : Bool) → (b ≡ true → c ≡ true) → (a || b) ≡ true → (a || c) ≡ true
-or_both a b c h e = grind (arith, common_steps)
+or_both a b c h e = grind arith
 
 neither : (a b : Bool) → (a || b) ≡ false → (a ≡ false) × (b ≡ false)
-neither a b e = grind (arith, common_steps)
+neither a b e = grind arith
 
 distinct_in : (q : ℕ) (xs : List ℕ) → is_among q (distinct xs) ≡ true → is_among q xs ≡ true
 distinct_in q [] e = e
@@ -84,10 +84,10 @@ abbrev tasks : List Map → List ℕ
 tasks xs = map (λ (x : Map). x.task) xs
 
 one_or : (b : Bool) (n : ℕ) (r : Bool) → (0 < n → r ≡ true) → 0 < bit b + n → (b || r) ≡ true
-one_or b n r h l = grind (arith, common_steps)
+one_or b n r h l = grind arith
 
 or_one : (b : Bool) (n : ℕ) (r : Bool) → (r ≡ true → 0 < n) → (b || r) ≡ true → 0 < bit b + n
-or_one b n r h e = grind (arith, common_steps)
+or_one b n r h e = grind arith
 
 among_some : (q : ℕ) (xs : List Map) → 0 < count_by (is_of q) xs → is_among q (tasks xs) ≡ true
 among_some q [] l = absurd (omega (arith, l))
@@ -171,7 +171,7 @@ module _ (size k : ℕ) (c : Choice) (m : Mount) (few : Few m) where
 
       fits : (a b : Bool) → (a ≡ true → b ≡ true) → (not a && nat_le most_tasks (length (tasks_of m))) ≡ false → cond b (length (tasks_of m)) (length (tasks_of m) + 1) ≤ most_tasks
       fits true true h e = few
-      fits a b h e = grind (arith, common_steps, leb-false)
+      fits a b h e = grind (arith, leb-false)
 
   edited_few : (q : ℕ × File) (g : File) → IsFileAt m q.0 q.1 → ((t : ℕ) → count_by (is_of t) g.maps ≤ count_by (is_of t) q.1.maps) → Few (swept (with_file m q.0 g))
   edited_few q g at le = less_few (swept (with_file m q.0 g)) (λ t. (let set = set_le t m q.0 q.1 g at (le t) in omega (arith, set, swept_le t (with_file m q.0 g))))
@@ -202,7 +202,7 @@ module _ (size k : ℕ) (c : Choice) (m : Mount) (few : Few m) where
 
   -- a map of a task more, where not too many are there
   no_task_over : (task n : ℕ) → AreFewMaps m task n → is_new_task_over m task ≡ false
-  no_task_over task n few = grind (arith, common_steps)
+  no_task_over task n few = grind arith
 
   -- ---- each event
 
@@ -242,7 +242,7 @@ FewSlot None = Unit {0}
 FewSlot (Some m) = Few m
 
 left_few : (m : Mount) → Few m → (o : Outcome) → On Few o → FewSlot (left_by (Some m) o)
-left_few m few o on = grind (arith, common_steps)
+left_few m few o on = grind arith
 
 abbrev Stays : Slot → Outcome → Type 0
 Stays old o = FewSlot (left_by old o)
@@ -258,7 +258,7 @@ slots_stay_few size k c (Some m) e few = always_weaker (On Few) (Stays (Some m))
 -- ---- a task's exit
 
 one_stays : (b : Bool) (q : ℕ) (x : Map) (ys : List Map) → is_of q x ≡ b → count_by (is_of q) ys ≡ 0 → count_by (is_of q) (cond (not b) (x ∷ ys) ys) ≡ 0
-one_stays b q x ys e none = grind (arith, common_steps)
+one_stays b q x ys e none = grind arith
 
 none_stay : (q : ℕ) (xs : List Map) → count_by (is_of q) (filter (λ (x : Map). not (is_of q x)) xs) ≡ 0
 none_stay q [] = refl
@@ -280,7 +280,7 @@ exits_le q t m =
     omega (arith, each, swept_le t all)
 
 not_true : (b : Bool) → (b ≡ true → ⊥) → b ≡ false
-not_true b h = grind (arith, common_steps)
+not_true b h = grind arith
 
 -- the exit of a task that has maps leaves maps of a task less
 pub exit_fewer : (q : ℕ) (m : Mount) → is_among q (tasks_of m) ≡ true → length (tasks_of (without_task q m)) < length (tasks_of m)

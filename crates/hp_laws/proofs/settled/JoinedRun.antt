@@ -181,7 +181,7 @@ module _ (table : Table) (ends : ℕ → Slot) (numbers : Pool) where
 
   pool_next : (p : Pool) (asked : Option Asked) (rest : List PoolEntry) → IsPoolRun p (option_cons (second (section_entry asked)) rest) numbers
       → (q : Pool) × PoolGoes p asked q × IsPoolRun q rest numbers
-  pool_next p asked rest run = grind (arith, common_steps)
+  pool_next p asked rest run = grind arith
 
   steps : (s : State) (place : ℕ) (entry : Entry) (items : List Item) → IsSettledState s
       → IsTableRun (length s.nodes) s.table (option_cons (task_entry entry) (of_tasks items)) table
@@ -211,7 +211,7 @@ module _ (table : Table) (ends : ℕ → Slot) (numbers : Pool) where
 -- ---- the places dropped
 
 cons_second : {X : Type 0} (o : Option (ℕ × X)) (xs : List (ℕ × X)) → option_cons (second o) (map (λ x. x.1) xs) ≡ map (λ x. x.1) (option_cons o xs)
-cons_second o xs = grind (arith, common_steps)
+cons_second o xs = grind arith
 
 keep_second : {X : Type 0} (f : Item → Option (ℕ × X)) (g : Item → Option X) → ((i : Item) → g i ≡ second (f i)) → (items : List Item) → keep g items ≡ map (λ x. x.1) (keep f items)
 keep_second f g same [] = refl
@@ -222,7 +222,7 @@ numbered_second k [] = refl
 numbered_second k (x ∷ xs) = ap (λ ys. x ∷ ys) (numbered_second (k + 1) xs)
 
 placed_second : {X : Type 0} (place : ℕ) (o : Option X) → o ≡ second (placed place o)
-placed_second place o = grind (arith, common_steps)
+placed_second place o = grind arith
 
 dropped : {X : Type 0} (f : Item → Option (ℕ × X)) (g : Item → Option X) (items : List Item) (xs : List X) → ((i : Item) → g i ≡ second (f i)) → keep f items ≡ numbered 0 xs → keep g items ≡ xs
 dropped f g items xs same is = keep_second f g same items ∙ ap (map (λ x. x.1)) is ∙ numbered_second 0 xs

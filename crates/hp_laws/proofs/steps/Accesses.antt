@@ -1,6 +1,5 @@
 -- Each access balances.
 use Rattle.std.proofs.Common.{arith}
-use Rattle.std.proofs.lemmas.Grind.{common_steps}
 use Rattle.std.proofs.Common.{◌≡◌, ℕ, ◌<◌, Bool, true, false, ◌&&◌, not, None, Some, List, length, map, refl, ap, ◌∙◌, if◌then◌else◌}
 use Rattle.std.proofs.lemmas.Bool.{cond_both, and_parts, not-true}
 use Rattle.hp_model.specs.declared.answer.Answer.TheVariants.{Done}
@@ -101,7 +100,7 @@ module _ (c : Choice) (size : ℕ) (m : Mount) (s : Spot) (at : IsSpot m s) (agr
   private_balanced p intent is = grind (arith, stays, copy_balanced, cond_both, uncopied_balanced)
 
   pub access_balanced : (intent : Intent) → i < length s.file.cells → IsBalanced (Some m) (access c size m s home i intent)
-  access_balanced intent l = grind (arith, common_steps, cond_both, shared_balanced, private_balanced)
+  access_balanced intent l = grind (arith, cond_both, shared_balanced, private_balanced)
 
 pub written_same : (m : Mount) (s : Spot) (i offset : ℕ) (bytes : List ℕ) → MountGrows m (written m s i offset bytes) 0 0 0
 written_same m s i offset bytes = edit_grows m s.file_no (file_written s i offset bytes) (writes (is_shared s.map.sharing) s.map_no i offset bytes)

@@ -25,7 +25,7 @@ use Rattle.hp_laws.proofs.lists.Places.{any_two, any_unset, any_set_up, any_set_
 use Rattle.hp_laws.proofs.lists.AtMostOne.{bit}
 
 the_other : (a b c : Bool) → c ≡ (a || b) → (a ≡ true → b ≡ true) → b ≡ c
-the_other a b c e h = grind (arith, common_steps)
+the_other a b c e h = grind arith
 
 module _ (f : File) (k : ℕ) (m : Map) (i : ℕ) (c : Bool) (old new : Copy) (here : IsMapAt f k m) (is : place_at m i ≡ Live c (Some old)) where
   abbrev rest : File
@@ -44,7 +44,7 @@ module _ (f : File) (k : ℕ) (m : Map) (i : ℕ) (c : Bool) (old new : Copy) (h
       (ap (place_has t) at.is ∙ or_false (t old.stamp old.page.node)))
 
   after_has : (t : ℕ → ℕ → Bool) → file_has t after ≡ (t new.stamp new.page.node || file_has t rest)
-  after_has t = grind (arith, common_steps, any_two, at, or_false)
+  after_has t = grind (arith, any_two, at, or_false)
 
   held_still : is_held_once f old.stamp ≡ false → file_has (is_stamp old.stamp) rest ≡ true
   held_still more =
@@ -84,10 +84,10 @@ module _ (f : File) (k : ℕ) (m : Map) (i : ℕ) (c : Bool) (old new : Copy) (h
 -- ---- the owner takes the copy back
 
 dropped_down : (t : ℕ → ℕ → Bool) (b : Bool) (p : Place Copy) → place_has t (if b then without_copy p else p) ≡ true → place_has t p ≡ true
-dropped_down t b p e = grind (arith, common_steps)
+dropped_down t b p e = grind arith
 
 robbed_if : (t : ℕ → ℕ → Bool) (stamp : ℕ) (b : Bool) (m : Map) → map_has t (if b then record m { unmapped = true; places = map (drop_stamp stamp) m.places } else m) ≡ true → map_has t m ≡ true
-robbed_if t stamp b m e = grind (arith, common_steps, any_map_down, dropped_down)
+robbed_if t stamp b m e = grind (arith, any_map_down, dropped_down)
 
 robbed_down : (t : ℕ → ℕ → Bool) (stamp : ℕ) (m : Map) → map_has t (robbed stamp m) ≡ true → map_has t m ≡ true
 robbed_down t stamp m e = robbed_if t stamp (list_any (holds stamp) m.places) m e
@@ -100,20 +100,20 @@ abbrev only : ℕ → (ℕ → ℕ → Bool) → ℕ → ℕ → Bool
 only stamp t s n = t s n && (s == stamp)
 
 kept_place : (t : ℕ → ℕ → Bool) (stamp : ℕ) (p : Place Copy) → place_has (but stamp t) p ≡ true → place_has (but stamp t) (drop_stamp stamp p) ≡ true
-kept_place t stamp p e = grind (arith, common_steps)
+kept_place t stamp p e = grind arith
 
 kept_map : (t : ℕ → ℕ → Bool) (stamp : ℕ) (b : Bool) (m : Map) → map_has (but stamp t) m ≡ true
     → map_has (but stamp t) (if b then record m { unmapped = true; places = map (drop_stamp stamp) m.places } else m) ≡ true
-kept_map t stamp b m e = grind (arith, common_steps, any_map_up, kept_place)
+kept_map t stamp b m e = grind (arith, any_map_up, kept_place)
 
 robbed_keeps : (t : ℕ → ℕ → Bool) (stamp : ℕ) (m : Map) → map_has (but stamp t) m ≡ true → map_has (but stamp t) (robbed stamp m) ≡ true
 robbed_keeps t stamp m e = kept_map t stamp (list_any (holds stamp) m.places) m e
 
 which_place : (t : ℕ → ℕ → Bool) (stamp : ℕ) (p : Place Copy) → place_has t p ≡ true → (place_has (but stamp t) p ≡ true) ⊎ (place_has (only stamp t) p ≡ true)
-which_place t stamp p e = grind (arith, common_steps)
+which_place t stamp p e = grind arith
 
 which : (t : ℕ → ℕ → Bool) (stamp : ℕ) (f : File) → file_has t f ≡ true → (file_has (but stamp t) f ≡ true) ⊎ (file_has (only stamp t) f ≡ true)
-which t stamp f e = grind (arith, common_steps, any_either, which_place)
+which t stamp f e = grind (arith, any_either, which_place)
 
 -- a copy that passes
 pub record Holds (t : ℕ → ℕ → Bool) (has : (ℕ → ℕ → Bool) → Bool) : Type 0 where
@@ -123,7 +123,7 @@ pub record Holds (t : ℕ → ℕ → Bool) (has : (ℕ → ℕ → Bool) → Bo
   pub held : has (is_stamp_at node stamp) ≡ true
 
 place_some : (t : ℕ → ℕ → Bool) (p : Place Copy) → place_has t p ≡ true → Holds t (λ u. place_has u p)
-place_some t p e = grind (arith, common_steps)
+place_some t p e = grind arith
 
 any_some : {X : Type 0} (t : ℕ → ℕ → Bool) (has : (ℕ → ℕ → Bool) → X → Bool) → ((x : X) → has t x ≡ true → Holds t (λ u. has u x)) → (xs : List X) →
     list_any (has t) xs ≡ true → Holds t (λ u. list_any (has u) xs)
@@ -137,7 +137,7 @@ pub some_copy : (t : ℕ → ℕ → Bool) (f : File) → file_has t f ≡ true 
 some_copy t f e = any_some t map_has (λ m. any_some t place_has (place_some t) m.places) f.maps e
 
 same_bool : (a b : Bool) → (a ≡ true → b ≡ true) → (b ≡ true → a ≡ true) → a ≡ b
-same_bool a b f g = grind (arith, common_steps)
+same_bool a b f g = grind arith
 
 robbed_reserves : (stamp : ℕ) (b : Bool) (m : Map) → owner_reserves (if b then record m { unmapped = true; places = map (drop_stamp stamp) m.places } else m) ≡ owner_reserves m
 robbed_reserves stamp b m = grind (arith, common_steps)
@@ -199,20 +199,20 @@ module _ (f : File) (k : ℕ) (m : Map) (i : ℕ) (c : Bool) (copy : Copy) (here
 
 cell_same : (offset : ℕ) (bytes : List ℕ) (test : Cell Page → Bool) → ((p q : Page) → p.node ≡ q.node → test (Present p) ≡ test (Present q)) →
     (x : Cell Page) → bit (test (cell_written offset bytes x)) ≡ bit (test x)
-cell_same offset bytes test h q = grind (arith, common_steps)
+cell_same offset bytes test h q = grind arith
 
 place_same : (t : ℕ → ℕ → Bool) (offset : ℕ) (bytes : List ℕ) (p : Place Copy) → place_has t (place_written offset bytes p) ≡ place_has t p
-place_same t offset bytes p = grind (arith, common_steps)
+place_same t offset bytes p = grind arith
 
 place_owes : (offset : ℕ) (bytes : List ℕ) (p : Place Copy) → bit (is_unconsumed (place_written offset bytes p)) ≡ bit (is_unconsumed p)
-place_owes offset bytes p = grind (arith, common_steps)
+place_owes offset bytes p = grind arith
 
 map_owes : (i offset : ℕ) (bytes : List ℕ) (m : Map) → owner_reserves (map_written i offset bytes m) ≡ owner_reserves m
-map_owes i offset bytes m = grind (arith, common_steps, sum_by-edit_at, place_owes)
+map_owes i offset bytes m = grind (arith, sum_by-edit_at, place_owes)
 
 pub writes : (b : Bool) (k i offset : ℕ) (bytes : List ℕ) (f : File)
     → FileGrows f (if b then record f { cells = edit_at (cell_written offset bytes) f.cells i } else record f { maps = edit_at (map_written i offset bytes) f.maps k }) 0 0 0
-writes true k i offset bytes f = grind (arith, common_steps, sum_by-edit_at, cell_same, spent)
+writes true k i offset bytes f = grind (arith, sum_by-edit_at, cell_same, spent)
 writes false k i offset bytes f =
     let g : File = record f { maps = edit_at (map_written i offset bytes) f.maps k } in
     let has = λ (t : ℕ → ℕ → Bool). any_edit_at (map_has t) (map_written i offset bytes)

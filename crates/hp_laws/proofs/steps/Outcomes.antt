@@ -31,11 +31,11 @@ pub always_test : (P : Outcome → Type 0) (b : Bool) (r : Refusal) (p : Plan) �
 always_test P b r p stops h = cond_both b (refuse r) p (Always P) (λ e. stops) h
 
 pub always_weaker : (P Q : Outcome → Type 0) → ((o : Outcome) → P o → Q o) → (p : Plan) → Always P p → Always Q p
-always_weaker P Q h p all = grind (arith, common_steps)
+always_weaker P Q h p all = grind arith
 
 -- what follows an answer, where P holds of the outcome before it
 pub always_then : (P Q : Outcome → Type 0) (f : Mount → Outcome) → ((o : Outcome) → P o → Q (continued f o)) → (p : Plan) → Always P p → Always Q (and_then f p)
-always_then P Q f h p all = grind (arith, common_steps)
+always_then P Q f h p all = grind arith
 
 -- ---- an event on a slot
 
@@ -65,7 +65,7 @@ event_ends P s k e reply t h is =
 
 -- by a choice of the script
 pub either_way : {P Q R : Type 0} (b : Bool) → (P → R) → (Q → R) → MatchBool b P Q → R
-either_way b f g is = grind (arith, common_steps)
+either_way b f g is = grind arith
 
 -- nothing but a refusal
 pub record IsLeft (s : State) (r : Refusal) (reply : Reply) (t : State) : Type 0 where
@@ -76,9 +76,9 @@ pub only_goes : (s : State) (e : Event) (reply : Reply) (t : State) → IsScript
 only_goes s e reply t is = subst (λ x. IsEvent s e x t) (sym is.3.0) (subst (λ x. IsEvent s e is.0 x) (sym is.3.1) is.2)
 
 pub slot_goes : (s : State) (n k : ℕ) (e : SlotEvent) (reply : Reply) (t : State) → IsScript s (on_slot n k e) reply t → IsLeft s NoSuchSlot reply t ⊎ IsEvent s (OnSlot k e) reply t
-slot_goes s n k e reply t = grind (arith, common_steps)
+slot_goes s n k e reply t = grind arith
 
 -- the task is found, or nothing happens
 pub finding_goes : (s : State) (task : ℕ) (next : ℕ → Script) (reply : Reply) (t : State) → IsScript s (finding task next) reply t
     → IsLeft s NoSuchTask reply t ⊎ ((home : ℕ) × IsScript s (next home) reply t)
-finding_goes s task next reply t is = grind (arith, common_steps)
+finding_goes s task next reply t is = grind arith

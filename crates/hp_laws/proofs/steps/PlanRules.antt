@@ -1,6 +1,5 @@
 -- What each way of making a plan has, the plan of each event has: one walk over the accesses and the events of a mount.
 use Rattle.std.proofs.Common.{arith}
-use Rattle.std.proofs.lemmas.Grind.{common_steps}
 use Rattle.std.proofs.Common.{ℕ, ◌&&◌, ◌==◌, Bool, true, not, None, Some, List, [], ◌∷◌, length, if◌then◌else◌}
 use Rattle.std.specs.List.{sum}
 use Rattle.std.proofs.lemmas.Bool.{cond_both}
@@ -109,7 +108,7 @@ module _ (W : Plan → Type 0) where
       plan_private p intent = grind (arith, plan_copy, either, plan_uncopied)
 
       plan_access : (intent : Intent) → W (access c size m s home i intent)
-      plan_access intent = grind (arith, common_steps, either, plan_shared, plan_private)
+      plan_access intent = grind (arith, either, plan_shared, plan_private)
 
       plan_bytes : (offset count : ℕ) (intent : Intent) → W (byte_access c size m home i offset count intent s)
       plan_bytes offset count intent = tested (byte_tests size i offset count s) (access c size m s home i intent) (plan_access intent)

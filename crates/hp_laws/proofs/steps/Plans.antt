@@ -35,21 +35,21 @@ balanced_test old b r ts p h = cond_both b (refuse r) (unless ts p) (IsBalanced 
 -- ---- an outcome by the pool's answer
 
 grown_reserved : (m n : Mount) (node : ℕ) → MountGrows m n node 1 0 → Change (Some m) (Some n) 0 0 (λ x. if node == x then 1 else 0) (λ x. 0) 1
-grown_reserved m n node grows = grind (arith, common_steps)
+grown_reserved m n node grows = grind arith
 
 pub grown_same : (m n : Mount) → MountGrows m n 0 0 0 → Stays (Some m) (Some n)
-grown_same m n grows = grind (arith, common_steps)
+grown_same m n grows = grind arith
 
 -- ---- a page
 
 -- by the answer, a page with the grant, or else the same counts
 pub page_granted : (m : Mount) (n : ℕ → Mount) (o : Outcome) (b : Bool) (node : ℕ) → is_full m 1 ≡ false → MountGrows m (n node) node 1 1 → Stays (Some m) (left_by (Some m) o)
     → Change (Some m) (left_by (Some m) (if b then Answered Done (Some (n node)) else o)) (if b then rise m 1 else 0) 0 (λ x. if b && (node == x) then 1 else 0) (λ x. 0) (if b then 1 else 0)
-page_granted m n o b node room grows same = grind (arith, common_steps)
+page_granted m n o b node room grows same = grind arith
 
 pub balanced_grant_page : (c : Choice) (m : Mount) (home : ℕ) (n : ℕ → Mount) → ((node : ℕ) → MountGrows m (n node) node 1 1)
     → IsBalanced (Some m) (grant_page c m home (λ node. Answered Done (Some (n node))))
-balanced_grant_page c m home n grows = grind (arith, common_steps)
+balanced_grant_page c m home n grows = grind arith
 
 pub balanced_reserved_page : (m : Mount) (home : ℕ) (n : ℕ → Mount) → ((node : ℕ) → MountGrows m (n node) node 1 0)
     → IsBalanced (Some m) (reserved_page home (λ node. Answered Done (Some (n node))))
@@ -73,7 +73,7 @@ balanced_fill c m n k u grows =
 -- ---- reservations
 
 pub balanced_grant : (c : Choice) (m n : Mount) (home k : ℕ) (answer : Answer) → MountGrows m n 0 0 k → IsBalanced (Some m) (grant c m home k (Answered answer (Some n)))
-balanced_grant c m n home k answer grows = grind (arith, common_steps)
+balanced_grant c m n home k answer grows = grind arith
 
 -- ---- giving back
 
@@ -83,16 +83,16 @@ pub record SlotFalls (old new : Slot) : Type 0 where
   pub usage : slot_usage new ≤ slot_usage old
 
 pub balanced_gives : (a : Answer) (old new : Slot) → SlotFalls old new → IsBalanced old (gives a old new)
-balanced_gives a old new falls = grind (arith, common_steps)
+balanced_gives a old new falls = grind arith
 
 pub mount_falls : (m n : Mount) → MountFalls m n → SlotFalls (Some m) (Some n)
-mount_falls m n falls = grind (arith, common_steps)
+mount_falls m n falls = grind arith
 
 -- ---- what follows
 
 then_stays : (old : Slot) (m n : Mount) (raised lowered : ℕ) (taken put : ℕ → ℕ) (takes : ℕ) → Change old (Some m) raised lowered taken put takes →
     MountGrows m n 0 0 0 → Change old (Some n) raised lowered taken put takes
-then_stays old m n raised lowered taken put takes first grows = grind (arith, common_steps)
+then_stays old m n raised lowered taken put takes first grows = grind arith
 
 then_same : (old : Slot) (answer : Mount → Answer) (h : Mount → Mount) (o : Outcome) (raised lowered : ℕ) (taken put : ℕ → ℕ) (takes : ℕ)
     → ((m : Mount) → MountGrows m (h m) 0 0 0) → Change old (left_by old o) raised lowered taken put takes

@@ -1,5 +1,4 @@
 -- A refused event leaves everything as it was.
-use Rattle.std.proofs.lemmas.Grind.{common_steps}
 use Rattle.std.proofs.Common.{◌≡◌, subst, ℕ, Bool, true, false, None, Some, Result, Err, List, refl, sym, ap, ◌∙◌, arith, if◌then◌else◌}
 use Rattle.std.specs.Bool.{MatchBool}
 use Rattle.std.specs.Prelude.{max}
@@ -54,25 +53,25 @@ done o = record { keeps = tt }
 
 by_grant : (b : Bool) (p q : Pool) (a : PoolAnswer) (f : PoolAnswer → Outcome) (r : Refusal) → (f a ≡ Refused r → q ≡ p)
     → f (if◌then◌else◌ {A = PoolAnswer × Pool} b (a, q) (no_pages, p)).0 ≡ Refused r → (if◌then◌else◌ {A = PoolAnswer × Pool} b (a, q) (no_pages, p)).1 ≡ p
-by_grant b p q a f r h e = grind (arith, common_steps)
+by_grant b p q a f r h e = grind arith
 
 then_refused : (answer : Mount → Answer) (h : Mount → Mount) (o : Outcome) (r : Refusal) → continued (λ m. Answered (answer m) (Some (h m))) o ≡ Refused r → o ≡ Refused r
-then_refused answer h o r e = grind (arith, common_steps)
+then_refused answer h o r e = grind arith
 
 keeps_then : (answer : Mount → Answer) (h : Mount → Mount) (p : Plan) → IsKept never p → IsKept never (and_then (λ m. Answered (answer m) (Some (h m))) p)
 keeps_then answer h p k = grind (arith, then_refused)
 
 both_answer : (b : Bool) (a1 a2 : Answer) (s1 s2 : Slot) (r : Refusal) → (if◌then◌else◌ {A = Outcome} b (Answered a1 s1) (Answered a2 s2)) ≡ Refused r → ⊥
-both_answer b a1 a2 s1 s2 r e = grind (arith, common_steps)
+both_answer b a1 a2 s1 s2 r e = grind arith
 
 -- a grant of nothing leaves a settled pool as it is
 pub granted_none : (p : Pool) → total_of p.nodes.rows ≡ max p.nr p.committed → granted 0 0 p ≡ p
-granted_none p total = grind (arith, common_steps)
+granted_none p total = grind arith
 
 -- the section of a remount that is refused
 remount_keeps : (m : Mount) (l : Result Limits Refusal) (p : Pool) (r : Refusal) → IsSettledPool p → remount_outcome m (section p (remount_section m l)).0 l ≡ Refused r
     → (section p (remount_section m l)).1 ≡ p
-remount_keeps m l p r st is = grind (arith, common_steps)
+remount_keeps m l p r st is = grind arith
 
 keep_rules : PlanRules (IsKept never)
 keep_rules = record {
@@ -103,7 +102,7 @@ keep_rules = record {
 -- ---- a mount
 
 settled_already : (p : Pool) → IsSettledPool p → settled_pool (released 0 p) ≡ p
-settled_already p s = grind (arith, common_steps)
+settled_already p s = grind arith
 
 late_memory : Refusal → Bool
 late_memory OutOfMemory = true
@@ -114,7 +113,7 @@ mount_keeps : (stamp : ℕ) (refused after_grant granted_it : Bool) (l : Result 
     → (granted_it ≡ true → mount_pages (record { stamp = stamp; refused = refused; after_grant = after_grant }) l ≡ 0 → q ≡ p) → (granted_it ≡ false → q ≡ p)
     → mount_outcome (record { stamp = stamp; refused = refused; after_grant = after_grant }) (nr_answer granted_it p) l ≡ Refused r → q ≡ p
 unfolding late_memory
-mount_keeps stamp refused after_grant granted_it l p q r late free none is = grind (arith, common_steps, late_memory)
+mount_keeps stamp refused after_grant granted_it l p q r late free none is = grind (arith, late_memory)
 
 -- the section of a mount, granted or not
 mount_section_keeps : (c : Choice) (l : Result Limits Refusal) (p : Pool) (r : Refusal) → IsSettledPool p → late_memory r ≡ false
@@ -146,7 +145,7 @@ keeps_on_none size c other = record { keeps = tt }
 -- ---- the machine
 
 settled_refused : (s : State) (k : ℕ) (o : Outcome) (r : Refusal) (t : State) → with_outcome s k o ≡ (Err r, t) → (o ≡ Refused r) × (t ≡ s)
-settled_refused s k o r t e = grind (arith, common_steps)
+settled_refused s k o r t e = grind arith
 
 plan_refused : (late : Refusal → Bool) (s : State) (k : ℕ) (p : Plan) (r : Refusal) (t : State) → IsKept late p → IsSettledState s → late r ≡ false → planned s k p ≡ (Err r, t) → t ≡ s
 plan_refused late s k (Finish o) r t kept st on_time e = (settled_refused s k o r t e).1
@@ -158,10 +157,10 @@ plan_refused late s k (Ask sec f) r t kept st on_time e =
 
 mount_numbers : (b : Bool) (p : Pool) (d : ℕ) → ((section p (if b then GrantAndReturn d else ReadAndGrant d)).1.nr ≡ p.nr)
     × ((section p (if b then GrantAndReturn d else ReadAndGrant d)).1.overcommit ≡ p.overcommit)
-mount_numbers b p d = grind (arith, common_steps)
+mount_numbers b p d = grind arith
 
 same_but_nodes : (s : State) (p : Pool) (t : State) → t ≡ with_pool s p → p.nr ≡ s.nr → p.overcommit ≡ s.overcommit → SameButNodes s t
-same_but_nodes s p t e nr overcommit = grind (arith, common_steps)
+same_but_nodes s p t e nr overcommit = grind arith
 
 mount_refused : (s : State) (k : ℕ) (c : Choice) (old : Slot) (options : List ℕ) (r : Refusal) (t : State) →
     planned s k (slot_event s.page_size k c old (slot.Mount options)) ≡ (Err r, t) → SameButNodes s t
@@ -175,13 +174,13 @@ mount_refused s k c None options r t e =
 
 pick_late : (k : ℕ) (options : List ℕ) (A B : Type 0) (r : Refusal) → A → (late_memory r ≡ false → B) → MatchBool (is_late (OnSlot k (slot.Mount options)) r) A B
 unfolding late_memory
-pick_late k options A B r a b = grind (arith, common_steps)
+pick_late k options A B r a b = grind arith
 
 plain_keeps : (late : Refusal → Bool) (p : Plan) → IsKept never p → IsKept late p
 plain_keeps late p k = grind arith
 
 keeps_slot : (size k : ℕ) (c : Choice) (old : Slot) (e : SlotEvent) → IsKept late_memory (slot_event size k c old e)
-keeps_slot size k c old e = grind (arith, common_steps, keeps_on_none, plain_keeps, late_memory, plan_walk, keep_rules)
+keeps_slot size k c old e = grind (arith, keeps_on_none, plain_keeps, late_memory, plan_walk, keep_rules)
 
 slot_refused : (s : State) (k : ℕ) (c : Choice) (e : SlotEvent) (r : Refusal) (t : State) → IsSettledState s → planned s k (slot_event s.page_size k c (slot_at s k) e) ≡ (Err r, t)
     → MatchBool (is_late (OnSlot k e) r) (SameButNodes s t) (t ≡ s)
@@ -197,10 +196,10 @@ slot_refused s k c other r t st e = plan_refused never s k _ r t (keeps_other (s
 -- ---- the task table, and the pool alone
 
 table_refused : (nodes : ℕ) (old : Table) (e : TableEvent) (r : Refusal) → (table_event nodes old e).0 ≡ Err r → (table_event nodes old e).1 ≡ old
-table_refused nodes old e r = grind (arith, common_steps)
+table_refused nodes old e r = grind arith
 
 pool_refused : (p : Pool) (e : PoolEvent) (r : Refusal) → (pool_event p e).0 ≡ Err r → (pool_event p e).1 ≡ p
-pool_refused p e r = grind (arith, common_steps)
+pool_refused p e r = grind arith
 
 -- ---- every event
 

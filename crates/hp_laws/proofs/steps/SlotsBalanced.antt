@@ -1,5 +1,4 @@
 -- Each event on a slot balances.
-use Rattle.std.proofs.lemmas.Grind.{common_steps}
 use Rattle.std.proofs.Common.{◌≡◌, subst, ℕ, Bool, false, ◌||◌, ◌==◌, None, Some, Result, List, [], ◌∷◌, length, refl, ap, ◌∙◌, arith, if◌then◌else◌}
 use Rattle.std.specs.List.{list_any, flat_map}
 use Rattle.std.proofs.lemmas.Bool.{cond_both, not-true, leb-false, false_from_ne_true, both_ways}
@@ -83,7 +82,7 @@ module _ (c : Choice) (size : ℕ) (m : Mount) (sound : IsSoundMount m) (new : i
   fault_balanced intent = balanced_unless (Some m) ((is_unmapped s i, OutOfRange) ∷ []) (unless ((is_beyond s i, BeyondEnd) ∷ []) (access c size m s home i intent)) (guarded intent)
 
   byte_balanced : (offset count : ℕ) (intent : Intent) → IsBalanced (Some m) (byte_access c size m home i offset count intent s)
-  byte_balanced offset count intent = grind (arith, common_steps, balanced_unless, guarded)
+  byte_balanced offset count intent = grind (arith, balanced_unless, guarded)
 
   load_balanced : (offset count : ℕ) → IsBalanced (Some m) (load c size m home i offset count s)
   load_balanced offset count =
@@ -104,20 +103,20 @@ mount_by : (stamp : ℕ) (refused after_grant granted : Bool) (node nr : ℕ) (p
     → Moves None (mount_section (record { stamp = stamp; refused = refused; after_grant = after_grant }) (mount_pages (record { stamp = stamp; refused = refused; after_grant = after_grant }) l))
     (record { granted = granted; node = node; nr = nr; pages = pages })
     (left_by None (mount_outcome (record { stamp = stamp; refused = refused; after_grant = after_grant }) (record { granted = granted; node = node; nr = nr; pages = pages }) l))
-mount_by stamp refused after_grant granted node nr pages l = grind (arith, common_steps)
+mount_by stamp refused after_grant granted node nr pages l = grind arith
 
 pub tells_nr : (p : Pool) (after_grant : Bool) (d : ℕ) → (section p (if after_grant then GrantAndReturn d else ReadAndGrant d)).0.nr ≡ p.nr
-tells_nr p after_grant d = grind (arith, common_steps)
+tells_nr p after_grant d = grind arith
 
 -- ---- remount
 
 remount_by : (m : Mount) (granted : Bool) (node nr : ℕ) (pages : List ℕ) (l : Result Limits Refusal)
     → Moves (Some m) (remount_section m l) (record { granted = granted; node = node; nr = nr; pages = pages })
     (left_by (Some m) (remount_outcome m (record { granted = granted; node = node; nr = nr; pages = pages }) l))
-remount_by m granted node nr pages l = grind (arith, common_steps)
+remount_by m granted node nr pages l = grind arith
 
 pub remount_tells : (p : Pool) (m : Mount) (l : Result Limits Refusal) → (section p (remount_section m l)).0.nr ≡ p.nr
-remount_tells p m l = grind (arith, common_steps)
+remount_tells p m l = grind arith
 
 on_none_balanced : (size : ℕ) (c : Choice) (e : SlotEvent) → IsBalanced None (on_none size c e)
 on_none_balanced size c (MountEvent options) = (
@@ -179,4 +178,4 @@ module _ (size slot : ℕ) (c : Choice) (m : Mount) (sound : IsSoundMount m) (ne
       (balanced_gives Done (Some m) None (record { committed = omega arith; each = λ n. omega arith; usage = omega arith })) e
 
 pub slots_are_balanced : SlotsAreBalanced
-slots_are_balanced size slot c h3 e new sound = grind (arith, common_steps, on_none_balanced, on_mount_balanced, not-true)
+slots_are_balanced size slot c h3 e new sound = grind (arith, on_none_balanced, on_mount_balanced, not-true)

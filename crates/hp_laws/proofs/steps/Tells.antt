@@ -1,6 +1,5 @@
 -- What an event asks of the pool depends on nr only where the pool tells it.
 use Rattle.std.proofs.Common.{arith}
-use Rattle.std.proofs.lemmas.Grind.{common_steps}
 use Rattle.std.proofs.Common.{◌≡◌, ℕ}
 use Rattle.hp_model.specs.declared.answer.Answer.{Answer}
 use Rattle.hp_model.specs.declared.event.SlotEvent.{SlotEvent}
@@ -18,7 +17,7 @@ Tells (Finish o) = Unit {0}
 Tells (Ask s f) = (p : Pool) (a : PoolAnswer) (q : Pool) → section p (s a.nr) ≡ (a, q) → s p.nr ≡ s a.nr
 
 tell_rules : PlanRules Tells
-tell_rules = grind (arith, common_steps, remount_tells)
+tell_rules = grind (arith, remount_tells)
 
 pub tells_gives : (a : Answer) (old new : Slot) → Tells (gives a old new)
 tells_gives a old new = plan_gives Tells tell_rules a old new
@@ -27,4 +26,4 @@ on_none_tells : (size : ℕ) (c : Choice) (e : SlotEvent) → Tells (on_none siz
 on_none_tells size c e = grind (arith, tells_nr)
 
 pub slot_event_tells : (size slot : ℕ) (c : Choice) (old : Slot) (e : SlotEvent) → Tells (slot_event size slot c old e)
-slot_event_tells size slot c old e = grind (arith, common_steps, on_none_tells, plan_walk, tell_rules)
+slot_event_tells size slot c old e = grind (arith, on_none_tells, plan_walk, tell_rules)

@@ -33,7 +33,7 @@ module _ (W : Plan → Type 0) (refuses : (r : Refusal) → W (refuse r)) where
   plan_unless (t ∷ ts) p h = cond_both t.0 (refuse t.1) (unless ts p) W (λ e. refuses t.1) (λ e. plan_unless ts p h)
 
   pub plan_value : {X : Type 0} (o : Option X) (r : Refusal) (f : X → Plan) → ((x : X) → o ≡ Some x → W (f x)) → W (with_value o r f)
-  plan_value o r f h = grind (arith, common_steps)
+  plan_value o r f h = grind arith
 
 -- ---- events
 
@@ -59,7 +59,7 @@ abbrev pub AreFewMaps : Mount → ℕ → ℕ → Type 0
 AreFewMaps m task n = (nat_lt most_map_pages n || are_too_many_maps m task) ≡ false
 
 both_parts : (a b c : Bool) → (a || b || c) ≡ false → (a || b) ≡ false
-both_parts a b c e = grind (arith, common_steps)
+both_parts a b c e = grind arith
 
 -- nor a fork's
 abbrev pub ForksFewMaps : Mount → (parent child : ℕ) → Type 0
@@ -111,10 +111,10 @@ module _ (size k : ℕ) (c : Choice) (m : Mount) (W : SlotEvent → Plan → Typ
     -- so it is of each event but a remount and an umount
     pub walk : (e : SlotEvent) → relimits e ≡ false → W e (on_mount size k c m e)
     walk slot.Umount stays = cc
-    walk (slot.Anon task home n sharing reserving) stays = grind (arith, common_steps, tested, cond_both, both_parts)
+    walk (slot.Anon task home n sharing reserving) stays = grind (arith, tested, cond_both, both_parts)
     walk (slot.Preallocate name a b) stays = grind (arith, common_steps, of_file, tested, cond_both)
-    walk e stays = grind (arith, common_steps, of_file, of_map, tested, passed)
+    walk e stays = grind (arith, of_file, of_map, tested, passed)
 
     -- and of these too, where it is of setting limits and of giving all back
     pub walk_all : ((options : List ℕ) → W (slot.Remount options) (remounting size m options)) → W slot.Umount (gives Done (Some m) None) → (e : SlotEvent) → W e (on_mount size k c m e)
-    walk_all remounts none e = grind (arith, common_steps, tested, walk)
+    walk_all remounts none e = grind (arith, tested, walk)

@@ -1,6 +1,5 @@
 -- From events to steps: what the one event of a step does is what the step does. A fork and an exit are several events.
 use Rattle.std.proofs.Common.{arith}
-use Rattle.std.proofs.lemmas.Grind.{common_steps}
 use Rattle.std.proofs.Common.{◌≡◌, ⊎_elim, subst, ℕ, ◌==◌, Bool, true, false, Err, length, refl, sym}
 use Rattle.hp_model.specs.declared.event.Event.{Event}
 use Rattle.hp_model.specs.declared.event.Event.TheVariants.{Tasks, Slot as OnSlot, Pool as OnPool}
@@ -73,7 +72,7 @@ is_early NoSuchTask = true
 is_early other = false
 
 pub early_pages : (r : Refusal) → is_early r ≡ true → is_for_pages r ≡ false
-early_pages r early = grind (arith, common_steps)
+early_pages r early = grind arith
 
 -- ---- what holds of each event holds of each step
 
