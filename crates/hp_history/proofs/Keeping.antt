@@ -1,6 +1,7 @@
 -- Each step of a seat keeps the rule.
+use Rattle.std.proofs.lemmas.Grind.{common_steps}
 use Rattle.std.proofs.Common.{◌≡◌, ◌≢◌, ℕ, zero, suc, ◌+◌, ◌*◌, ◌/◌, ◌%◌, ◌^◌, ◌<◌, ◌≤◌, ◌==◌, replicate, Option, None, Some, Bool}
-use Rattle.std.proofs.Common.{true, false, List, [], ◌∷◌, ◌++◌, length, set, refl, sym, ap, ◌∙◌, subst, ⊎_elim, arith, eq-eqb, ne_eqb}
+use Rattle.std.proofs.Common.{true, List, [], ◌∷◌, ◌++◌, length, set, refl, sym, ap, ◌∙◌, subst, ⊎_elim, arith, eq-eqb, ne_eqb}
 use mathlib.Core.Option.{some, some-ne-none, some-injective}
 use prog.Atomic.{either}
 use lib.ListN.{get_elem?}
@@ -12,7 +13,7 @@ use Rattle.hp_model.specs.declared.entry.Receipt.{Receipt}
 use Rattle.hp_model.specs.machine.Table.{Table, added, home_of, removed}
 use Rattle.hp_model.specs.threads.JointRun.{keep, option_cons, receipt_of}
 use Rattle.hp_history.specs.declared.held.Held.{Held}
-use Rattle.hp_history.specs.declared.held.Held.TheVariants.{Tasks, Pool, Opener, Slot, Session, Busy}
+use Rattle.hp_history.specs.declared.held.Held.TheVariants.{Opener, Session}
 use Rattle.hp_history.specs.declared.law.Shape.{Shape}
 use Rattle.hp_history.specs.History.{Each, Fits, IsNoted, IsQuiet, IsSession, Turns, Whole, IsWithin, IsSeatStep, Has, parts_of, Kept, Ends, CanGo, Mark}
 use Rattle.hp_history.specs.History.{Done, Open, Looked, IsOpener, sessions_in, opened, new_session, all_parts, held_from, told_mark, there}
@@ -95,8 +96,7 @@ given [] to owner p = owner p
 given (q ∷ qs) to owner p = either (p == q) to (given qs to owner p)
 
 either_same : (b : Bool) (to x : ℕ) → x ≡ to → either b to x ≡ to
-either_same true to x e = refl
-either_same false to x e = e
+either_same b to x e = grind (arith, common_steps)
 
 given_here : (qs : List ℕ) (to : ℕ) (owner : ℕ → ℕ) → Each (λ p. given qs to owner p ≡ to) qs
 unfolding given
@@ -152,9 +152,7 @@ with_session : Whole → Whole
 with_session z = record { marks = z.marks; sessions = z.sessions + 1 }
 
 still_within : (slots : Shape) (sessions : ℕ) (m : Mark) → IsWithin slots sessions m → IsWithin slots (sessions + 1) m
-still_within slots sessions (Done i) h = (h.0, omega (arith, h.1))
-still_within slots sessions (Open k by a) h = (h.0, omega (arith, h.1))
-still_within slots sessions (Looked task home by) h = (h.0, omega (arith, h.1))
+still_within slots sessions m h = grind (arith, common_steps)
 
 none_told : (slots : Shape) (n : ℕ) (ms : List Mark) → Each (IsWithin slots n) ms → keep (told_mark n) ms ≡ []
 none_told slots n [] h = refl
@@ -172,12 +170,7 @@ none_told slots n (Looked task home by ∷ ms) h =
 still_has : (slots : Shape) (z : Whole) (x : Held) → Each (λ p. Each (λ q. p ≢ q) (2 ∷ [])) (parts_of x) → Has slots z x
     → Each (λ p. Each (λ q. p ≢ q) ((2 * z.sessions + 4) ∷ [])) (parts_of x) × Has slots (with_session z) x
 unfolding with_session
-still_has slots z (Tasks es) a t = ((((λ e. omega arith), tt), tt), t)
-still_has slots z (Pool es) a t = ((((λ e. omega arith), tt), tt), t)
-still_has slots z (Opener n) a t = absurd (a.0.0 refl)
-still_has slots z (Slot k es) a t = ((((λ e. omega arith), tt), tt), t)
-still_has slots z (Session n rs) a t = ((((λ e. omega (arith, t.0)), tt), tt), (omega (arith, t.0), t.1))
-still_has slots z (Busy k es n rs c) a t = ((((λ e. omega arith), tt), (((λ e. omega (arith, t.1)), tt), tt)), (t.0, omega (arith, t.1), t.2, t.3, t.4))
+still_has slots z x a t = grind (arith, common_steps)
 
 opens_one : (slots : Shape) (id n : ℕ) → Splits (holds slots) id (Opener n ∷ []) (Opener (n + 1) ∷ []) (Session n [] ∷ [])
 unfolding with_session

@@ -1,17 +1,16 @@
 -- The steps by which an event of the pool is told, and one of a slot enters its section and is over.
-use Rattle.std.proofs.Common.{◌≡◌, ◌⊎◌, inl, inr, None, Some, List, [], ◌∷◌, ◌++◌, length, refl, sym, ap, ◌∙◌, subst}
+use Rattle.std.proofs.Common.{◌≡◌, inl, inr, None, Some, List, [], ◌∷◌, ◌++◌, length, refl, sym, ap, ◌∙◌, subst}
 use Rattle.hp_model.specs.declared.entry.Asked.{Asked}
 use Rattle.hp_model.specs.declared.entry.PoolEntry.{PoolEntry}
-use Rattle.hp_model.specs.declared.entry.Receipt.{Receipt}
 use Rattle.hp_model.specs.declared.event.PoolEvent.{PoolEvent}
 use Rattle.hp_model.specs.declared.event.SlotEvent.{SlotEvent}
 use Rattle.hp_model.specs.machine.Plan.{Reply}
 use Rattle.hp_history.specs.declared.held.Held.{Held}
-use Rattle.hp_history.specs.declared.held.Held.TheVariants.{Pool, Session}
+use Rattle.hp_history.specs.declared.held.Held.TheVariants.{Pool}
 use Rattle.hp_history.specs.declared.law.Shape.{Shape}
 use Rattle.hp_history.specs.History.{IsQuiet, IsSeatStep, Whole, number_in, receipts_in}
 use Rattle.hp_history.proofs.Steps.{open_quiet, open_step, over_quiet, over_step, pool_quiet, pool_step, slot_quiet, slot_step}
-use Rattle.hp_history.specs.Sections.{IsHeld, asked_in, busy, entering, entries_of_pool, free_slot, once_over, section_at, pool_item, pool_over, session_view, entry_with, slot_in, slot_item, trail_in}
+use Rattle.hp_history.specs.Sections.{IsHeld, asked_in, busy, entering, free_slot, once_over, section_at, pool_item, pool_over, session_view, entry_with, slot_in, slot_item, trail_in}
 
 pub enter_step : (slots : Shape) (ps : List PoolEntry) (a : Asked) (w v : List Held) → v ≡ Pool ps ∷ free_slot w ∷ session_view w ∷ []
     → (f : Whole → Whole) × IsSeatStep slots f v (entering a v) × IsQuiet slots f v

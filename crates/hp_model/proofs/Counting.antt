@@ -1,4 +1,5 @@
 -- How many elements of a list, and how many indices of a range, pass a test.
+use Rattle.std.proofs.lemmas.Grind.{common_steps}
 use Rattle.std.proofs.Common.{◌≡◌, ℕ, zero, suc, ◌+◌, ◌-◌, ◌<◌, ◌≤◌, Bool, true, false, not, ◌&&◌, ◌||◌, cond, List, [], ◌∷◌, length, map, sym, refl, ap, ◌∙◌, subst, arith, ⊎_elim}
 use Rattle.std.specs.List.{range_with_len, count_by}
 use Rattle.std.proofs.lemmas.Bool.{cases_lt, false_from_ne_true}
@@ -10,25 +11,20 @@ pub count_cons : {X : Type 0} (p : X → Bool) (x : X) (xs : List X) → count_b
 count_cons p x xs = sum_by-cons (λ x. cond (p x) 1 0) x xs
 
 pub count_alike : {X : Type 0} (p r : X → Bool) → ((x : X) → p x ≡ r x) → (xs : List X) → count_by p xs ≡ count_by r xs
-count_alike p r alike [] = refl
-count_alike p r alike (x ∷ xs) =
-    count_cons p x xs ∙ ap (λ t. cond t 1 0 + count_by p xs) (alike x) ∙ ap (λ n. cond (r x) 1 0 + n) (count_alike p r alike xs) ∙ sym (count_cons r x xs)
+count_alike p r alike xs = grind (arith, common_steps)
 
 pub count_map : {X Y : Type 0} (p : Y → Bool) (f : X → Y) (xs : List X) → count_by p (map f xs) ≡ count_by (λ x. p (f x)) xs
-count_map p f [] = refl
-count_map p f (x ∷ xs) = count_cons p (f x) (map f xs) ∙ ap (λ n. cond (p (f x)) 1 0 + n) (count_map p f xs) ∙ sym (count_cons (λ x. p (f x)) x xs)
+count_map p f xs = grind (arith, common_steps)
 
 either_one : (t : Bool) → cond (not t) 1 0 + cond t 1 0 ≡ 1
-either_one true = refl
-either_one false = refl
+either_one t = grind (arith, common_steps)
 
 pub count_not : {X : Type 0} (p : X → Bool) (xs : List X) → count_by (λ x. not (p x)) xs + count_by p xs ≡ length xs
 count_not p [] = refl
 count_not p (x ∷ xs) = omega (arith, count_not p xs, count_cons p x xs, count_cons (λ x. not (p x)) x xs, either_one (p x))
 
 one_of : (t u : Bool) → (t ≡ true → u ≡ false) → cond (t || u) 1 0 ≡ cond t 1 0 + cond u 1 0
-one_of true u not_both = rw (not_both refl) refl
-one_of false u not_both = omega arith
+one_of t u not_both = grind (arith, common_steps)
 
 -- where no element passes both
 pub count_or : {X : Type 0} (p r : X → Bool) → ((x : X) → p x ≡ true → r x ≡ false) → (xs : List X) → count_by (λ x. p x || r x) xs ≡ count_by p xs + count_by r xs
@@ -36,9 +32,7 @@ count_or p r apart [] = refl
 count_or p r apart (x ∷ xs) = omega (arith, count_or p r apart xs, count_cons (λ x. p x || r x) x xs, count_cons p x xs, count_cons r x xs, one_of (p x) (r x) (apart x))
 
 parted : (p w : Bool) → cond {A = ℕ} p 1 0 ≡ cond {A = ℕ} (p && w) 1 0 + cond {A = ℕ} (p && not w) 1 0
-parted true true = refl
-parted true false = refl
-parted false w = refl
+parted p w = grind (arith, common_steps)
 
 pub count_parted : {X : Type 0} (p w : X → Bool) (xs : List X) → count_by p xs ≡ count_by (λ x. p x && w x) xs + count_by (λ x. p x && not (w x)) xs
 count_parted p w [] = refl

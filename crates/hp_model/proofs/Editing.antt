@@ -1,9 +1,9 @@
 -- An edit of a range, place by place.
-use Rattle.std.proofs.Common.{◌≡◌, ℕ, zero, suc, ◌+◌, ◌-◌, ◌<◌, ◌≤◌, List, [], ◌∷◌, ◌++◌, length, take, drop, map, get_or, set, sym, refl, ap, ◌∙◌, arith, append_assoc}
-use Rattle.std.proofs.lemmas.List.{get_or-take, get_or-drop, get_or_append_left, get_or-append_right, length-take, length-drop, length-append}
+use Rattle.std.proofs.lemmas.Grind.{common_steps}
+use Rattle.std.proofs.Common.{◌≡◌, ℕ, zero, suc, ◌+◌, ◌-◌, ◌<◌, ◌≤◌, List, [], ◌∷◌, ◌++◌, length, take, drop, map, get_or, set, refl, ap, ◌∙◌, arith, append_assoc}
+use Rattle.std.proofs.lemmas.List.{get_or-take, get_or-drop, get_or_append_left, get_or-append_right, length-take, length-drop}
 use Rattle.std.proofs.lemmas.List.{length-map, take-set, drop-set, drop_more, set_split, get_or-map}
 use Rattle.std.specs.List.{sum_by}
-use Rattle.std.proofs.lemmas.List.Sums.{sum_by-append}
 use Rattle.hp_model.specs.Lists.{edit_at, edit_range, part}
 
 module _ {X : Type 0} (f : X → X) (a b : ℕ) (xs : List X) where
@@ -12,8 +12,7 @@ module _ {X : Type 0} (f : X → X) (a b : ℕ) (xs : List X) where
 
   module _ (k : ℕ) (d : X) where
     pub get_or-edit_below : k < a → k < length xs → get_or (edit_range f a b xs) k d ≡ get_or xs k d
-    get_or-edit_below below lt = ap (λ ys. get_or ys k d) parts ∙ get_or_append_left (take a xs)
-        (map f (take (b - a) (drop a xs)) ++ drop (b - a) (drop a xs)) d k (omega (arith, below, lt, length-take a xs)) ∙ get_or-take a xs k d below
+    get_or-edit_below below lt = grind (arith, common_steps)
 
     after : a ≤ k → a ≤ length xs → get_or (edit_range f a b xs) k d ≡ get_or (map f (take (b - a) (drop a xs)) ++ drop (b - a) (drop a xs)) (k - a) d
     after from le = ap (λ ys. get_or ys k d) parts ∙ get_or-append_right (take a xs) (map f (take (b - a) (drop a xs)) ++ drop (b - a) (drop a xs)) a k d (omega (arith, le, length-take a xs)) from
@@ -47,32 +46,17 @@ module _ {X : Type 0} (xs : List X) (i : ℕ) where
   part_one d lt = rw (drop_more xs i d lt, one) refl
 
   pub edit_one : (x y : X) → i < length xs → edit_range (λ z. y) i (i + 1) (set xs i x) ≡ set xs i y
-  edit_one x y lt =
-      rw (take-set xs i x, drop-set xs i x lt, one)
-      (append_assoc (take i xs) (y ∷ []) (drop (i + 1) xs) ∙ ap (λ n. take i xs ++ y ∷ drop n xs) {x = i + 1} {y = suc i} (omega arith) ∙ sym (set_split xs i y lt))
+  edit_one x y lt = grind (arith, common_steps, take-set, drop-set, one, set_split)
 
 -- ---- lengths and sums
 
 pub length-edit_range : {X : Type 0} (f : X → X) (a b : ℕ) (xs : List X) → length (edit_range f a b xs) ≡ length xs
-length-edit_range f a b xs =
-    let mid = drop a xs in
-    omega (
-      arith,
-      length-append (take a xs ++ map f (take (b - a) mid)) (drop (b - a) mid),
-      length-append (take a xs) (map f (take (b - a) mid)),
-      length-map (take (b - a) mid) f,
-      length-take (b - a) mid,
-      length-drop (b - a) mid,
-      length-take a xs,
-      length-drop a xs,
-    )
+length-edit_range f a b xs = grind (arith, common_steps)
 
 -- a sum over a change of a range: the part before, the changed part, the part after
 pub sum_by-edit_range : {X : Type 0} (g : X → ℕ) (f : X → X) (a b : ℕ) (xs : List X)
     → sum_by g (edit_range f a b xs) ≡ sum_by g (take a xs) + sum_by g (map f (take (b - a) (drop a xs))) + sum_by g (drop (b - a) (drop a xs))
-sum_by-edit_range g f a b xs =
-    sum_by-append g (take a xs ++ map f (take (b - a) (drop a xs))) (drop (b - a) (drop a xs))
-    ∙ ap (λ n. n + sum_by g (drop (b - a) (drop a xs))) (sum_by-append g (take a xs) (map f (take (b - a) (drop a xs))))
+sum_by-edit_range g f a b xs = grind (arith, common_steps)
 
 pub length-edit_at : {X : Type 0} (f : X → X) (xs : List X) (i : ℕ) → length (edit_at f xs i) ≡ length xs
 length-edit_at f [] i = refl

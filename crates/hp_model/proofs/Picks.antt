@@ -1,14 +1,11 @@
 -- Which row a search picks, and what a change there leaves.
-use Rattle.std.proofs.Common.{◌≡◌, ℕ, zero, suc, ◌+◌, ◌<◌, inl, inr, true, false, List, [], ◌∷◌, length, map, drop, refl, ap, ◌∙◌, arith}
-use Rattle.std.specs.Prelude.{nat_lt}
+use Rattle.std.proofs.Common.{◌≡◌, ℕ, zero, suc, ◌+◌, ◌<◌, true, List, [], ◌∷◌, length, map, drop, ap, arith}
 use Rattle.std.specs.List.{sum_by, All}
-use Rattle.std.proofs.lemmas.Bool.{cond_both, cases_lt, ltb-true}
+use Rattle.std.proofs.lemmas.Bool.{cond_both, ltb-true}
 use Rattle.std.proofs.lemmas.Grind.{common_steps}
-use Rattle.std.proofs.lemmas.List.{get_or_past}
 use Rattle.std.proofs.lemmas.List.Elements.{All-cons, All-head, All-tail}
 use Rattle.std.proofs.lemmas.List.Sums.{sum_by-set, passes_at_first}
 use Rattle.hp_model.specs.declared.node.Kind.{Kind}
-use Rattle.hp_model.specs.declared.node.Kind.TheVariants.{Free, Idle, Surplus, Persistent, FreeSurplus}
 use Rattle.hp_model.specs.declared.node.NodeRow.{NodeRow}
 use Rattle.hp_model.specs.Lists.{edit_at}
 use Rattle.hp_model.specs.pool.NodeRows.{IsRow, at_row, row_at, no_row, has, lowest, near, next_from}
@@ -18,20 +15,9 @@ pub record IsPick (kind : Kind) (rows : List NodeRow) (n : ℕ) : Type 0 where
   pub within : n < length rows
   pub has_it : has kind (row_at rows n) ≡ true
 
-nothing_had : (kind : Kind) → has kind no_row ≡ false
-nothing_had Free = refl
-nothing_had Idle = refl
-nothing_had Surplus = refl
-nothing_had Persistent = refl
-nothing_had FreeSurplus = refl
-
 -- what is had is had by a node
 pub had : (kind : Kind) (rows : List NodeRow) (n : ℕ) → has kind (row_at rows n) ≡ true → IsPick kind rows n
-had kind rows n e =
-    elim (cases_lt n (length rows)) as (λ _. IsPick kind rows n) [
-      | inl here ↦ record { within = here; has_it = e }
-      | inr past ↦ (let none : has kind (row_at rows n) ≡ false = ap (has kind) (get_or_past rows n no_row past) ∙ nothing_had kind in cc)
-    ]
+had kind rows n e = grind (arith, common_steps)
 
 pub lowest_pick : (kind : Kind) (rows : List NodeRow) → lowest kind rows < length rows → IsPick kind rows (lowest kind rows)
 lowest_pick kind rows l = record { within = l; has_it = passes_at_first (has kind) rows no_row l }
@@ -40,16 +26,10 @@ pub near_pick : (kind : Kind) (home : ℕ) (rows : List NodeRow) → lowest kind
 near_pick kind home rows l = cond_both (has kind (row_at rows home)) home (lowest kind rows) (IsPick kind rows) (λ e. had kind rows home e) (λ e. lowest_pick kind rows l)
 
 passes_ahead : (kind : Kind) (from : ℕ) (rows : List NodeRow) → from + lowest kind (drop from rows) < length rows → has kind (row_at rows (from + lowest kind (drop from rows))) ≡ true
-passes_ahead kind from rows h =
-    let there : has kind (row_at (drop from rows) (lowest kind (drop from rows))) ≡ true = passes_at_first (has kind) (drop from rows) no_row (grind (arith, common_steps)) in
-    grind (arith, common_steps)
+passes_ahead kind from rows h = grind (arith, common_steps, passes_at_first)
 
 pub next_pick : (kind : Kind) (from : ℕ) (rows : List NodeRow) → lowest kind rows < length rows → IsPick kind rows (next_from kind from rows)
-next_pick kind from rows l =
-    let ahead : ℕ = from + lowest kind (drop from rows) in
-    cond_both (nat_lt ahead (length rows)) ahead (lowest kind rows) (IsPick kind rows)
-    (λ e. (let within : ahead < length rows = ltb-true ahead (length rows) e in record { within = within; has_it = passes_ahead kind from rows within }))
-    (λ e. lowest_pick kind rows l)
+next_pick kind from rows l = grind (arith, common_steps, cond_both, ltb-true, passes_ahead, lowest_pick)
 
 -- ---- what a change of a row leaves
 

@@ -1,7 +1,8 @@
 -- What waits is done, one after another.
-use Rattle.std.proofs.Common.{◌≡◌, ℕ, zero, suc, ◌+◌, ◌<◌, List, [], ◌∷◌, ◌++◌, length, take, drop, slice_set, refl, sym, ap, subst, ◌∙◌, arith}
+use Rattle.std.proofs.lemmas.Grind.{common_steps}
+use Rattle.std.proofs.Common.{◌≡◌, ℕ, ◌+◌, ◌<◌, List, [], ◌∷◌, ◌++◌, length, take, drop, slice_set, refl, sym, ap, subst, ◌∙◌, arith}
 use lib.ListN.{get_or}
-use Rattle.std.proofs.lemmas.List.{drop-set-lt, take_more, take_more_set}
+use Rattle.std.proofs.lemmas.List.{take_more, take_more_set}
 use Rattle.hp_model.specs.beside.Queue.{DoesAll, DoesOne, QueuedView}
 use Rattle.hp_model.specs.declared.step.Step.{Step}
 use Rattle.hp_model.specs.machine.Plan.{Reply}
@@ -19,30 +20,13 @@ pub does_more : {S : Type 0} (m : S → Step → Reply → S → Type 0) (s t u 
     → DoesAll m s before after t → DoesOne m t b a u → DoesAll m s (before ++ b ∷ []) (after ++ a ∷ []) u
 does_more m s t u before after b a all one = does_both m s t u before after (b ∷ []) (a ∷ []) all (u, one, refl)
 
--- a list behind its first element
-abbrev rest : List QueuedView → List QueuedView
-rest [] = []
-rest (x ∷ xs) = xs
-
-behind : (xs : List QueuedView) (i : ℕ) → drop (suc i) xs ≡ rest (drop i xs)
-behind [] zero = refl
-behind [] (suc i) = refl
-behind (x ∷ xs) zero = refl
-behind (x ∷ xs) (suc i) = behind xs i
-
-further : (xs ys : List QueuedView) (i : ℕ) → drop i xs ≡ drop i ys → drop (suc i) xs ≡ drop (suc i) ys
-further xs ys i same = behind xs i ∙ ap rest same ∙ sym (behind ys i)
-
 -- the first element, or this one
 abbrev first_or : List QueuedView → QueuedView → QueuedView
 first_or [] d = d
 first_or (x ∷ xs) d = x
 
 first : (xs : List QueuedView) (i : ℕ) (d : QueuedView) → first_or (drop i xs) d ≡ get_or xs i d
-first [] zero d = refl
-first [] (suc i) d = refl
-first (x ∷ xs) zero d = refl
-first (x ∷ xs) (suc i) d = first xs i d
+first xs i d = grind (arith, common_steps)
 
 heads : (xs ys : List QueuedView) (i : ℕ) (d : QueuedView) → drop i xs ≡ drop i ys → get_or xs i d ≡ get_or ys i d
 heads xs ys i d same = sym (first xs i d) ∙ ap (λ zs. first_or zs d) same ∙ first ys i d
@@ -58,6 +42,4 @@ does_next m s t u before now at a d within size left all one =
 
 -- what is left behind the next is as it was
 pub left_next : (before now : List QueuedView) (at : ℕ) (a : QueuedView) → drop at now ≡ drop at before → drop (at + 1) (slice_set now at a) ≡ drop (at + 1) before
-left_next before now at a same =
-    let n : at + 1 ≡ suc at = omega arith in
-    drop-set-lt (at + 1) now at a (omega arith) ∙ ap (λ k. drop k now) n ∙ further now before at same ∙ ap (λ k. drop k before) (sym n)
+left_next before now at a same = grind (arith, common_steps)

@@ -1,5 +1,6 @@
 -- What the moves of pages and frames do to the rows and to their sums.
-use Rattle.std.proofs.Common.{◌≡◌, ℕ, zero, suc, ◌+◌, ◌<◌, ◌≤◌, true, false, List, [], ◌∷◌, ◌++◌, length, map, refl, sym, ap, ◌∙◌, arith}
+use Rattle.std.proofs.lemmas.Grind.{common_steps}
+use Rattle.std.proofs.Common.{◌≡◌, ℕ, zero, suc, ◌+◌, ◌<◌, ◌≤◌, true, List, [], ◌∷◌, ◌++◌, length, map, refl, sym, ap, ◌∙◌, arith}
 use Rattle.std.specs.Prelude.{nat_lt, slice_set}
 use Rattle.std.specs.List.{sum, slice_index_or, All}
 use Rattle.std.proofs.lemmas.Bool.{cond_both, and_parts, ltb-true, ltb-false}
@@ -17,7 +18,7 @@ use Rattle.hp_model.specs.pool.NodeRows.{total_of, free_of, surp_of, frames_of, 
 use Rattle.hp_model.specs.pool.NodeRows.{given_back, take_row, put_row, add_surplus_row, grow_row, shrink_row, promote_row, demote_row, give_back_row}
 use Rattle.hp_model.specs.pool.Pool.{give_back_times, kept_times, puts_from, page_kept}
 use Rattle.hp_model.specs.pool.PoolCounts.{Pool}
-use Rattle.hp_model.proofs.Picks.{IsPick, edit, near_pick, lowest_pick, next_pick, had}
+use Rattle.hp_model.proofs.Picks.{IsPick, edit, near_pick, lowest_pick, next_pick}
 use Rattle.hp_model.proofs.Sums.{some_free, some_idle, some_surplus, some_persistent, none_surplus}
 
 abbrev pub row_frames : NodeRow → ℕ
@@ -97,20 +98,11 @@ both_leave a rows l =
 
 -- where no node has both, a node with a free page has no surplus
 no_surplus : (rows : List NodeRow) (i : ℕ) → length rows ≤ lowest FreeSurplus rows → i < length rows → 0 < (row_at rows i).free → (row_at rows i).surp ≡ 0
-no_surplus rows i none l free =
-    let fails : has FreeSurplus (row_at rows i) ≡ false = fails_before_first (has FreeSurplus) rows i no_row (omega (arith, none, l)) in
-    grind (arith, nat_tests)
+no_surplus rows i none l free = grind (arith, common_steps, fails_before_first, nat_tests)
 
 -- the lowest node with a surplus stays, where a frame leaves another
 still_surplus : (rows : List NodeRow) (k n : ℕ) → k < length rows → has Surplus (row_at rows n) ≡ true → IsPick Surplus (at_row shrink_row k rows) n
-still_surplus rows k n l e = had Surplus (at_row shrink_row k rows) n (same_surp rows k n e)
-  where
-    same_surp : (rows : List NodeRow) (k n : ℕ) → has Surplus (row_at rows n) ≡ true → has Surplus (row_at (at_row shrink_row k rows) n) ≡ true
-    same_surp [] k n e = e
-    same_surp (r ∷ rows) zero zero e = e
-    same_surp (r ∷ rows) zero (suc n) e = e
-    same_surp (r ∷ rows) (suc k) zero e = e
-    same_surp (r ∷ rows) (suc k) (suc n) e = same_surp rows k n e
+still_surplus rows k n l e = grind (arith, common_steps)
 
 apart_leave : (a : NodeRows) → All IsRow a.rows → length a.rows ≤ lowest FreeSurplus a.rows → 0 < free_of a.rows → 0 < surp_of a.rows
     → Moved a (record a { rows = at_row promote_row (lowest Surplus a.rows) (at_row shrink_row (lowest Free a.rows) a.rows) }) 0 1 0 1 0 1
@@ -298,8 +290,7 @@ past_kept n (suc k) p l = ap (page_kept n) (past_kept n k p l) ∙ ap (λ rs. wi
   where
     set_past : (rows : List NodeRow) (n : ℕ) (y : NodeRow) → length rows ≤ n → slice_set rows n y ≡ rows
     set_past [] n y l = refl
-    set_past (r ∷ rows) zero y l = absurd (omega (arith, l))
-    set_past (r ∷ rows) (suc n) y l = ap (λ rs. r ∷ rs) (set_past rows n y (omega (arith, l)))
+    set_past (r ∷ rows) n y l = grind (arith, common_steps)
 
 past_puts : (ks : List ℕ) (n : ℕ) (p : Pool) → length p.nodes.rows ≤ n → puts_from n ks p ≡ p
 past_puts [] n p l = refl

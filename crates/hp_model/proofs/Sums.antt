@@ -1,108 +1,18 @@
-use Rattle.std.proofs.Common.{ℕ, suc, ◌≡◌, ◌+◌, ◌<◌, ◌≤◌, inl, inr, Bool, true, false, cond, not, IsTrue, List, [], ◌∷◌, length, refl, ap, arith}
+use Rattle.std.proofs.lemmas.Grind.{common_steps}
+use Rattle.std.proofs.Common.{ℕ, suc, ◌≡◌, ◌+◌, ◌<◌, ◌≤◌, Bool, true, false, cond, not, IsTrue, List, [], ◌∷◌, length, refl, arith}
 use Rattle.std.specs.Prelude.{slice_set, sum_by, map, All}
 use Rattle.std.specs.List.{position_or_len, prefix_len}
 use Rattle.std.proofs.lemmas.Bool.Decides.{nat_tests}
 use Rattle.std.proofs.lemmas.Bool.{cases_lt}
-use Rattle.std.proofs.lemmas.List.Sums.{sum_by-set, sum_by-cons, get_or-le-sum_by}
+use Rattle.std.proofs.lemmas.List.Sums.{sum_by-cons, get_or-le-sum_by}
 use Rattle.hp_model.specs.declared.node.NodeRow.{NodeRow}
 use Rattle.hp_model.specs.declared.node.Kind.{Kind}
 use Rattle.hp_model.specs.declared.node.Kind.TheVariants.{Free, Idle, Surplus, Persistent}
-use Rattle.hp_model.specs.pool.NodeRows.{IsRow, idle_row, row_at, no_row, has, lowest, some_has, sum_row, frames_of, total_of}
-use Rattle.hp_model.specs.pool.NodeRows.{free_of, surp_of, take_row, put_row, grow_row, shrink_row, add_surplus_row, give_back_row, promote_row, demote_row}
-
-abbrev row : ℕ → ℕ → ℕ → ℕ → NodeRow
-row a b c d = record { frames = a; total = b; free = c; surp = d }
-
-same_row : (a b c d e f g h : ℕ) → a ≡ e → b ≡ f → c ≡ g → d ≡ h → row a b c d ≡ row e f g h
-same_row a b c d e f g h p q r s = cc
-
--- how the sums change where one row does
-sums_at : (rows : List NodeRow) (i : ℕ) (y : NodeRow) → i < length rows
-    → (frames_of (slice_set rows i y) + (row_at rows i).frames ≡ frames_of rows + y.frames)
-    × (total_of (slice_set rows i y) + (row_at rows i).total ≡ total_of rows + y.total)
-    × (free_of (slice_set rows i y) + (row_at rows i).free ≡ free_of rows + y.free)
-    × (surp_of (slice_set rows i y) + (row_at rows i).surp ≡ surp_of rows + y.surp)
-sums_at rows i y h = (
-  sum_by-set (λ r. r.frames) rows i y no_row h,
-  sum_by-set (λ r. r.total) rows i y no_row h,
-  sum_by-set (λ r. r.free) rows i y no_row h,
-  sum_by-set (λ r. r.surp) rows i y no_row h,
-)
+use Rattle.hp_model.specs.pool.NodeRows.{IsRow, idle_row, row_at, has, lowest, some_has, sum_row, frames_of, total_of}
+use Rattle.hp_model.specs.pool.NodeRows.{free_of, surp_of, take_row}
 
 pub take_sums : (rows : List NodeRow) (i : ℕ) (y : NodeRow) → i < length rows → y ≡ take_row (row_at rows i) → 0 < (row_at rows i).free → sum_row (slice_set rows i y) ≡ take_row (sum_row rows)
-take_sums rows i y h e h0 =
-    let s = sums_at rows i y h in
-    let f : y.frames ≡ (row_at rows i).frames = ap (λ r. r.frames) e in
-    let t : y.total ≡ (take_row (row_at rows i)).total = ap (λ r. r.total) e in
-    let n : y.free ≡ (take_row (row_at rows i)).free = ap (λ r. r.free) e in
-    let u : y.surp ≡ (take_row (row_at rows i)).surp = ap (λ r. r.surp) e in
-    same_row _ _ _ _ _ _ _ _ (omega (arith, s.0)) (omega (arith, s.1)) (omega (arith, s.2)) (omega (arith, s.3))
-
-pub put_sums : (rows : List NodeRow) (i : ℕ) (y : NodeRow) → i < length rows → y ≡ put_row (row_at rows i) → sum_row (slice_set rows i y) ≡ put_row (sum_row rows)
-put_sums rows i y h e =
-    let s = sums_at rows i y h in
-    let f : y.frames ≡ (row_at rows i).frames = ap (λ r. r.frames) e in
-    let t : y.total ≡ (put_row (row_at rows i)).total = ap (λ r. r.total) e in
-    let n : y.free ≡ (put_row (row_at rows i)).free = ap (λ r. r.free) e in
-    let u : y.surp ≡ (put_row (row_at rows i)).surp = ap (λ r. r.surp) e in
-    same_row _ _ _ _ _ _ _ _ (omega (arith, s.0)) (omega (arith, s.1)) (omega (arith, s.2)) (omega (arith, s.3))
-
-pub grow_sums : (rows : List NodeRow) (i : ℕ) (y : NodeRow) → i < length rows → y ≡ grow_row (row_at rows i) → sum_row (slice_set rows i y) ≡ grow_row (sum_row rows)
-grow_sums rows i y h e =
-    let s = sums_at rows i y h in
-    let f : y.frames ≡ (row_at rows i).frames = ap (λ r. r.frames) e in
-    let t : y.total ≡ (grow_row (row_at rows i)).total = ap (λ r. r.total) e in
-    let n : y.free ≡ (grow_row (row_at rows i)).free = ap (λ r. r.free) e in
-    let u : y.surp ≡ (grow_row (row_at rows i)).surp = ap (λ r. r.surp) e in
-    same_row _ _ _ _ _ _ _ _ (omega (arith, s.0)) (omega (arith, s.1)) (omega (arith, s.2)) (omega (arith, s.3))
-
-pub shrink_sums : (rows : List NodeRow) (i : ℕ) (y : NodeRow) → i < length rows → y ≡ shrink_row (row_at rows i) → 0 < (row_at rows i).free →
-    0 < (row_at rows i).total → sum_row (slice_set rows i y) ≡ shrink_row (sum_row rows)
-shrink_sums rows i y h e h0 h1 =
-    let s = sums_at rows i y h in
-    let f : y.frames ≡ (row_at rows i).frames = ap (λ r. r.frames) e in
-    let t : y.total ≡ (shrink_row (row_at rows i)).total = ap (λ r. r.total) e in
-    let n : y.free ≡ (shrink_row (row_at rows i)).free = ap (λ r. r.free) e in
-    let u : y.surp ≡ (shrink_row (row_at rows i)).surp = ap (λ r. r.surp) e in
-    same_row _ _ _ _ _ _ _ _ (omega (arith, s.0)) (omega (arith, s.1)) (omega (arith, s.2)) (omega (arith, s.3))
-
-pub add_surplus_sums : (rows : List NodeRow) (i : ℕ) (y : NodeRow) → i < length rows → y ≡ add_surplus_row (row_at rows i) → sum_row (slice_set rows i y) ≡ add_surplus_row (sum_row rows)
-add_surplus_sums rows i y h e =
-    let s = sums_at rows i y h in
-    let f : y.frames ≡ (row_at rows i).frames = ap (λ r. r.frames) e in
-    let t : y.total ≡ (add_surplus_row (row_at rows i)).total = ap (λ r. r.total) e in
-    let n : y.free ≡ (add_surplus_row (row_at rows i)).free = ap (λ r. r.free) e in
-    let u : y.surp ≡ (add_surplus_row (row_at rows i)).surp = ap (λ r. r.surp) e in
-    same_row _ _ _ _ _ _ _ _ (omega (arith, s.0)) (omega (arith, s.1)) (omega (arith, s.2)) (omega (arith, s.3))
-
-pub give_back_sums : (rows : List NodeRow) (i : ℕ) (y : NodeRow) → i < length rows → y ≡ give_back_row (row_at rows i) → 0 < (row_at rows i).free →
-    0 < (row_at rows i).total → 0 < (row_at rows i).surp → sum_row (slice_set rows i y) ≡ give_back_row (sum_row rows)
-give_back_sums rows i y h e h0 h1 h2 =
-    let s = sums_at rows i y h in
-    let f : y.frames ≡ (row_at rows i).frames = ap (λ r. r.frames) e in
-    let t : y.total ≡ (give_back_row (row_at rows i)).total = ap (λ r. r.total) e in
-    let n : y.free ≡ (give_back_row (row_at rows i)).free = ap (λ r. r.free) e in
-    let u : y.surp ≡ (give_back_row (row_at rows i)).surp = ap (λ r. r.surp) e in
-    same_row _ _ _ _ _ _ _ _ (omega (arith, s.0)) (omega (arith, s.1)) (omega (arith, s.2)) (omega (arith, s.3))
-
-pub promote_sums : (rows : List NodeRow) (i : ℕ) (y : NodeRow) → i < length rows → y ≡ promote_row (row_at rows i) → 0 < (row_at rows i).surp →
-    sum_row (slice_set rows i y) ≡ promote_row (sum_row rows)
-promote_sums rows i y h e h0 =
-    let s = sums_at rows i y h in
-    let f : y.frames ≡ (row_at rows i).frames = ap (λ r. r.frames) e in
-    let t : y.total ≡ (promote_row (row_at rows i)).total = ap (λ r. r.total) e in
-    let n : y.free ≡ (promote_row (row_at rows i)).free = ap (λ r. r.free) e in
-    let u : y.surp ≡ (promote_row (row_at rows i)).surp = ap (λ r. r.surp) e in
-    same_row _ _ _ _ _ _ _ _ (omega (arith, s.0)) (omega (arith, s.1)) (omega (arith, s.2)) (omega (arith, s.3))
-
-pub demote_sums : (rows : List NodeRow) (i : ℕ) (y : NodeRow) → i < length rows → y ≡ demote_row (row_at rows i) → sum_row (slice_set rows i y) ≡ demote_row (sum_row rows)
-demote_sums rows i y h e =
-    let s = sums_at rows i y h in
-    let f : y.frames ≡ (row_at rows i).frames = ap (λ r. r.frames) e in
-    let t : y.total ≡ (demote_row (row_at rows i)).total = ap (λ r. r.total) e in
-    let n : y.free ≡ (demote_row (row_at rows i)).free = ap (λ r. r.free) e in
-    let u : y.surp ≡ (demote_row (row_at rows i)).surp = ap (λ r. r.surp) e in
-    same_row _ _ _ _ _ _ _ _ (omega (arith, s.0)) (omega (arith, s.1)) (omega (arith, s.2)) (omega (arith, s.3))
+take_sums rows i y h e h0 = grind (arith, common_steps)
 
 -- where no row passes, one sum is at most the other
 all_at_most : (p : NodeRow → Bool) (g h : NodeRow → ℕ) → ((r : NodeRow) → p r ≡ false → h r ≤ g r) → (rows : List NodeRow) → length rows ≤ position_or_len p rows → sum_by h rows ≤ sum_by g rows
@@ -115,11 +25,7 @@ all_at_most p g h le (r ∷ rs) none =
     ] refl none
 
 some_where : (p : NodeRow → Bool) (g h : NodeRow → ℕ) → ((r : NodeRow) → p r ≡ false → h r ≤ g r) → (rows : List NodeRow) → sum_by g rows < sum_by h rows → position_or_len p rows < length rows
-some_where p g h le rows less =
-    elim (cases_lt (position_or_len p rows) (length rows)) as (λ _. position_or_len p rows < length rows) [
-      | inl here ↦ here
-      | inr none ↦ let e = all_at_most p g h le rows none in absurd (omega arith)
-    ]
+some_where p g h le rows less = grind (arith, common_steps, cases_lt, all_at_most)
 
 zero_sum : (rows : List NodeRow) → sum_by (λ _. 0) rows ≡ 0
 zero_sum [] = refl

@@ -1,4 +1,6 @@
 -- What a receipt's claims mean for all rows.
+use Rattle.std.proofs.Common.{arith}
+use Rattle.std.proofs.lemmas.Grind.{common_steps}
 use Rattle.std.proofs.Common.{◌≡◌, ◌≢◌, ◌⊎◌, inl, inr, ℕ, ◌+◌, ◌<◌, Option, None, Some, List, [], length, refl, sym, ap, ◌∙◌, subst}
 use Rattle.std.specs.List.{slice_index_or}
 use Rattle.std.specs.Option.{option_and_then, option_map}
@@ -8,10 +10,9 @@ use Rattle.hp_model.specs.declared.entry.Asked.{Asked}
 use Rattle.hp_model.specs.declared.entry.Part.{Part}
 use Rattle.hp_model.specs.declared.entry.Part.TheVariants.{Tasks, Slot as AtSlot, Pool as AtPool}
 use Rattle.hp_model.specs.declared.entry.PoolEntry.{PoolEntry}
-use Rattle.hp_model.specs.declared.entry.PoolEntry.TheVariants.{OfSlot, OfPool}
 use Rattle.hp_model.specs.declared.entry.Receipt.{Receipt}
 use Rattle.hp_model.specs.threads.Differ.{entry_at, of_pool}
-use Rattle.hp_model.specs.threads.JointRun.{Trails, slot_trail, Entry, InTasks, InSlot, InPool, event_of}
+use Rattle.hp_model.specs.threads.JointRun.{Trails, slot_trail, Entry, InTasks, InSlot, event_of}
 use Rattle.hp_trail.specs.Tellers.{Added, AddsPool, AddsSlot, AddsTask, ClaimsSection, Fit, Stands, TellerRows, asked_section, teller}
 use Rattle.hp_trail.proofs.Indexing.{claim_long, claim_other, claim_same, row_there, some_is}
 
@@ -23,8 +24,7 @@ module _ (t : Trails) (w : TellerRows) (r : Receipt) (s : ℕ) (fit : Fit t w) w
 
   one_row : (e : Entry) (w' : TellerRows) (part : Part) (place : ℕ) → r.part ≡ part
       → (teller w' part place ≡ teller w part place) ⊎ (place ≡ r.place) → Others e w' part place
-  one_row e w' part place is (inl same) = inl same
-  one_row e w' part place is (inr own) = inr (inl (sym is, own))
+  one_row e w' part place is h = grind (arith, common_steps)
 
   pub added_task : (row' : List ℕ) → r.part ≡ Tasks → AddsTask t.tasks w.tasks r s row' → Added t r s w (record w { tasks = row' })
   added_task row' is a = record {
@@ -47,8 +47,7 @@ module _ (t : Trails) (w : TellerRows) (r : Receipt) (s : ℕ) (fit : Fit t w) w
 
   event_of_pool : (x : PoolEntry) → option_map event_of (of_pool x) ≡ Some (r.event, r.reply)
       → (e : Entry) × (of_pool x ≡ Some e) × (event_of e ≡ (r.event, r.reply)) × (asked_section e ≡ None)
-  event_of_pool (OfSlot section answer) e = cc
-  event_of_pool (OfPool v a) e = (InPool v a, refl, some_is (event_of (InPool v a)) (r.event, r.reply) e, refl)
+  event_of_pool x e = grind (arith, common_steps)
 
   pub added_pool : (row' : List ℕ) → r.part ≡ AtPool → AddsPool t.pool w.pool r s row' → Added t r s w (record w { pool = row' })
   added_pool row' is a = (

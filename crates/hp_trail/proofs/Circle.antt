@@ -1,9 +1,10 @@
 -- Where the walk can't go on, some events go round in a circle.
-use Rattle.std.proofs.Common.{◌≡◌, ◌≢◌, ◌⊎◌, inl, inr, ℕ, zero, suc, ◌<◌, ◌≤◌, Bool, true, false, Option, None, Some, List, [], ◌∷◌, refl, sym, ap, ◌∙◌, subst, arith}
-use Rattle.std.specs.Prelude.{nat_le, nat_lt}
+use Rattle.std.proofs.lemmas.Grind.{common_steps}
+use Rattle.std.proofs.Common.{◌≡◌, ◌≢◌, ◌⊎◌, inl, inr, ℕ, zero, suc, ◌<◌, ◌≤◌, Bool, true, Option, None, Some, List, [], ◌∷◌, refl, sym, ap, ◌∙◌, subst, arith}
+use Rattle.std.specs.Prelude.{nat_le}
 use Rattle.std.specs.List.{slice_get}
 use Rattle.std.specs.Option.{option_map, option_and_then}
-use Rattle.std.proofs.lemmas.Bool.{leb-true, le-leb, ltb-true, ltb-false}
+use Rattle.std.proofs.lemmas.Bool.{leb-true, le-leb}
 use Rattle.hp_model.specs.declared.entry.Asked.{Asked}
 use Rattle.hp_model.specs.declared.entry.Part.{Part}
 use Rattle.hp_model.specs.declared.entry.Part.TheVariants.{Tasks, Slot as AtSlot, Pool as AtPool}
@@ -85,15 +86,7 @@ module _ (t : Trails) (receipts : List (List Receipt)) (c : Cursors) where
             (AtSlot k.0, k.1, left_at (AtSlot k.0) k.1 k.5, asks_there k.0 k.1 k.2 k.3, apart k.0 k.1 k.2 k.3 k.4, inr (inl (c.pool, n, (k.2, k.3, k.4), in_pool, l)))
 
     same_asked : (k i : ℕ) (a b : Asked) → Asks t k i a → Asks t k i b → a ≡ b
-    same_asked k i a b x y =
-        let one : x.entry ≡ y.entry = some_same x.entry y.entry (sym x.there ∙ y.there) in
-        asked_same a b (sym x.asks ∙ ap (λ (e : SlotEntry). e.asked) one ∙ y.asks)
-      where
-        some_same : (a b : SlotEntry) → Some a ≡ Some b → a ≡ b
-        some_same a b e = cc
-
-        asked_same : (a b : Asked) → Some a ≡ Some b → a ≡ b
-        asked_same a b e = cc
+    same_asked k i a b x y = grind (arith, common_steps)
 
     slots_same : (j k : ℕ) → AtSlot j ≡ AtSlot k → j ≡ k
     slots_same j k e = cc
@@ -112,11 +105,7 @@ module _ (t : Trails) (receipts : List (List Receipt)) (c : Cursors) where
         (λ e. not_pool k e.0)
 
     either : (m n : ℕ) → m ≤ n → (m < n) ⊎ (m ≡ n)
-    either m n l = by_test (nat_lt m n) refl
-      where
-        by_test : (b : Bool) → nat_lt m n ≡ b → (m < n) ⊎ (m ≡ n)
-        by_test true e = inl (ltb-true m n e)
-        by_test false e = (let le = ltb-false m n e in inr (omega (arith, l, le)))
+    either m n l = grind (arith, common_steps)
 
     -- an event at its part's cursor
     at_cursor : (b : Part) (j : ℕ) → entry_at t b j ≢ None → cursor c b ≡ j → Earlier b j

@@ -1,4 +1,5 @@
 -- A receipt's entry, looked up in its trail, and the place of its session, noted or not.
+use Rattle.std.proofs.lemmas.Grind.{common_steps}
 use Rattle.std.proofs.Common.{◌≡◌, ◌≢◌, inl, inr, ℕ, ◌<◌, false, Option, Some, List, length, ltb, sym, ap, subst, ◌∙◌, [], arith}
 use Rattle.std.specs.Global.{Vec}
 use Rattle.std.specs.List.{slice_get, slice_index_or}
@@ -11,7 +12,7 @@ use Rattle.hp_model.specs.declared.entry.SlotEntry.{SlotEntry}
 use Rattle.hp_model.specs.threads.JointRun.{Entry}
 use Rattle.hp_trail.specs.Tellers.{AddsEntry, Claims, ClaimsSection, Finds, Misses, RefusesEntry, RefusesSection, Stands, TellsOf, entry_of_slot}
 use Rattle.hp_trail.specs.Walk.{lists}
-use Rattle.hp_trail.proofs.Indexing.{element_at, get_there, lists_long, lists_read, row_there, some_is}
+use Rattle.hp_trail.proofs.Indexing.{element_at, get_there, lists_read, some_is}
 
 -- nothing is past the end
 pub none_past : {X : Type 0} (xs : List X) (i : ℕ) (x : X) → false ≡ ltb i (length xs) → slice_get xs i ≡ Some x → ⊥
@@ -56,9 +57,7 @@ module _ (pool : List PoolEntry) (row : List ℕ) (asked : Option Asked) (a : As
 -- ---- a trail among the slots'
 
 pub no_trail : (slots : List (Vec SlotEntry)) (k : ℕ) (r : Receipt) → false ≡ ltb k (length slots) → Misses (entry_of_slot k) (slice_index_or (lists slots) k []) r
-no_trail slots k r past e at same =
-    let there = row_there (lists slots) k r.place (get_there (slice_index_or (lists slots) k []) r.place e at) in
-    false≢true (past ∙ lt-ltb k (length slots) (omega (arith, there, lists_long slots)))
+no_trail slots k r past e at same = grind (arith, common_steps)
 
 module _ {X : Type 0} (vs : List (Vec X)) (k : ℕ) (v : Vec X) (xs : List X) (below : k < length vs) (read : v ≡ slice_index_or vs k v) (is : xs ≡ v.items) where
   pub list_read : xs ≡ slice_index_or (lists vs) k []

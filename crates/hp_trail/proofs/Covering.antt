@@ -1,61 +1,28 @@
 -- Each session is to be tried, or waits.
-use Rattle.std.proofs.Common.{◌≡◌, ◌≢◌, ◌⊎◌, inl, inr, ℕ, zero, suc, ◌+◌, ◌<◌, ◌==◌, Bool, true, false, cond, Option, None, Some, List, [], ◌∷◌, ◌++◌, length, refl, sym, ap, ◌∙◌, subst, arith}
+use Rattle.std.proofs.lemmas.Grind.{common_steps}
+use Rattle.std.proofs.Common.{◌≡◌, ◌≢◌, ◌⊎◌, inl, inr, ℕ, zero, suc, ◌+◌, ◌<◌, Bool, cond, Option, None, Some, List, [], ◌∷◌, ◌++◌, length, refl, sym, ap, ◌∙◌, subst, arith}
 use Rattle.std.specs.List.{Contains, slice_get}
-use Rattle.std.proofs.lemmas.Bool.{eq-eqb, eqb-true}
+use Rattle.std.proofs.lemmas.Bool.{eq-eqb}
 use Rattle.std.proofs.lemmas.Bool.Decides.{eqb_tells}
 use Rattle.std.proofs.lemmas.List.Elements.{Contains-push_cases}
 use Rattle.hp_model.specs.declared.entry.Part.{Part}
-use Rattle.hp_model.specs.declared.entry.Part.TheVariants.{Tasks, Slot as AtSlot, Pool as AtPool}
+use Rattle.hp_model.specs.declared.entry.Part.TheVariants.{Pool as AtPool}
 use Rattle.hp_model.specs.declared.entry.Receipt.{Receipt}
 use Rattle.hp_model.specs.threads.Differ.{HasReceipt, entry_at}
-use Rattle.hp_model.specs.threads.JointRun.{Trails, slot_trail, Entry, InTasks, InSlot, InPool, Item, part_of, receipt_of, slot_entry, task_entry, placed}
+use Rattle.hp_model.specs.threads.JointRun.{Trails, Entry, Item, part_of, receipt_of}
 use Rattle.hp_trail.specs.Tellers.{AreTold, TellerRows, teller}
-use Rattle.hp_trail.specs.Walk.{AreCovered, Cursors, GoesNumbered, GoesOn, IsBlocked, Passes, Took, Waits, cursor, cursor_at, receipts_left, session}
+use Rattle.hp_trail.specs.Walk.{AreCovered, Cursors, GoesOn, IsBlocked, Passes, Took, Waits, cursor, cursor_at, receipts_left, session}
 use Rattle.hp_trail.proofs.Indexing.{get_there, row_there, some_is}
-use Rattle.hp_trail.proofs.Taking.{stands_at, StandsAt}
 
 module _ (t : Trails) (receipts : List (List Receipt)) (c d : Cursors) where
   -- what passing an item moves: its part's cursor and the pool's
   moved : (i : Item) → Passes t receipts c i d → (p : Part) (place : ℕ) (e : Entry) → entry_at t p place ≡ Some e
       → (cursor d p ≡ cursor c p) ⊎ ((p ≡ part_of i.entry) ⊎ (p ≡ AtPool))
-  moved i h Tasks place e there = by_entry i.entry refl h.tasks
-    where
-      by_entry : (x : Entry) → i.entry ≡ x → GoesNumbered t.tasks c.tasks (placed i.place (task_entry x)) d.tasks → (d.tasks ≡ c.tasks) ⊎ ((Tasks ≡ part_of i.entry) ⊎ (Tasks ≡ AtPool))
-      by_entry (InTasks x) is g = inr (inl (sym (ap part_of is)))
-      by_entry (InSlot k x) is g = inl g
-      by_entry (InPool v a) is g = inl g
-  moved i h (AtSlot k) place e there = by_entry i.entry refl (h.slots k below)
-    where
-      below : k < length t.slots
-      below = within (part_of e) (stands_at t (AtSlot k) place e there)
-        where
-          within : (p : Part) → (part_of e ≡ AtSlot k) × StandsAt t e place → k < length t.slots
-          within p x = by_kind e x.0 x.1
-            where
-              by_kind : (y : Entry) → part_of y ≡ AtSlot k → StandsAt t y place → k < length t.slots
-              by_kind (InTasks y) is s = cc
-              by_kind (InSlot j y) is s = (let same : j ≡ k = cc in subst (λ (n : ℕ). n < length t.slots) same (row_there t.slots j place (get_there (slot_trail t j) place y s)))
-              by_kind (InPool v a) is s = cc
-
-      by_entry : (x : Entry) → i.entry ≡ x → GoesNumbered (slot_trail t k) (cursor_at c.slots k) (placed i.place (slot_entry k x)) (cursor_at d.slots k)
-          → (cursor_at d.slots k ≡ cursor_at c.slots k) ⊎ ((AtSlot k ≡ part_of i.entry) ⊎ (AtSlot k ≡ AtPool))
-      by_entry (InTasks x) is g = inl g
-      by_entry (InSlot j x) is g = by_test (j == k) refl g
-        where
-          by_test : (b : Bool) → (j == k) ≡ b → GoesNumbered (slot_trail t k) (cursor_at c.slots k) (placed i.place (cond b (Some x) None)) (cursor_at d.slots k)
-              → (cursor_at d.slots k ≡ cursor_at c.slots k) ⊎ ((AtSlot k ≡ part_of i.entry) ⊎ (AtSlot k ≡ AtPool))
-          by_test true same g = inr (inl (ap AtSlot (sym (eqb-true j k same)) ∙ sym (ap part_of is)))
-          by_test false same g = inl g
-      by_entry (InPool v a) is g = inl g
-  moved i h AtPool place e there = inr (inr refl)
+  moved i h p place e there = grind (arith, common_steps)
 
   -- the cursor of another session stays
   apart_stays : (i : Item) (s u : ℕ) → Passes t receipts c i d → i.by ≡ s → u < length receipts → u ≢ s → cursor_at d.sessions u ≡ cursor_at c.sessions u
-  apart_stays i s u h by l ne =
-      elim (eqb_tells i.by u) [
-        | inl w ↦ absurd (ne (sym w.1 ∙ by))
-        | inr w ↦ subst (λ (b : Bool). GoesOn (session receipts u) (cursor_at c.sessions u) (cond b (Some (receipt_of i)) None) (cursor_at d.sessions u)) w.0 (h.told u l)
-      ]
+  apart_stays i s u h by l ne = grind (arith, common_steps)
 
   own_moves : (i : Item) (s : ℕ) → Passes t receipts c i d → i.by ≡ s → (cursor_at d.sessions s ≡ cursor_at c.sessions s + 1) × (cursor_at c.sessions s < length (session receipts s))
   own_moves i s h by =

@@ -1,4 +1,5 @@
 -- Taking the events out of the receipts, from the last on.
+use Rattle.std.proofs.lemmas.Grind.{common_steps}
 use Rattle.std.proofs.Common.{◌≡◌, inl, inr, ℕ, ◌<◌, ◌==◌, cond, None, Some, List, [], ◌∷◌, ◌++◌, length, map, reverse, refl, sym, ap, ◌∙◌, subst, arith, append-nil, append_assoc}
 use Rattle.std.specs.List.{Contains, slice_index_or, slice_set}
 use Rattle.std.proofs.lemmas.Bool.{eq-eqb}
@@ -50,19 +51,10 @@ ends f (x ∷ xs) (z ∷ ys) y e =
     }
 
 snoc_same : {X : Type 0} (xs ys : List X) (x y : X) → xs ++ x ∷ [] ≡ ys ++ y ∷ [] → (xs ≡ ys) × (x ≡ y)
-snoc_same [] [] x y e = (refl, cc)
-snoc_same [] (z ∷ []) x y e = cc
-snoc_same [] (z ∷ w ∷ ys) x y e = cc
-snoc_same (z ∷ []) [] x y e = cc
-snoc_same (z ∷ w ∷ xs) [] x y e = cc
-snoc_same (z ∷ xs) (w ∷ ys) x y e =
-    let rest = snoc_same xs ys x y cc in
-    let first : z ≡ w = cc in
-    (ap (λ v. v ∷ xs) first ∙ ap (λ vs. w ∷ vs) rest.0, rest.1)
+snoc_same xs ys x y e = grind (arith, common_steps)
 
 not_empty : {X : Type 0} (xs : List X) (x : X) → xs ++ x ∷ [] ≡ [] → ⊥
-not_empty [] x e = cc
-not_empty (y ∷ ys) x e = cc
+not_empty xs x e = grind (arith, common_steps)
 
 reverse_snoc : {X : Type 0} (xs : List X) (x : X) → reverse (xs ++ x ∷ []) ≡ x ∷ reverse xs
 reverse_snoc xs x = reverse-append xs (x ∷ [])
@@ -123,14 +115,5 @@ module _ (receipts : List (List Receipt)) (items : List Item) (is_told : IsTold 
                 | inr w ↦ ap (λ b. cond b (Some (receipt_of last.last)) None) w.0
               ]
 
-pub all_taken : (items : List Item) (n : ℕ) (order : List ℕ) (left : List (List Receipt)) (events : List Event) →
-    IsEmptying items n order left events → order ≡ [] → map happened items ≡ reverse events
-all_taken items n order left events h none = no_front h.front h.back h.all (h.ordered ∙ none) ∙ sym h.taken
-  where
-    no_front : (front back : List Item) → items ≡ front ++ back → map session_of front ≡ [] → map happened items ≡ map happened back
-    no_front [] back e none = ap (map happened) e
-    no_front (x ∷ xs) back e none = cc
-
 pub none_there : {X : Type 0} (xs : List X) → length xs ≡ 0 → xs ≡ []
-none_there [] e = refl
-none_there (x ∷ xs) e = absurd (omega (arith, e))
+none_there xs e = grind (arith, common_steps)

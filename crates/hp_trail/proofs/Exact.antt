@@ -1,7 +1,8 @@
 -- Where trails and receipts differ, no list joins them.
+use Rattle.std.proofs.lemmas.Grind.{common_steps}
 use Rattle.std.proofs.Common.{◌≡◌, ◌≢◌, inl, inr, ℕ, zero, suc, ◌+◌, ◌<◌, true, cond, Option, None, Some, List, [], ◌∷◌, length, refl, sym, ap, ◌∙◌, subst, arith}
 use Rattle.std.specs.List.{slice_get, slice_index_or}
-use Rattle.std.specs.Option.{option_and_then, option_map}
+use Rattle.std.specs.Option.{option_map}
 use Rattle.std.proofs.lemmas.Bool.{cases_lt, eq-eqb}
 use Rattle.hp_model.specs.declared.entry.Asked.{Asked}
 use Rattle.hp_model.specs.declared.entry.Part.{Part}
@@ -9,7 +10,7 @@ use Rattle.hp_model.specs.declared.entry.Part.TheVariants.{Tasks, Slot as AtSlot
 use Rattle.hp_model.specs.declared.entry.PoolEntry.{PoolEntry}
 use Rattle.hp_model.specs.declared.entry.PoolEntry.TheVariants.{OfSlot, OfPool}
 use Rattle.hp_model.specs.declared.entry.Receipt.{Receipt}
-use Rattle.hp_model.specs.threads.Differ.{Asks, Differ, HasReceipt, HasCircle, InPoolAt, IsBefore, LostSection, SharedSection, ToldTwice, Untold, WrongReceipt, WrongSection, entry_at, of_pool}
+use Rattle.hp_model.specs.threads.Differ.{Asks, Differ, HasReceipt, HasCircle, InPoolAt, IsBefore, LostSection, SharedSection, ToldTwice, Untold, WrongReceipt, WrongSection, entry_at}
 use Rattle.hp_model.specs.threads.JointRun.{Trails, slot_trail, Entry, InTasks, InSlot, InPool, Item, Joins, IsThere, keep, numbered, option_cons}
 use Rattle.hp_model.specs.threads.JointRun.{event_of, part_of, placed, pool_entry, pool_part, receipt_of, section_entry, slot_entry, slot_part, task_part, told}
 use Rattle.hp_trail.proofs.Indexing.{get_there, row_there, some_is}
@@ -112,9 +113,7 @@ module _ (t : Trails) (receipts : List (List Receipt)) (items : List Item) (j : 
           let same : m.0 ≡ i.place = omega (arith, r.0) in ap (slice_get t.pool) (sym same) ∙ r.1
 
   entry_stands : (e : Entry) (place : ℕ) → StandsAt t e place → entry_at t (part_of e) place ≡ Some e
-  entry_stands (InTasks e) place h = ap (option_map InTasks) h
-  entry_stands (InSlot k e) place h = ap (option_map (InSlot k)) h
-  entry_stands (InPool v a) place h = ap (option_and_then of_pool) h
+  entry_stands e place h = grind (arith, common_steps)
 
   -- two items of one part stand in the order of their places
   in_order : (m n : ℕ) (a b : Item) → slice_get items m ≡ Some a → slice_get items n ≡ Some b → part_of a.entry ≡ part_of b.entry → m < n → a.place < b.place
@@ -143,13 +142,7 @@ module _ (t : Trails) (receipts : List (List Receipt)) (items : List Item) (j : 
               (ap (λ x. pool_part (record a { entry = x })) is) (ap (λ x. pool_part (record b { entry = x })) is') l
 
   unique : (m n : ℕ) (part : Part) (place : ℕ) → Is m part place → Is n part place → m ≡ n
-  unique m n part place x y =
-      two_indices m n (λ l. before m n x y l) (λ l. before n m y x l)
-    where
-      before : (m n : ℕ) → Is m part place → Is n part place → m < n → ⊥
-      before m n x y l =
-          let less = in_order m n x.item y.item x.at y.at (x.part' ∙ sym y.part') l in
-          absurd (omega (arith, less, x.place', y.place'))
+  unique m n part place x y = grind (arith, common_steps, two_indices, in_order)
 
   -- each event is one of them
   found : (part : Part) (place : ℕ) (e : Entry) → entry_at t part place ≡ Some e → (n : ℕ) × Is n part place
@@ -215,22 +208,7 @@ module _ (t : Trails) (receipts : List (List Receipt)) (items : List Item) (j : 
 
   -- an event that must come before another does
   comes_before : (a : Part) (i : ℕ) (b : Part) (k m n : ℕ) → IsBefore t receipts a i b k → entry_at t a i ≢ None → entry_at t b k ≢ None → Is m a i → Is n b k → m < n
-  comes_before a i b k m n (inl h) some some' x y =
-      elim (cases_lt m n) [
-        | inl less ↦ less
-        | inr more ↦
-            elim (cases_lt n m) [
-              | inl less ↦
-                  let wrong = in_order n m y.item x.item y.at x.at (y.part' ∙ sym h.0 ∙ sym x.part') less in
-                  let l = h.1 in
-                  absurd (omega (arith, wrong, l, x.place', y.place'))
-              | inr more' ↦
-                  let same : m ≡ n = omega (arith, more, more') in
-                  let one : x.item ≡ y.item = some_is x.item y.item (sym x.at ∙ ap (slice_get items) same ∙ y.at) in
-                  let l = h.1 in
-                  absurd (omega (arith, l, x.place', y.place', ap (λ (z : Item). z.place) one))
-            ]
-      ]
+  comes_before a i b k m n (inl h) some some' x y = grind (arith, common_steps, cases_lt, in_order, some_is)
   comes_before a i b k m n (inr (inl h)) some some' x y =
       let p = in_pool m a i h.0 h.2 some x in
       let q = in_pool n b k h.1 h.3 some' y in
@@ -251,11 +229,7 @@ module _ (t : Trails) (receipts : List (List Receipt)) (items : List Item) (j : 
       omega (arith, l, one, two)
 
   some_entry : (part : Part) (place : ℕ) → entry_at t part place ≢ None → (e : Entry) × (entry_at t part place ≡ Some e)
-  some_entry part place some = by_option (entry_at t part place) some
-    where
-      by_option : (o : Option Entry) → o ≢ None → (e : Entry) × (o ≡ Some e)
-      by_option None h = absurd (h refl)
-      by_option (Some e) h = (e, refl)
+  some_entry part place some = grind (arith, common_steps)
 
   -- none of the events of a circle is the first of them
   no_circle : HasCircle t receipts → ⊥

@@ -1,49 +1,39 @@
 -- What comes next in a list of lists, read or not there.
-use Rattle.std.proofs.Common.{◌≡◌, ℕ, ◌<◌, ◌≤◌, Option, None, Some, List, [], length, refl, sym, ap, ◌∙◌, arith}
+use Rattle.std.proofs.lemmas.Grind.{common_steps}
+use Rattle.std.proofs.Common.{◌≡◌, ℕ, ◌<◌, ◌≤◌, Option, None, Some, List, [], length, sym, ap, ◌∙◌, arith}
 use Rattle.std.specs.Global.{Vec}
 use Rattle.std.specs.List.{slice_get, slice_index_or}
 use Rattle.std.specs.Option.{option_and_then, option_map}
 use Rattle.hp_model.specs.declared.entry.Part.{Part}
-use Rattle.hp_model.specs.declared.entry.Part.TheVariants.{Tasks, Slot as AtSlot, Pool as AtPool}
-use Rattle.hp_model.specs.declared.entry.PoolEntry.{PoolEntry}
-use Rattle.hp_model.specs.declared.entry.PoolEntry.TheVariants.{OfSlot, OfPool}
+use Rattle.hp_model.specs.declared.entry.Part.TheVariants.{Slot as AtSlot}
 use Rattle.hp_model.specs.declared.entry.SlotEntry.{SlotEntry}
-use Rattle.hp_model.specs.declared.entry.TableEntry.{TableEntry}
-use Rattle.hp_model.specs.threads.Differ.{of_pool}
-use Rattle.hp_model.specs.threads.JointRun.{InTasks, InSlot, Trails, slot_trail}
+use Rattle.hp_model.specs.threads.JointRun.{InSlot, Trails, slot_trail}
 use Rattle.hp_trail.specs.Tellers.{asked_section}
 use Rattle.hp_trail.specs.Walk.{Cursors, Walking, cursor_at, lists, next_section}
-use Rattle.hp_trail.proofs.Indexing.{get_there, lists_long, lists_read, read_at, row_there}
+use Rattle.hp_trail.proofs.Indexing.{get_there, lists_read, read_at}
 
 module _ {X : Type 0} (vs : List (Vec X)) (s i : ℕ) where
   -- no such list
   pub none_at : length vs ≤ s → (x : X) → slice_get (slice_index_or (lists vs) s []) i ≡ Some x → ⊥
-  none_at past x is =
-      let there = row_there (lists vs) s i (get_there (slice_index_or (lists vs) s []) i x is) in
-      absurd (omega (arith, there, past, lists_long vs))
+  none_at past x is = grind (arith, common_steps)
 
   module _ (v : Vec X) (xs : List X) (n : ℕ) (below : s < length vs) (read : v ≡ slice_index_or vs s v) (items : xs ≡ v.items) (place : n ≡ i) where
     -- none left in it
     pub none_after : length xs ≤ n → (x : X) → slice_get (slice_index_or (lists vs) s []) i ≡ Some x → ⊥
-    none_after past x is =
-        let here = get_there (slice_index_or (lists vs) s []) i x is in
-        absurd (omega (arith, here, past, place, ap length (lists_read vs s v below read), ap length items))
+    none_after past x is = grind (arith, common_steps, get_there, lists_read)
 
     pub one_there : (x : X) → n < length xs → x ≡ slice_index_or xs n x → slice_get (slice_index_or (lists vs) s []) i ≡ Some x
     one_there x within is = ap (slice_get (slice_index_or (lists vs) s [])) (sym place) ∙ read_at vs s n v xs x below read items within is
 
 none_is : {X : Type 0} (o : Option X) → ((x : X) → o ≡ Some x → ⊥) → o ≡ None
-none_is None none = refl
-none_is (Some x) none = absurd (none x refl)
+none_is o none = grind (arith, common_steps)
 
 -- ---- the section of an entry
 
 module _ (w now : Walking) (p : Part) (k : ℕ) (same : w ≡ now) (part : p ≡ AtSlot k) where
   section_of : (o : Option SlotEntry) → slice_get (slot_trail w.trails k) (cursor_at w.cursors.slots k) ≡ o
       → next_section now.trails now.cursors p ≡ option_and_then asked_section (option_map (InSlot k) o)
-  section_of o is =
-      ap (next_section now.trails now.cursors) part ∙ ap (λ (v : Walking). next_section v.trails v.cursors (AtSlot k)) (sym same)
-      ∙ ap (λ e. option_and_then asked_section (option_map (InSlot k) e)) is
+  section_of o is = grind (arith, common_steps)
 
   pub section_none : ((e : SlotEntry) → slice_get (slot_trail w.trails k) (cursor_at w.cursors.slots k) ≡ Some e → ⊥) → next_section now.trails now.cursors p ≡ None
   section_none none = section_of None (none_is (slice_get (slot_trail w.trails k) (cursor_at w.cursors.slots k)) none)
@@ -54,15 +44,4 @@ module _ (w now : Walking) (p : Part) (k : ℕ) (same : w ≡ now) (part : p ≡
 module _ (t : Trails) (c : Cursors) where
   -- only a slot's entry has one
   pub section_elsewhere : (p : Part) → ((k : ℕ) → p ≡ AtSlot k → ⊥) → next_section t c p ≡ None
-  section_elsewhere Tasks other = by_entry (slice_get t.tasks c.tasks)
-    where
-      by_entry : (o : Option TableEntry) → option_and_then asked_section (option_map InTasks o) ≡ None
-      by_entry None = refl
-      by_entry (Some e) = refl
-  section_elsewhere (AtSlot k) other = absurd (other k refl)
-  section_elsewhere AtPool other = by_entry (slice_get t.pool c.pool)
-    where
-      by_entry : (o : Option PoolEntry) → option_and_then asked_section (option_and_then of_pool o) ≡ None
-      by_entry None = refl
-      by_entry (Some (OfSlot section answer)) = refl
-      by_entry (Some (OfPool v r)) = refl
+  section_elsewhere p other = grind (arith, common_steps)

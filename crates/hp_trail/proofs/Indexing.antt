@@ -1,24 +1,21 @@
 -- What an index reads.
-use Rattle.std.proofs.Common.{◌≡◌, ◌≢◌, ◌⊎◌, inl, inr, ℕ, zero, suc, ◌+◌, ◌<◌, ◌≤◌, true, false, Some, List, [], ◌∷◌, ◌++◌, length, map, take, replicate, refl, sym, ap, ◌∙◌, arith, eqb}
+use Rattle.std.proofs.lemmas.Grind.{common_steps}
+use Rattle.std.proofs.Common.{◌≡◌, ◌≢◌, ◌⊎◌, ℕ, zero, suc, ◌+◌, ◌<◌, ◌≤◌, true, false, Some, List, [], ◌∷◌, ◌++◌, length, map, take, replicate, refl, sym, ap, ◌∙◌, arith, eqb}
 use Rattle.std.specs.Global.{Vec}
 use Rattle.std.specs.List.{slice_get, slice_index_or, slice_set}
 use Rattle.std.proofs.lemmas.Bool.{eq-eqb, eqb-true, false≢true}
-use Rattle.std.proofs.lemmas.Bool.Decides.{eqb_tells}
-use Rattle.std.proofs.lemmas.List.{get_or-set_same, get_or-set_other, length-set, map_more}
+use Rattle.std.proofs.lemmas.List.{get_or-set_same, length-set, map_more}
 use Rattle.hp_trail.specs.Tellers.{Claims, blank}
 use Rattle.hp_trail.specs.Walk.{lists}
 
 pub lists_long : {X : Type 0} (vs : List (Vec X)) → length (lists vs) ≡ length vs
-lists_long [] = refl
-lists_long (v ∷ vs) = ap suc (lists_long vs)
+lists_long vs = grind (arith, common_steps)
 
 pub some_is : {X : Type 0} (a b : X) → Some a ≡ Some b → a ≡ b
 some_is a b e = cc
 
 pub lists_read : {X : Type 0} (vs : List (Vec X)) (k : ℕ) (v : Vec X) → k < length vs → v ≡ slice_index_or vs k v → slice_index_or (lists vs) k [] ≡ v.items
-lists_read [] k v l e = absurd (omega (arith, l))
-lists_read (x ∷ xs) zero v l e = ap (λ w. w.items) (sym e)
-lists_read (x ∷ xs) (suc k) v l e = lists_read xs k v (omega (arith, l)) e
+lists_read vs k v l e = grind (arith, common_steps)
 
 pub lists_set : {X : Type 0} (vs : List (Vec X)) (k : ℕ) (v : Vec X) → lists (slice_set vs k v) ≡ slice_set (lists vs) k v.items
 lists_set [] k v = refl
@@ -27,9 +24,7 @@ lists_set (x ∷ xs) (suc k) v = ap (λ ys. x.items ∷ ys) (lists_set xs k v)
 
 -- an element is there below the end alone
 pub row_there : {X : Type 0} (xss : List (List X)) (k i : ℕ) → i < length (slice_index_or xss k []) → k < length xss
-row_there [] k i l = absurd (omega (arith, l))
-row_there (xs ∷ xss) zero i l = omega arith
-row_there (xs ∷ xss) (suc k) i l = let h = row_there xss k i l in omega (arith, h)
+row_there xss k i l = grind (arith, common_steps)
 
 pub get_there : {X : Type 0} (xs : List X) (i : ℕ) (x : X) → slice_get xs i ≡ Some x → i < length xs
 get_there [] i x e = cc
@@ -47,11 +42,7 @@ pub claim_same : (row row' : List ℕ) (place s : ℕ) → Claims row place s ro
 claim_same row row' place s c = ap (λ xs. slice_index_or xs place 0) c.now ∙ get_or-set_same row place (s + 1) 0 c.within
 
 pub claim_other : (row row' : List ℕ) (place s n : ℕ) → Claims row place s row' → (slice_index_or row' n 0 ≡ slice_index_or row n 0) ⊎ (n ≡ place)
-claim_other row row' place s n c =
-    elim (eqb_tells n place) [
-      | inl w ↦ inr w.1
-      | inr w ↦ inl (ap (λ xs. slice_index_or xs n 0) c.now ∙ get_or-set_other row place n (s + 1) 0 w.1)
-    ]
+claim_other row row' place s n c = grind (arith, common_steps)
 
 pub claim_long : (row row' : List ℕ) (place s : ℕ) → Claims row place s row' → length row' ≡ length row
 claim_long row row' place s c = ap length c.now ∙ length-set row place (s + 1)
@@ -62,19 +53,13 @@ element_at (y ∷ ys) zero x l e = ap Some (sym e)
 element_at (y ∷ ys) (suc s) x l e = element_at ys s x (omega (arith, l)) e
 
 pub map_snoc : {X Y : Type 0} (f : X → Y) (xs : List X) (x : X) → map f (xs ++ x ∷ []) ≡ map f xs ++ f x ∷ []
-map_snoc f [] x = refl
-map_snoc f (y ∷ ys) x = ap (λ zs. f y ∷ zs) (map_snoc f ys x)
+map_snoc f xs x = grind (arith, common_steps)
 
 -- one trail more has its row
 pub one_row_more : {X : Type 0} (rows new : List (Vec ℕ)) (slots : List (Vec X)) (i : ℕ) (v : Vec ℕ) (x : Vec X) → i < length slots → x ≡ slice_index_or slots i x
     → v.items ≡ replicate (length x.items) 0 → new ≡ rows ++ v ∷ [] → lists rows ≡ map blank (take i (lists slots))
     → lists new ≡ map blank (take (i + 1) (lists slots))
-one_row_more {X} rows new slots i v x l read zeros is so_far =
-    let f : List X → List ℕ = blank in
-    let long = lists_long slots in
-    let below : i < length (lists slots) = omega (arith, l, long) in
-    ap lists is ∙ map_snoc (λ w. w.items) rows v ∙ ap (λ xss. xss ++ v.items ∷ []) so_far
-    ∙ ap (λ xs. map f (take i (lists slots)) ++ xs ∷ []) (zeros ∙ ap f (sym (lists_read slots i x l read))) ∙ sym (map_more f (lists slots) i [] below)
+one_row_more {X} rows new slots i v x l read zeros is so_far = grind (arith, common_steps, lists_long, map_snoc, lists_read, map_more)
 
 -- ---- rows without a zero
 
@@ -85,9 +70,7 @@ pub empty_at : (row : List ℕ) (x : ℕ) → ((d : ℕ) → eqb (slice_index_or
 empty_at row x is = eqb-true (slice_index_or row x 0) 0 (is 0)
 
 pub zeros_at : (n k : ℕ) → ◌≡◌ {A = ℕ} (slice_index_or (replicate n 0) k 0) 0
-zeros_at zero k = refl
-zeros_at (suc n) zero = refl
-zeros_at (suc n) (suc k) = zeros_at n k
+zeros_at n k = grind (arith, common_steps)
 
 -- an element of one of the lists
 pub read_at : {X : Type 0} (vs : List (Vec X)) (s i : ℕ) (v : Vec X) (xs : List X) (x : X) → s < length vs → v ≡ slice_index_or vs s v → xs ≡ v.items → i < length xs
@@ -95,6 +78,4 @@ pub read_at : {X : Type 0} (vs : List (Vec X)) (s i : ℕ) (v : Vec X) (xs : Lis
 read_at vs s i v xs x l is same below at = ap (λ ys. slice_get ys i) (lists_read vs s v l is ∙ sym same) ∙ element_at xs i x below at
 
 pub number_at : (xs : List ℕ) (s n : ℕ) → s < length xs → n ≡ slice_index_or xs s n → slice_index_or xs s 0 ≡ n
-number_at [] s n l e = absurd (omega (arith, l))
-number_at (x ∷ xs) zero n l e = sym e
-number_at (x ∷ xs) (suc s) n l e = number_at xs s n (omega (arith, l)) e
+number_at xs s n l e = grind (arith, common_steps)

@@ -1,5 +1,6 @@
 -- One turn of the loop that joins.
-use Rattle.std.proofs.Common.{◌≡◌, ◌⊎◌, inl, inr, ℕ, ◌+◌, ◌*◌, ◌<◌, None, Some, List, [], ◌∷◌, ◌++◌, length, sym, ap, ◌∙◌, subst, arith}
+use Rattle.std.proofs.lemmas.Grind.{common_steps}
+use Rattle.std.proofs.Common.{◌≡◌, ◌⊎◌, ℕ, ◌+◌, ◌*◌, ◌<◌, None, Some, List, [], ◌∷◌, ◌++◌, length, sym, ap, ◌∙◌, subst, arith}
 use Rattle.std.specs.List.{Contains}
 use Rattle.std.proofs.lemmas.List.{length-append}
 use Rattle.std.proofs.lemmas.List.Elements.{Contains-append_left, Contains-push}
@@ -38,8 +39,7 @@ module _ (t : Trails) (receipts : List (List Receipt)) (rows : TellerRows) (told
     took = subst (λ (y : Trails). Took y receipts s part w.cursors w'.cursors) h.trails (subst (λ rs. Took w.trails rs s part w.cursors w'.cursors) h.receipts' p.2)
 
     woken : (q : Part) → (q ≡ part) ⊎ (q ≡ AtPool) → (u : ℕ) → teller rows q (cursor w'.cursors q) ≡ u + 1 → Contains work' u
-    woken q (inl is) u e = two.kept u (one.woken u (sym (ap (λ (x : Part). teller rows x (cursor w'.cursors x)) is) ∙ e))
-    woken q (inr is) u e = two.woken u (sym (ap (λ (x : Part). teller rows x (cursor w'.cursors x)) is) ∙ e)
+    woken q h1 u e = grind (arith, common_steps)
 
     pub turned : IsJoining t receipts w' order' work'
     turned = record {

@@ -1,9 +1,9 @@
 -- Going through the receipts: what the rows tell of those that were added.
+use Rattle.std.proofs.lemmas.Grind.{common_steps}
 use Rattle.std.proofs.Common.{◌≡◌, ◌≢◌, ◌⊎◌, inl, inr, ℕ, zero, suc, ◌+◌, ◌<◌, Option, None, Some, List, [], ◌∷◌, length, map, refl, sym, ap, ◌∙◌, subst, arith}
 use Rattle.std.specs.List.{slice_get, slice_index_or}
 use Rattle.std.specs.Option.{option_and_then, option_map}
 use Rattle.std.proofs.lemmas.Bool.Decides.{eqb_tells}
-use Rattle.std.proofs.lemmas.List.{length-replicate, length-map}
 use Rattle.hp_model.specs.declared.entry.Asked.{Asked}
 use Rattle.hp_model.specs.declared.entry.Part.{Part}
 use Rattle.hp_model.specs.declared.entry.Part.TheVariants.{Tasks, Slot as AtSlot, Pool as AtPool}
@@ -11,13 +11,12 @@ use Rattle.hp_model.specs.declared.entry.PoolEntry.{PoolEntry}
 use Rattle.hp_model.specs.declared.entry.PoolEntry.TheVariants.{OfSlot, OfPool}
 use Rattle.hp_model.specs.declared.entry.Receipt.{Receipt}
 use Rattle.hp_model.specs.declared.entry.SlotEntry.{SlotEntry}
-use Rattle.hp_model.specs.declared.entry.TableEntry.{TableEntry}
 use Rattle.hp_model.specs.declared.section.PoolAnswer.{PoolAnswer}
 use Rattle.hp_model.specs.declared.section.Section.{Section}
 use Rattle.hp_model.specs.threads.Differ.{Asks, Differ, HasReceipt, entry_at, of_pool}
 use Rattle.hp_model.specs.threads.JointRun.{Trails, slot_trail, Entry, InTasks, InSlot, InPool}
 use Rattle.hp_trail.specs.Tellers.{Added, AreListed, AreTold, Fit, Gap, IsNotFree, IsPast, IsRefused, NoGap, Source, Stands, TellerRows, TellsEntry, asked_section, blank, no_tellers, row, teller}
-use Rattle.hp_trail.proofs.Indexing.{get_there, row_there, some_is, there_get, zeros_at}
+use Rattle.hp_trail.proofs.Indexing.{get_there, row_there, there_get, zeros_at}
 
 some_none : {X : Type 0} (x : X) (o : Option X) → o ≡ Some x → o ≡ None → ⊥
 some_none x o a b = cc
@@ -42,28 +41,7 @@ entry_same t p q m n x y = ap (λ (o : Part). entry_at t o m) x ∙ ap (entry_at
 module _ (t : Trails) where
   -- an event with a section is a slot's
   pub asks_of : (p : Part) (place : ℕ) (e : Entry) (a : Asked) → entry_at t p place ≡ Some e → asked_section e ≡ Some a → (k : ℕ) × (p ≡ AtSlot k) × Asks t k place a
-  asks_of Tasks place e a at is = by_entry (slice_get t.tasks place) at
-    where
-      by_entry : (o : Option TableEntry) → option_map InTasks o ≡ Some e → (k : ℕ) × (Tasks ≡ AtSlot k) × Asks t k place a
-      by_entry None same = cc
-      by_entry (Some x) same = (let none = ap asked_section (some_is (InTasks x) e same) in cc)
-  asks_of (AtSlot k) place e a at is = by_entry (slice_get (slot_trail t k) place) refl at
-    where
-      by_entry : (o : Option SlotEntry) → slice_get (slot_trail t k) place ≡ o → option_map (InSlot k) o ≡ Some e → (n : ℕ) × (AtSlot k ≡ AtSlot n) × Asks t n place a
-      by_entry None there same = cc
-      by_entry (Some x) there same = (k, refl, record { entry = x; there = there; asks = ap asked_section (some_is (InSlot k x) e same) ∙ is })
-  asks_of AtPool place e a at is = by_entry (slice_get t.pool place) at
-    where
-      by_entry : (o : Option PoolEntry) → option_and_then of_pool o ≡ Some e → (k : ℕ) × (AtPool ≡ AtSlot k) × Asks t k place a
-      by_entry None same = cc
-      by_entry (Some (OfSlot section answer)) same = cc
-      by_entry (Some (OfPool v r)) same = (let none = ap asked_section (some_is (InPool v r) e same) in cc)
-
-  -- the other way round
-  pub asked_from : (p : Part) (place k : ℕ) (e : Entry) (a : Asked) → p ≡ AtSlot k → entry_at t p place ≡ Some e → Asks t k place a → asked_section e ≡ Some a
-  asked_from p place k e a part at asks =
-      let same : InSlot k asks.entry ≡ e = some_is (InSlot k asks.entry) e (sym (ap (option_map (InSlot k)) asks.there) ∙ sym (ap (λ (o : Part). entry_at t o place) part) ∙ at) in
-      ap asked_section (sym same) ∙ asks.asks
+  asks_of p place e a at is = grind (arith, common_steps)
 
   -- where a section stands in the pool's trail, no event does
   pub no_event : (place : ℕ) (section : Section) (answer : PoolAnswer) (e : Entry) → slice_get t.pool place ≡ Some (OfSlot section answer) → entry_at t AtPool place ≡ Some e → ⊥
@@ -73,12 +51,7 @@ module _ (t : Trails) where
 
   module _ (receipts : List (List Receipt)) where
     past_more : (s j u i : ℕ) → IsPast s (j + 1) u i → IsPast s j u i ⊎ ((u ≡ s) × (i ≡ j))
-    past_more s j u i (inl l) = inl (inl l)
-    past_more s j u i (inr x) = elim (split i j x.1) [ inl l ↦ inl (inr (x.0, l)) | inr e ↦ inr (x.0, e) ]
-
-    past_grows : (s j u i : ℕ) → IsPast s j u i → IsPast s (j + 1) u i
-    past_grows s j u i (inl l) = inl l
-    past_grows s j u i (inr x) = (let l = x.1 in inr (x.0, omega (arith, l)))
+    past_more s j u i h = grind (arith, common_steps)
 
     module _ (s j : ℕ) (r : Receipt) (w w' : TellerRows) (has : HasReceipt receipts s j r) (l : AreListed t receipts s j w) (a : Added t r s w w') where
       -- a place that was noted stays so
@@ -94,13 +67,10 @@ module _ (t : Trails) where
           ]
 
       new_is : (u i : ℕ) (q : Receipt) → u ≡ s → i ≡ j → HasReceipt receipts u i q → q ≡ r
-      new_is u i q x y h =
-          let moved : HasReceipt receipts s j q = subst (λ (n : ℕ). HasReceipt receipts s n q) y (subst (λ (n : ℕ). HasReceipt receipts n i q) x h) in
-          some_is q r (sym moved ∙ has)
+      new_is u i q x y h = grind (arith, common_steps)
 
       source_grows : (part : Part) (place : ℕ) → teller w' part place ≡ teller w part place → Source t receipts s j w part place → Source t receipts s (j + 1) w' part place
-      source_grows part place same x =
-          record { session = x.session; i = x.i; receipt = x.receipt; past = past_grows s j x.session x.i x.past; has = x.has; noted = same ∙ x.noted; is = x.is }
+      source_grows part place same x = grind (arith, common_steps)
 
       just_past : IsPast s (j + 1) s j
       just_past = inr (refl, omega arith)
@@ -144,10 +114,7 @@ module _ (t : Trails) where
       -- the section of the receipt itself
       own_section : (q : Receipt) (k : ℕ) (x : Asked) → q ≡ r → q.part ≡ AtSlot k → Asks t k q.place x
           → Stands t.pool x × (teller w AtPool x.place ≡ 0) × (teller w' AtPool x.place ≡ s + 1)
-      own_section q k x same part asks =
-          let part' : r.part ≡ AtSlot k = sym (ap (λ (y : Receipt). y.part) same) ∙ part in
-          let asks' : Asks t k r.place x = subst (λ (y : Receipt). Asks t k y.place x) same asks in
-          a.section x (asked_from r.part r.place k a.entry x part' a.tells.there asks')
+      own_section q k x same part asks = grind (arith, common_steps)
 
       section : (u i : ℕ) (q : Receipt) (k : ℕ) (x : Asked) → IsPast s (j + 1) u i → HasReceipt receipts u i q → q.part ≡ AtSlot k → Asks t k q.place x
           → Stands t.pool x × (teller w' AtPool x.place ≡ u + 1)
@@ -159,9 +126,7 @@ module _ (t : Trails) where
 
       -- the receipt's place was told of by none before
       first : (u i : ℕ) (q p : Receipt) → IsPast s j u i → HasReceipt receipts u i q → p ≡ r → q.part ≡ p.part → q.place ≡ p.place → ⊥
-      first u i q p old h same part place =
-          nonzero u (
-          sym (l.noted u i q old h) ∙ teller_at w q.part r.part q.place r.place (part ∙ ap (λ (x : Receipt). x.part) same) (place ∙ ap (λ (x : Receipt). x.place) same) ∙ a.free)
+      first u i q p old h same part place = grind (arith, common_steps)
 
       once : (u i v h : ℕ) (q p : Receipt) → IsPast s (j + 1) u i → IsPast s (j + 1) v h → HasReceipt receipts u i q → HasReceipt receipts v h p → q.part ≡ p.part → q.place ≡ p.place
           → (u ≡ v) × (i ≡ h)
@@ -237,8 +202,7 @@ module _ (t : Trails) where
         on v i (inr x) = (let same = x.0 in inl (omega (arith, same)))
 
     none_past : (v i : ℕ) → IsPast 0 0 v i → ⊥
-    none_past v i (inl l) = absurd (omega (arith, l))
-    none_past v i (inr x) = (let none = x.1 in absurd (omega (arith, none)))
+    none_past v i h = grind (arith, common_steps)
 
     no_row : (slots : List (List SlotEntry)) (k place : ℕ) → ◌≡◌ {A = ℕ} (slice_index_or (slice_index_or (map blank slots) k []) place 0) 0
     no_row [] k place = refl
@@ -246,19 +210,10 @@ module _ (t : Trails) where
     no_row (x ∷ xs) (suc k) place = no_row xs k place
 
     none_told : (part : Part) (place : ℕ) → teller (no_tellers (length t.tasks) t.slots (length t.pool)) part place ≡ 0
-    none_told Tasks place = zeros_at (length t.tasks) place
-    none_told (AtSlot k) place = no_row t.slots k place
-    none_told AtPool place = zeros_at (length t.pool) place
+    none_told part place = grind (arith, common_steps, zeros_at, no_row)
 
     pub listed_none : AreListed t receipts 0 0 (no_tellers (length t.tasks) t.slots (length t.pool))
-    listed_none = record {
-      right = λ v i q past. absurd (none_past v i past);
-      noted = λ v i q past. absurd (none_past v i past);
-      section = λ v i q k x past. absurd (none_past v i past);
-      source = λ part place some. absurd (some (none_told part place));
-      once = λ v i z h q p past. absurd (none_past v i past);
-      apart = λ v i z h q p k m x y past. absurd (none_past v i past);
-    }
+    listed_none = grind (arith, common_steps, right, none_past, noted, section, source, none_told, once, apart)
 
     -- ---- a receipt that can't be added
 
@@ -330,21 +285,9 @@ module _ (t : Trails) where
 
       -- an event's place has its row
       row_has : (part : Part) (place : ℕ) → entry_at t part place ≢ None → place < length (row w part)
-      row_has Tasks place some = by_entry (slice_get t.tasks place) refl
-        where
-          by_entry : (o : Option TableEntry) → slice_get t.tasks place ≡ o → place < length w.tasks
-          by_entry None e = absurd (some (ap (option_map InTasks) e))
-          by_entry (Some x) e = (let h = get_there t.tasks place x e in let long = fit.tasks in omega (arith, h, long))
-      row_has (AtSlot k) place some = by_entry (slice_get (slot_trail t k) place) refl
-        where
-          by_entry : (o : Option SlotEntry) → slice_get (slot_trail t k) place ≡ o → place < length (slice_index_or w.slots k [])
-          by_entry None e = absurd (some (ap (option_map (InSlot k)) e))
-          by_entry (Some x) e = (let h = get_there (slot_trail t k) place x e in let long = fit.slots k in omega (arith, h, long))
-      row_has AtPool place some = by_entry (slice_get t.pool place) refl
-        where
-          by_entry : (o : Option PoolEntry) → slice_get t.pool place ≡ o → place < length w.pool
-          by_entry None e = absurd (some (ap (option_and_then of_pool) e))
-          by_entry (Some x) e = (let h = get_there t.pool place x e in let long = fit.pool in omega (arith, h, long))
+      row_has Tasks place some = grind (arith, common_steps, get_there)
+      row_has (AtSlot k) place some = grind (arith, common_steps, get_there)
+      row_has AtPool place some = grind (arith, common_steps, get_there)
 
       told : NoGap w → (part : Part) (place : ℕ) → entry_at t part place ≢ None → (s : ℕ) × (j : ℕ) × (r : Receipt) × HasReceipt receipts s j r × (r.part ≡ part) × (r.place ≡ place)
       told full part place some =
@@ -382,14 +325,7 @@ module _ (t : Trails) where
 
       -- no receipt tells of a place that is not noted
       untold : (part : Part) (place : ℕ) (e : Entry) → entry_at t part place ≡ Some e → teller w part place ≡ 0 → Differ t receipts
-      untold part place e there none =
-          inr (inr (inr (inr (inr (inl record {
-            part = part;
-            place = place;
-            entry = e;
-            there = there;
-            untold = λ s i r has at. nonzero s (sym (l.noted s i r (past s i r has) has) ∙ teller_at w r.part part r.place place at.0 at.1 ∙ none);
-          })))))
+      untold part place e there none = grind (arith, common_steps)
 
       slot_not_pool : (k : ℕ) → AtSlot k ≡ AtPool → ⊥
       slot_not_pool k e = cc
@@ -437,15 +373,5 @@ module _ (t : Trails) where
 
   -- ---- rows of the trails' lengths
 
-  long_rows : (slots : List (List SlotEntry)) (k : ℕ) → length (slice_index_or (map blank slots) k []) ≡ length (slice_index_or slots k [])
-  long_rows [] k = refl
-  long_rows (x ∷ xs) zero = length-replicate (length x) 0
-  long_rows (x ∷ xs) (suc k) = long_rows xs k
-
   pub fit_none : Fit t (no_tellers (length t.tasks) t.slots (length t.pool))
-  fit_none = record {
-    tasks = length-replicate (length t.tasks) 0;
-    count = length-map t.slots blank;
-    slots = long_rows t.slots;
-    pool = length-replicate (length t.pool) 0;
-  }
+  fit_none = grind (arith, common_steps)

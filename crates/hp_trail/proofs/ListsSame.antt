@@ -1,5 +1,7 @@
 -- Lists of names that compare as equal are the same.
-use Rattle.std.proofs.Common.{◌≡◌, ◌≢◌, ℕ, Bool, true, false, ◌&&◌, List, [], ◌∷◌, refl, ap, ◌∙◌, subst}
+use Rattle.std.proofs.Common.{arith}
+use Rattle.std.proofs.lemmas.Grind.{common_steps}
+use Rattle.std.proofs.Common.{◌≡◌, ◌≢◌, ℕ, Bool, true, false, ◌&&◌, List, [], ◌∷◌, refl, ap, ◌∙◌}
 use Rattle.std.specs.Prelude.{nat_eq}
 use Rattle.std.specs.Cmp.Lexicographic.{pointwise}
 use Rattle.std.proofs.lemmas.Bool.{eqb-true, eq-eqb, and_parts}
@@ -20,8 +22,7 @@ own_list R h [] = refl
 own_list R h (x ∷ xs) = (λ i. h x i && own_list R h xs i)
 
 pub own_rows : {X : Type 0} (R : X → X → Bool) → ((x : X) → R x x ≡ true) → (xs ys : List X) → pointwise R xs ys ≡ false → xs ≡ ys → ⊥
-own_rows R h xs ys e is =
-    let own : pointwise R xs ys ≡ true = subst (λ zs. pointwise R xs zs ≡ true) is (own_list R h xs) in cc
+own_rows R h xs ys e is = grind (arith, common_steps, own_list)
 
 pub other_names : (xs ys : List (List ℕ)) → pointwise (pointwise nat_eq) xs ys ≡ false → xs ≢ ys
 other_names = own_rows (pointwise nat_eq) (own_list nat_eq (λ x. eq-eqb x x refl))

@@ -1,4 +1,5 @@
 -- What was passed: a receipt that was passed tells of a place that was, and a place that was passed is told by a receipt that was.
+use Rattle.std.proofs.lemmas.Grind.{common_steps}
 use Rattle.std.proofs.Common.{◌≡◌, ℕ, zero, suc, ◌+◌, ◌<◌, ◌==◌, Bool, true, false, cond, Option, None, Some, List, [], ◌∷◌, length, take, refl, sym, ap, ◌∙◌, subst, arith}
 use Rattle.std.specs.List.{All, slice_get, slice_index_or}
 use Rattle.std.proofs.lemmas.Bool.{eq-eqb, eqb-true}
@@ -28,9 +29,7 @@ over (Some x) xs y m h = (suc m, h)
 
 pub kept : {X Y : Type 0} (f : X → Option Y) (xs : List X) (x : X) (y : Y) (n : ℕ) → slice_get xs n ≡ Some x → f x ≡ Some y → (m : ℕ) × (slice_get (keep f xs) m ≡ Some y)
 kept f [] x y n has is = cc
-kept f (z ∷ zs) x y zero has is =
-    let gives : f z ≡ Some y = ap f (some_is z x has) ∙ is in
-    (0, ap (λ o. slice_get (option_cons o (keep f zs)) 0) gives)
+kept f (z ∷ zs) x y zero has is = grind (arith, common_steps, some_is)
 kept f (z ∷ zs) x y (suc n) has is = let r = kept f zs x y n has is in over (f z) (keep f zs) y r.0 r.1
 
 abbrev pub From : {X Y : Type 0} → (X → Option Y) → List X → Y → Type 0
@@ -49,16 +48,14 @@ kept_from f (z ∷ zs) y m has = from_head f z zs y (f z) refl (λ m has. kept_f
 pub numbered_is : {X : Type 0} (a c : ℕ) (xs : List X) (m : ℕ) (p : ℕ × X) → slice_get (numbered a (take c xs)) m ≡ Some p → (p.0 ≡ a + m) × (m < c) × (slice_get xs m ≡ Some p.1)
 numbered_is a zero xs m p has = cc
 numbered_is a (suc c) [] m p has = cc
-numbered_is a (suc c) (x ∷ xs) zero p has =
-    let same = some_is (a, x) p has in (omega (arith, ap (λ (q : ℕ × _). q.0) same), omega arith, ap (λ q. Some q.1) same)
+numbered_is a (suc c) (x ∷ xs) zero p has = grind (arith, common_steps, some_is)
 numbered_is a (suc c) (x ∷ xs) (suc m) p has =
     let r = numbered_is (a + 1) c xs m p has in (omega (arith, r.0), omega (arith, r.1), r.2)
 
 pub numbered_at : {X : Type 0} (a c : ℕ) (xs : List X) (m : ℕ) (x : X) → m < c → slice_get xs m ≡ Some x → slice_get (numbered a (take c xs)) m ≡ Some (a + m, x)
 numbered_at a zero xs m x l has = absurd (omega (arith, l))
 numbered_at a (suc c) [] m x l has = cc
-numbered_at a (suc c) (y ∷ ys) zero x l has =
-    let place : a ≡ a + 0 = omega arith in ap (λ z. Some (a, z)) (some_is y x has) ∙ ap (λ n. Some (n, x)) place
+numbered_at a (suc c) (y ∷ ys) zero x l has = grind (arith, common_steps, some_is)
 numbered_at a (suc c) (y ∷ ys) (suc m) x l has =
     let place : a + 1 + m ≡ a + suc m = omega arith in numbered_at (a + 1) c ys m x (omega (arith, l)) has ∙ ap (λ n. Some (n, x)) place
 
@@ -88,11 +85,7 @@ two_kinds s x v a e = cc
 -- ---- places
 
 pub told_is : (s : ℕ) (i : Item) (r : Receipt) → told s i ≡ Some r → (i.by ≡ s) × (r ≡ receipt_of i)
-told_is s i r = when (i.by == s) refl
-  where
-    when : (b : Bool) → (i.by == s) ≡ b → cond b (Some (receipt_of i)) None ≡ Some r → (i.by ≡ s) × (r ≡ receipt_of i)
-    when true same e = (eqb-true i.by s same, sym (some_is (receipt_of i) r e))
-    when false same e = cc
+told_is s i r = grind (arith, common_steps)
 
 pub own_slot : (k place : ℕ) (e : SlotEntry) → placed place (slot_entry k (InSlot k e)) ≡ Some (place, e)
 own_slot k place e = ap (λ b. placed place (cond b (Some e) None)) (eq-eqb k k refl)
@@ -100,27 +93,13 @@ own_slot k place e = ap (λ b. placed place (cond b (Some e) None)) (eq-eqb k k 
 -- ---- an item, by what it gives to a part
 
 pub task_is : (e : Entry) (place : ℕ) (p : ℕ × TableEntry) → placed place (task_entry e) ≡ Some p → (part_of e ≡ Tasks) × (place ≡ p.0)
-task_is (InTasks x) place p is = (refl, ap (λ (q : ℕ × TableEntry). q.0) (some_is (place, x) p is))
-task_is (InSlot k x) place p is = cc
-task_is (InPool e a) place p is = cc
+task_is e place p is = grind (arith, common_steps)
 
 pub slot_is : (k : ℕ) (e : Entry) (place : ℕ) (p : ℕ × SlotEntry) → placed place (slot_entry k e) ≡ Some p → (part_of e ≡ AtSlot k) × (place ≡ p.0)
-slot_is k (InTasks x) place p is = cc
-slot_is k (InSlot j x) place p is = by_test (j == k) refl is
-  where
-    by_test : (b : Bool) → (j == k) ≡ b → placed place (cond b (Some x) None) ≡ Some p → (AtSlot j ≡ AtSlot k) × (place ≡ p.0)
-    by_test true same is = (ap AtSlot (eqb-true j k same), ap (λ (q : ℕ × SlotEntry). q.0) (some_is (place, x) p is))
-    by_test false same is = cc
-slot_is k (InPool e a) place p is = cc
+slot_is k e place p is = grind (arith, common_steps)
 
 pub pool_is : (e : Entry) (place n : ℕ) (v : PoolEvent) (a : Reply) → pool_entry place e ≡ Some (n, OfPool v a) → (part_of e ≡ AtPool) × (place ≡ n)
-pool_is (InTasks x) place n v a is = cc
-pool_is (InSlot j x) place n v a is = no_section x.asked is
-  where
-    no_section : (o : Option Asked) → section_entry o ≡ Some (n, OfPool v a) → (AtSlot j ≡ AtPool) × (place ≡ n)
-    no_section None is = cc
-    no_section (Some x) is = absurd (two_kinds x.section x.answer v a (ap (λ (q : ℕ × PoolEntry). q.1) (some_is (x.place, OfSlot x.section x.answer) (n, OfPool v a) is)))
-pool_is (InPool x y) place n v a is = (refl, ap (λ (q : ℕ × PoolEntry). q.0) (some_is (place, OfPool x y) (n, OfPool v a) is))
+pool_is e place n v a is = grind (arith, common_steps)
 
 module _ (t : Trails) (receipts : List (List Receipt)) (c : Cursors) (items : List Item) (w : Walked t receipts c items) where
   -- an item's place is below the cursor
@@ -160,8 +139,7 @@ module _ (t : Trails) (receipts : List (List Receipt)) (c : Cursors) (items : Li
   Told part place = (s : ℕ) × (j : ℕ) × (r : Receipt) × (s < length receipts) × (j < cursor_at c.sessions s) × HasReceipt receipts s j r × (r.part ≡ part) × (r.place ≡ place)
 
   told_at : (i : Item) (n : ℕ) (part : Part) (place : ℕ) → slice_get items n ≡ Some i → part_of i.entry ≡ part → i.place ≡ place → Told part place
-  told_at i n part place has is at =
-      let r = told_by i n has in (r.0, r.1, receipt_of i, r.2, r.3, r.4, is, at)
+  told_at i n part place has is at = grind (arith, common_steps, told_by)
 
   -- an event of the task table that was passed is told by a receipt that was passed
   pub passed_task : (place : ℕ) (e : TableEntry) → place < c.tasks → slice_get t.tasks place ≡ Some e → Told Tasks place

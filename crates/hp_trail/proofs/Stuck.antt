@@ -1,4 +1,5 @@
 -- Where the walk can't go on: what is left of trails and receipts goes round in a circle.
+use Rattle.std.proofs.lemmas.Grind.{common_steps}
 use Rattle.std.proofs.Common.{◌≡◌, ◌≢◌, inl, inr, ℕ, ◌<◌, ◌≤◌, Option, None, Some, List, length, refl, sym, ap, subst, arith}
 use Rattle.std.specs.List.{slice_get}
 use Rattle.std.specs.Option.{option_map, option_and_then}
@@ -66,15 +67,7 @@ module _ (t : Trails) (receipts : List (List Receipt)) (c : Cursors) (items : Li
   -- and an event that is left is told by a receipt that is left
   told_left : (part : Part) (place : ℕ) → entry_at t part place ≢ None → cursor c part ≤ place
       → (s : ℕ) × (j : ℕ) × (r : Receipt) × (cursor_at c.sessions s ≤ j) × HasReceipt receipts s j r × (r.part ≡ part) × (r.place ≡ place)
-  told_left part place some l =
-      let x = h.told part place some in
-      elim (cases_lt x.1 (cursor_at c.sessions x.0)) [
-        | inl before ↦
-            let below : x.2.place < cursor c x.2.part = passed_place t receipts c items w x.0 x.1 x.2 (session_there x.0 x.1 x.2 x.3) before x.3 in
-            let same : cursor c x.2.part ≡ cursor c part = ap (cursor c) x.4 in
-            absurd (omega (arith, below, same, x.5, l))
-        | inr after ↦ (x.0, x.1, x.2, after, x.3, x.4, x.5)
-      ]
+  told_left part place some l = grind (arith, common_steps, cases_lt, passed_place, session_there)
 
   -- a section at the pool's cursor is of an event that is left
   claimed : (section : Section) (answer : PoolAnswer) → slice_get t.pool c.pool ≡ Some (OfSlot section answer)
@@ -132,14 +125,7 @@ module _ (t : Trails) (receipts : List (List Receipt)) (c : Cursors) (items : Li
   -- all receipts were passed, and with them all trails
   module _ (ended : HaveEnded receipts c) where
     all_passed : (part : Part) (place : ℕ) → entry_at t part place ≢ None → place < cursor c part
-    all_passed part place some =
-        let x = h.told part place some in
-        let there = session_there x.0 x.1 x.2 x.3 in
-        let long = ended x.0 there in
-        let here = get_there (session receipts x.0) x.1 x.2 x.3 in
-        let below : x.2.place < cursor c x.2.part = passed_place t receipts c items w x.0 x.1 x.2 there (omega (arith, long, here)) x.3 in
-        let same : cursor c x.2.part ≡ cursor c part = ap (cursor c) x.4 in
-        omega (arith, below, same, x.5)
+    all_passed part place some = grind (arith, common_steps, session_there, get_there, passed_place)
 
     whole_tasks : length t.tasks ≤ c.tasks
     whole_tasks =

@@ -1,22 +1,18 @@
 -- The session's next receipt with the event that it tells of is the next item of the walk.
-use Rattle.std.proofs.Common.{◌≡◌, inl, inr, ℕ, ◌+◌, ◌<◌, ◌==◌, Bool, cond, Option, None, Some, List, length, refl, sym, ap, ◌∙◌, subst, arith}
+use Rattle.std.proofs.lemmas.Grind.{common_steps}
+use Rattle.std.proofs.Common.{◌≡◌, inr, ℕ, ◌+◌, ◌<◌, ◌==◌, cond, Option, None, Some, List, length, refl, sym, ap, ◌∙◌, subst, arith}
 use Rattle.std.specs.List.{slice_get, slice_index_or, slice_set}
-use Rattle.std.specs.Option.{option_and_then, option_map}
-use Rattle.std.proofs.lemmas.Bool.{eq-eqb}
-use Rattle.std.proofs.lemmas.Bool.Decides.{eqb_tells}
-use Rattle.std.proofs.lemmas.List.{get_or-set_same, get_or-set_other, length-set}
+use Rattle.std.specs.Option.{option_and_then}
 use Rattle.hp_model.specs.declared.entry.Asked.{Asked}
 use Rattle.hp_model.specs.declared.entry.Part.{Part}
-use Rattle.hp_model.specs.declared.entry.Part.TheVariants.{Tasks, Slot as AtSlot, Pool as AtPool}
-use Rattle.hp_model.specs.declared.entry.PoolEntry.{PoolEntry}
-use Rattle.hp_model.specs.declared.entry.PoolEntry.TheVariants.{OfSlot, OfPool}
+use Rattle.hp_model.specs.declared.entry.Part.TheVariants.{Slot as AtSlot}
+use Rattle.hp_model.specs.declared.entry.PoolEntry.TheVariants.{OfPool}
 use Rattle.hp_model.specs.declared.entry.Receipt.{Receipt}
 use Rattle.hp_model.specs.declared.entry.SlotEntry.{SlotEntry}
-use Rattle.hp_model.specs.declared.entry.TableEntry.{TableEntry}
-use Rattle.hp_model.specs.threads.Differ.{HasReceipt, entry_at, of_pool}
-use Rattle.hp_model.specs.threads.JointRun.{Trails, slot_trail, Entry, InTasks, InSlot, InPool, Item, section_entry, placed, part_of, event_of, receipt_of}
+use Rattle.hp_model.specs.threads.Differ.{HasReceipt, entry_at}
+use Rattle.hp_model.specs.threads.JointRun.{Trails, slot_trail, Entry, InTasks, InSlot, InPool, Item, part_of, event_of, receipt_of}
 use Rattle.hp_trail.specs.Tellers.{AreRight, HaveSections, Stands, TellsEntry, asked_section}
-use Rattle.hp_trail.specs.Walk.{ComesNext, Cursors, GoesNumbered, GoesOn, IsBlocked, IsLater, Passes, Waits, SectionStands, Took}
+use Rattle.hp_trail.specs.Walk.{ComesNext, Cursors, GoesOn, IsBlocked, IsLater, Passes, Waits, SectionStands, Took}
 use Rattle.hp_trail.specs.Walk.{cursor_at, cursor, next_section, part_length, past, past_section, session}
 use Rattle.hp_trail.proofs.Indexing.{get_there, number_at, row_there, some_is}
 use Rattle.hp_trail.proofs.Listing.{asks_of}
@@ -29,22 +25,7 @@ StandsAt t (InPool v a) place = slice_get t.pool place ≡ Some (OfPool v a)
 
 module _ (t : Trails) where
   pub stands_at : (p : Part) (place : ℕ) (e : Entry) → entry_at t p place ≡ Some e → (part_of e ≡ p) × StandsAt t e place
-  stands_at Tasks place e is = by_entry (slice_get t.tasks place) refl is
-    where
-      by_entry : (o : Option TableEntry) → slice_get t.tasks place ≡ o → option_map InTasks o ≡ Some e → (part_of e ≡ Tasks) × StandsAt t e place
-      by_entry None there same = cc
-      by_entry (Some x) there same = subst (λ (y : Entry). (part_of y ≡ Tasks) × StandsAt t y place) (some_is (InTasks x) e same) (refl, there)
-  stands_at (AtSlot k) place e is = by_entry (slice_get (slot_trail t k) place) refl is
-    where
-      by_entry : (o : Option SlotEntry) → slice_get (slot_trail t k) place ≡ o → option_map (InSlot k) o ≡ Some e → (part_of e ≡ AtSlot k) × StandsAt t e place
-      by_entry None there same = cc
-      by_entry (Some x) there same = subst (λ (y : Entry). (part_of y ≡ AtSlot k) × StandsAt t y place) (some_is (InSlot k x) e same) (refl, there)
-  stands_at AtPool place e is = by_entry (slice_get t.pool place) refl is
-    where
-      by_entry : (o : Option PoolEntry) → slice_get t.pool place ≡ o → option_and_then of_pool o ≡ Some e → (part_of e ≡ AtPool) × StandsAt t e place
-      by_entry None there same = cc
-      by_entry (Some (OfSlot section answer)) there same = cc
-      by_entry (Some (OfPool v a)) there same = subst (λ (y : Entry). (part_of y ≡ AtPool) × StandsAt t y place) (some_is (InPool v a) e same) (refl, there)
+  stands_at p place e is = grind (arith, common_steps)
 
 -- a section comes next in the pool's trail
 abbrev pub SectionNext : Trails → Cursors → Option Asked → Type 0
@@ -70,80 +51,17 @@ module _ (t : Trails) (receipts : List (List Receipt)) (s : ℕ) (c : Cursors) (
     below = row_there receipts s (cursor_at c.sessions s) (get_there (session receipts s) (cursor_at c.sessions s) r h.has)
 
     told_on : (n : ℕ) → GoesOn (session receipts n) (cursor_at c.sessions n) (cond (s == n) (Some (receipt_of (item e))) None) (cursor_at (slice_set c.sessions s (cursor_at c.sessions s + 1)) n)
-    told_on n =
-        elim (eqb_tells s n) [
-          | inl w ↦
-              let there = below in
-              let long = h.sessions in
-              let now : cursor_at (slice_set c.sessions s (cursor_at c.sessions s + 1)) s ≡ cursor_at c.sessions s + 1 =
-              get_or-set_same c.sessions s (cursor_at c.sessions s + 1) 0 (omega (arith, there, long)) in
-              subst (λ (m : ℕ). GoesOn (session receipts m) (cursor_at c.sessions m) (cond (s == m) (Some (receipt_of (item e))) None)
-              (cursor_at (slice_set c.sessions s (cursor_at c.sessions s + 1)) m)) w.1
-              (subst (λ (b : Bool). GoesOn (session receipts s) (cursor_at c.sessions s) (cond b (Some (receipt_of (item e))) None)
-              (cursor_at (slice_set c.sessions s (cursor_at c.sessions s + 1)) s)) (sym (eq-eqb s s refl))
-              (h.has ∙ ap Some h.is, now))
-          | inr w ↦
-              let now : cursor_at (slice_set c.sessions s (cursor_at c.sessions s + 1)) n ≡ cursor_at c.sessions n =
-              get_or-set_other c.sessions s n (cursor_at c.sessions s + 1) 0 (λ same. w.1 (sym same)) in
-              subst (λ (b : Bool). GoesOn (session receipts n) (cursor_at c.sessions n) (cond b (Some (receipt_of (item e))) None)
-              (cursor_at (slice_set c.sessions s (cursor_at c.sessions s + 1)) n)) (sym w.0) now
-        ]
-
-  slots_on : (k : ℕ) (e : SlotEntry) → length c.slots ≡ length t.slots → slice_get (slot_trail t k) (cursor_at c.slots k) ≡ Some e
-      → (n : ℕ) → GoesNumbered (slot_trail t n) (cursor_at c.slots n) (placed (cursor_at c.slots k) (cond (k == n) (Some e) None)) (cursor_at (slice_set c.slots k (cursor_at c.slots k + 1)) n)
-  slots_on k e long there n =
-      elim (eqb_tells k n) [
-        | inl w ↦
-            let within = row_there t.slots k (cursor_at c.slots k) (get_there (slot_trail t k) (cursor_at c.slots k) e there) in
-            let now : cursor_at (slice_set c.slots k (cursor_at c.slots k + 1)) k ≡ cursor_at c.slots k + 1 = get_or-set_same c.slots k (cursor_at c.slots k + 1) 0 (omega (arith, within, long)) in
-            subst (λ (m : ℕ). GoesNumbered (slot_trail t m) (cursor_at c.slots m) (placed (cursor_at c.slots k) (cond (k == m) (Some e) None))
-            (cursor_at (slice_set c.slots k (cursor_at c.slots k + 1)) m)) w.1
-            (subst (λ (b : Bool). GoesNumbered (slot_trail t k) (cursor_at c.slots k) (placed (cursor_at c.slots k) (cond b (Some e) None))
-            (cursor_at (slice_set c.slots k (cursor_at c.slots k + 1)) k)) (sym (eq-eqb k k refl)) (refl, there, now))
-        | inr w ↦
-            let now : cursor_at (slice_set c.slots k (cursor_at c.slots k + 1)) n ≡ cursor_at c.slots n = get_or-set_other c.slots k n (cursor_at c.slots k + 1) 0 (λ same. w.1 (sym same)) in
-            subst (λ (b : Bool). GoesNumbered (slot_trail t n) (cursor_at c.slots n) (placed (cursor_at c.slots k) (cond b (Some e) None))
-            (cursor_at (slice_set c.slots k (cursor_at c.slots k + 1)) n)) (sym w.0) now
-      ]
+    told_on n = grind (arith, common_steps)
 
   -- by the section of a slot's entry
   slot_passes : (k : ℕ) (e : SlotEntry) (o : Option Asked) → e.asked ≡ o → IsNextOf (InSlot k e) → SectionNext t c o
       → Passes t receipts c (record { entry = InSlot k e; place = cursor_at c.slots k; by = s }) (past_session s (past (AtSlot k) (past_section o c)))
-  slot_passes k e None is h next = record {
-    tasks = refl;
-    slots = λ n l. slots_on k e h.slots h.stands n;
-    pool = subst (λ o. GoesNumbered t.pool c.pool (section_entry o) c.pool) (sym is) refl;
-    there = row_there t.slots k (cursor_at c.slots k) (get_there (slot_trail t k) (cursor_at c.slots k) e h.stands);
-    told = λ n l. told_on (InSlot k e) h n;
-    by = below (InSlot k e) h;
-  }
-  slot_passes k e (Some a) is h next = record {
-    tasks = refl;
-    slots = λ n l. slots_on k e h.slots h.stands n;
-    pool = subst (λ o. GoesNumbered t.pool c.pool (section_entry o) (c.pool + 1)) (sym is) (next.1, ap (slice_get t.pool) (sym next.1) ∙ next.0, refl);
-    there = row_there t.slots k (cursor_at c.slots k) (get_there (slot_trail t k) (cursor_at c.slots k) e h.stands);
-    told = λ n l. told_on (InSlot k e) h n;
-    by = below (InSlot k e) h;
-  }
+  slot_passes k e o is h next = grind (arith, common_steps)
 
   passes : (e : Entry) (h : IsNextOf e) → Passes t receipts c (item e) (past_session s (past (part_of e) (past_section (asked_section e) c)))
-  passes (InTasks e) h = record {
-    tasks = (refl, h.stands, refl);
-    slots = λ n l. refl;
-    pool = refl;
-    there = tt;
-    told = λ n l. told_on (InTasks e) h n;
-    by = below (InTasks e) h;
-  }
+  passes (InTasks e) h = grind (arith, common_steps, told_on, below)
   passes (InSlot k e) h = slot_passes k e e.asked refl h h.section
-  passes (InPool v a) h = record {
-    tasks = refl;
-    slots = λ n l. refl;
-    pool = (refl, h.stands, refl);
-    there = tt;
-    told = λ n l. told_on (InPool v a) h n;
-    by = below (InPool v a) h;
-  }
+  passes (InPool v a) h = grind (arith, common_steps, told_on, below)
 
   -- the receipt, with the entry that it tells of
   pub took : (e : Entry) → TellsEntry t r e → HasReceipt receipts s (cursor_at c.sessions s) r → r.place ≡ cursor c r.part → length c.sessions ≡ length receipts →
@@ -175,16 +93,11 @@ pub record Found (t : Trails) (c : Cursors) (r : Receipt) (part : Part) : Type 0
 
 module _ (t : Trails) (c : Cursors) where
   by_section : (o : Option Asked) → ((a : Asked) → o ≡ Some a → Stands t.pool a) → SectionStands t o
-  by_section None h = tt
-  by_section (Some a) h = h a refl
+  by_section o h = grind (arith, common_steps)
 
   within : (e : Entry) → StandsAt t e (cursor c (part_of e)) → cursor (past_section (asked_section e) c) (part_of e) < part_length t (part_of e)
   within (InTasks e) h = get_there t.tasks c.tasks e h
-  within (InSlot k e) h = by_asked e.asked
-    where
-      by_asked : (o : Option Asked) → cursor_at (past_section o c).slots k < length (slot_trail t k)
-      by_asked None = get_there (slot_trail t k) (cursor_at c.slots k) e h
-      by_asked (Some a) = get_there (slot_trail t k) (cursor_at c.slots k) e h
+  within (InSlot k e) h = grind (arith, common_steps, get_there)
   within (InPool v a) h = get_there t.pool c.pool (OfPool v a) h
 
   pub found : (receipts : List (List Receipt)) (s i : ℕ) (r : Receipt) (part : Part) (place : ℕ) → AreRight t receipts → HaveSections t receipts → HasReceipt receipts s i r → r.part ≡ part
@@ -211,20 +124,10 @@ module _ (t : Trails) (c : Cursors) where
 -- ---- what passing it comes to
 
 pub past_sessions : (part : Part) (o : Option Asked) (c : Cursors) → (past part (past_section o c)).sessions ≡ c.sessions
-past_sessions Tasks None c = refl
-past_sessions Tasks (Some a) c = refl
-past_sessions (AtSlot k) None c = refl
-past_sessions (AtSlot k) (Some a) c = refl
-past_sessions AtPool None c = refl
-past_sessions AtPool (Some a) c = refl
+past_sessions part o c = grind (arith, common_steps)
 
 past_slots : (part : Part) (o : Option Asked) (c : Cursors) → length (past part (past_section o c)).slots ≡ length c.slots
-past_slots Tasks None c = refl
-past_slots Tasks (Some a) c = refl
-past_slots (AtSlot k) None c = length-set c.slots k (cursor_at c.slots k + 1)
-past_slots (AtSlot k) (Some a) c = length-set c.slots k (cursor_at c.slots k + 1)
-past_slots AtPool None c = refl
-past_slots AtPool (Some a) c = refl
+past_slots part o c = grind (arith, common_steps)
 
 pub taken : (t : Trails) (receipts : List (List Receipt)) (s : ℕ) (c : Cursors) (r : Receipt) (part : Part) (inside : Cursors) (n : ℕ) → Found t c r part
     → HasReceipt receipts s (cursor_at c.sessions s) r

@@ -1,12 +1,12 @@
 -- One item more, and the end of the walk.
-use Rattle.std.proofs.Common.{◌≡◌, ℕ, zero, suc, ◌+◌, ◌<◌, ◌≤◌, Option, None, Some, List, [], ◌∷◌, ◌++◌, length, take, refl, sym, ap, ◌∙◌, subst, arith, append-nil}
+use Rattle.std.proofs.lemmas.Grind.{common_steps}
+use Rattle.std.proofs.Common.{◌≡◌, ℕ, zero, suc, ◌+◌, ◌<◌, ◌≤◌, Option, None, Some, List, [], ◌∷◌, ◌++◌, length, take, refl, sym, ap, ◌∙◌, subst, arith}
 use Rattle.std.specs.List.{slice_get}
-use Rattle.std.proofs.lemmas.List.{take_all}
 use Rattle.std.proofs.lemmas.List.Elements.{All-append, All-cons, All-nil}
 use Rattle.hp_model.specs.declared.entry.Receipt.{Receipt}
-use Rattle.hp_model.specs.threads.JointRun.{Trails, slot_trail, Item, option_cons, keep, numbered, task_part, slot_part, pool_part, told, IsThere, Joins}
+use Rattle.hp_model.specs.threads.JointRun.{Trails, slot_trail, Item, option_cons, keep, numbered, Joins}
 use Rattle.hp_model.specs.declared.entry.Part.{Part}
-use Rattle.hp_trail.specs.Walk.{Cursors, cursor_at, session, Walked, GoesNumbered, GoesOn, Passes, HaveEnded, Took, at_start, WalkedBy}
+use Rattle.hp_trail.specs.Walk.{Cursors, cursor_at, Walked, GoesNumbered, GoesOn, Passes, HaveEnded, Took, at_start, WalkedBy}
 use Rattle.hp_trail.proofs.Indexing.{map_snoc, some_is, zeros_at}
 
 pub keep_snoc : {X Y : Type 0} (f : X → Option Y) (xs : List X) (x : X) → keep f (xs ++ x ∷ []) ≡ keep f xs ++ option_cons (f x) []
@@ -26,10 +26,7 @@ take_snoc (y ∷ ys) (suc c) x e =
 
 numbered_snoc : {X : Type 0} (a c : ℕ) (xs : List X) (x : X) → slice_get xs c ≡ Some x → numbered a (take (c + 1) xs) ≡ numbered a (take c xs) ++ (a + c, x) ∷ []
 numbered_snoc a c [] x e = cc
-numbered_snoc a zero (y ∷ ys) x e =
-    let same : y ≡ x = cc in
-    let place : a ≡ a + 0 = omega arith in
-    ap (λ z. (a, z) ∷ []) same ∙ ap (λ n. (n, x) ∷ []) place
+numbered_snoc a zero (y ∷ ys) x e = grind (arith, common_steps)
 numbered_snoc a (suc c) (y ∷ ys) x e =
     let place : a + 1 + c ≡ a + suc c = omega arith in
     let more : suc c + 1 ≡ suc (c + 1) = omega arith in
@@ -38,8 +35,7 @@ numbered_snoc a (suc c) (y ∷ ys) x e =
 pub goes : {X : Type 0} (f : Item → Option (ℕ × X)) (items : List Item) (i : Item) (xs : List X) (c d : ℕ) (o : Option (ℕ × X)) → f i ≡ o
     → keep f items ≡ numbered 0 (take c xs) → GoesNumbered xs c o d
     → keep f (items ++ i ∷ []) ≡ numbered 0 (take d xs)
-goes f items i xs c d None is so_far h =
-    keep_snoc f items i ∙ ap (λ o. keep f items ++ option_cons o []) is ∙ append-nil (keep f items) ∙ so_far ∙ ap (λ n. numbered 0 (take n xs)) (sym h)
+goes f items i xs c d None is so_far h = grind (arith, common_steps, keep_snoc)
 goes f items i xs c d (Some p) is so_far h =
     let pair : (c, p.1) ≡ p = ap (λ n. (n, p.1)) (sym h.0) in
     let zero_more : c ≡ 0 + c = omega arith in
@@ -48,11 +44,8 @@ goes f items i xs c d (Some p) is so_far h =
 
 pub goes_on : {X : Type 0} (f : Item → Option X) (items : List Item) (i : Item) (xs : List X) (c d : ℕ) (o : Option X) → f i ≡ o → keep f items ≡ take c xs → GoesOn xs c o d
     → keep f (items ++ i ∷ []) ≡ take d xs
-goes_on f items i xs c d None is so_far h =
-    keep_snoc f items i ∙ ap (λ o. keep f items ++ option_cons o []) is ∙ append-nil (keep f items) ∙ so_far ∙ ap (λ n. take n xs) (sym h)
-goes_on f items i xs c d (Some x) is so_far h =
-    keep_snoc f items i ∙ ap (λ o. keep f items ++ option_cons o []) is ∙ ap (λ ys. ys ++ x ∷ []) so_far
-    ∙ sym (take_snoc xs c x h.0) ∙ ap (λ n. take n xs) (sym h.1)
+goes_on f items i xs c d None is so_far h = grind (arith, common_steps, keep_snoc)
+goes_on f items i xs c d (Some x) is so_far h = grind (arith, common_steps, keep_snoc, take_snoc)
 
 -- every trail was passed
 pub record IsWhole (t : Trails) (c : Cursors) : Type 0 where
@@ -63,41 +56,14 @@ pub record IsWhole (t : Trails) (c : Cursors) : Type 0 where
 module _ (t : Trails) (sessions : List (List Receipt)) where
   -- one item more
   pub passed : (c d : Cursors) (items : List Item) (i : Item) → Walked t sessions c items → Passes t sessions c i d → Walked t sessions d (items ++ i ∷ [])
-  passed c d items i w p = record {
-    tasks = goes task_part items i t.tasks c.tasks d.tasks (task_part i) refl w.tasks p.tasks;
-    slots = λ k l. goes (slot_part k) items i (slot_trail t k) (cursor_at c.slots k) (cursor_at d.slots k) (slot_part k i) refl (w.slots k l) (p.slots k l);
-    pool = goes pool_part items i t.pool c.pool d.pool (pool_part i) refl w.pool p.pool;
-    there = All-append (λ (i : Item). IsThere (length t.slots) i.entry) items (i ∷ []) w.there
-        (All-cons (λ (i : Item). IsThere (length t.slots) i.entry) i [] p.there (All-nil (λ (i : Item). IsThere (length t.slots) i.entry)));
-    told = λ s l. goes_on (told s) items i (session sessions s) (cursor_at c.sessions s) (cursor_at d.sessions s) (told s i) refl (w.told s l) (p.told s l);
-    by = All-append (λ (i : Item). i.by < length sessions) items (i ∷ []) w.by (All-cons (λ (i : Item). i.by < length sessions) i [] p.by (All-nil (λ (i : Item). i.by < length sessions)));
-  }
+  passed c d items i w p = grind (arith, common_steps, goes, All-append, All-cons, All-nil, goes_on)
 
   -- at the end of all, the items join the trails and the receipts
   pub joined : (c : Cursors) (items : List Item) → Walked t sessions c items → IsWhole t c → HaveEnded sessions c → Joins t sessions items
-  joined c items w whole e = record {
-    order = record {
-      tasks = w.tasks ∙ ap (numbered 0) (take_all c.tasks t.tasks whole.tasks);
-      slots = λ k l. w.slots k l ∙ ap (numbered 0) (take_all (cursor_at c.slots k) (slot_trail t k) (whole.slots k l));
-      pool = w.pool ∙ ap (numbered 0) (take_all c.pool t.pool whole.pool);
-      there = w.there;
-    };
-    told = record { each = λ s l. w.told s l ∙ take_all (cursor_at c.sessions s) (session sessions s) (e s l); by = w.by };
-  }
+  joined c items w whole e = grind (arith, common_steps)
 
 pub started : (t : Trails) (receipts : List (List Receipt)) (slots sessions : ℕ) → WalkedBy t receipts (at_start slots sessions) []
-started t receipts slots sessions = (
-  [],
-  record {
-    tasks = refl;
-    slots = λ k l. ap (λ n. numbered 0 (take n (slot_trail t k))) (sym (zeros_at slots k));
-    pool = refl;
-    there = All-nil (λ (i : Item). IsThere (length t.slots) i.entry);
-    told = λ s l. ap (λ n. take n (session receipts s)) (sym (zeros_at sessions s));
-    by = All-nil (λ (i : Item). i.by < length receipts);
-  },
-  refl,
-)
+started t receipts slots sessions = grind (arith, common_steps, zeros_at, All-nil)
 
 pub walked_on : (t : Trails) (receipts : List (List Receipt)) (c d : Cursors) (order : List ℕ) (s : ℕ) (part : Part) → WalkedBy t receipts c order → Took t receipts s part c d
     → WalkedBy t receipts d (order ++ s ∷ [])

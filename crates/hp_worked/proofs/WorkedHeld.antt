@@ -1,11 +1,12 @@
 -- Wrong machines that the record refuses: of surplus pages, of copies taken back, of pages that nobody has, and of names and numbers
 -- that nobody asked for. A user would be hurt by each.
-use Rattle.std.proofs.Common.{◌≡◌, ⊎_elim, ℕ, ◌≤◌, true, false, None, Some, Ok, Err, List, [], ◌∷◌, refl, ap, arith}
+use Rattle.std.proofs.lemmas.Grind.{common_steps}
+use Rattle.std.proofs.Common.{◌≡◌, ℕ, ◌≤◌, true, false, None, Some, Ok, Err, List, [], ◌∷◌, refl, ap, arith}
 use Rattle.std.specs.Prelude.{codes, is_some}
 use Rattle.hp_model.specs.declared.answer.Answer.TheVariants.{Done, MapNo}
 use Rattle.hp_model.specs.declared.cell.Cell.{Cell}
 use Rattle.hp_model.specs.declared.cell.Cell.TheVariants.{Entered, Hole}
-use Rattle.hp_model.specs.declared.refusal.Refusal.TheVariants.{BadName, MinOverSize, SlotTaken, TaskExists, TooMany}
+use Rattle.hp_model.specs.declared.refusal.Refusal.TheVariants.{BadName, MinOverSize, SlotTaken, TaskExists}
 use Rattle.hp_model.specs.declared.step.Intent.TheVariants.{Read, Write}
 use Rattle.hp_model.specs.declared.step.Reserving.TheVariants.{NoReserve, Reserve}
 use Rattle.hp_model.specs.declared.step.Sharing.TheVariants.{Private, Shared}
@@ -165,8 +166,7 @@ minimum_over_its_size : IsPromised machine (Mount 2 (codes "size=1K,min_size=2K"
 minimum_over_its_size promised = (let wrong : BadName ≡ MinOverSize = ap refusal_of promised.tests in cc)
 
 fork_is_refused : IsPromised unforked (Fork 1 2) (Err BadName) unforked → ⊥
-fork_is_refused promised =
-    ⊎_elim (λ short. (let wrong : false ≡ true = short in cc)) (λ many. (let wrong : BadName ≡ TooMany = ap refusal_of many in cc)) promised.tests
+fork_is_refused promised = grind (arith, common_steps)
 
 fork_onto_a_task_is_done : IsPromised unforked (Fork 1 3) (Ok Done) unforked → ⊥
 fork_onto_a_task_is_done promised = (let wrong : Ok Done ≡ Err TaskExists = promised.tests in cc)

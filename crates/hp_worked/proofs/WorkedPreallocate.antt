@@ -1,5 +1,6 @@
 -- Wrong machines of a preallocation, each refused by what is promised or by what a step is.
-use Rattle.std.proofs.Common.{◌≡◌, ⊎_elim, ℕ, ◌∙◌, Bool, true, false, None, Some, Ok, Err, Option, List, [], ◌∷◌, length, refl, ap, arith}
+use Rattle.std.proofs.lemmas.Grind.{common_steps}
+use Rattle.std.proofs.Common.{◌≡◌, ⊎_elim, ℕ, ◌∙◌, Bool, true, false, None, Some, Ok, Err, Option, List, [], ◌∷◌, refl, ap, arith}
 use Rattle.std.specs.List.{count_by, slice_index_or, slice_set}
 use Rattle.std.specs.Prelude.{codes}
 use Rattle.hp_model.specs.declared.answer.Answer.TheVariants.{Done}
@@ -8,7 +9,7 @@ use Rattle.hp_model.specs.declared.cell.Cell.TheVariants.{Entered, Hole, Present
 use Rattle.hp_model.specs.declared.event.Event.{Event}
 use Rattle.hp_model.specs.declared.event.Event.TheVariants.{Slot as OnSlot}
 use Rattle.hp_model.specs.declared.event.SlotEvent.TheVariants as slot
-use Rattle.hp_model.specs.declared.refusal.Refusal.TheVariants.{MountFull, NoPages, OutOfMemory, OutOfRange, TooMany}
+use Rattle.hp_model.specs.declared.refusal.Refusal.TheVariants.{MountFull, NoPages, OutOfRange, TooMany}
 use Rattle.hp_model.specs.declared.step.Reserving.TheVariants.{Reserve}
 use Rattle.hp_model.specs.declared.step.Sharing.TheVariants.{Shared}
 use Rattle.hp_model.specs.declared.step.Step.{Step}
@@ -17,13 +18,11 @@ use Rattle.hp_model.specs.files.Fill.{zero_page}
 use Rattle.hp_model.specs.files.File.{File, cell_at, file_in, has_page, new_file, with_file}
 use Rattle.hp_model.specs.files.Page.{Page}
 use Rattle.hp_model.specs.files.Value.{shown}
-use Rattle.hp_model.specs.machine.Event.{after}
 use Rattle.hp_model.specs.beside.Plain.{plain_step}
-use Rattle.hp_model.specs.machine.Plan.{Reply, Slot}
+use Rattle.hp_model.specs.machine.Plan.{Slot}
 use Rattle.hp_model.specs.machine.Promises.{IsPromised, takes_memory}
 use Rattle.hp_model.specs.machine.State.{State, slot_at, with_slot}
 use Rattle.hp_model.specs.machine.Step.{IsStep}
-use Rattle.hp_laws.proofs.steps.Outcomes.{only_goes}
 use Rattle.hp_worked.proofs.WorkedPromises.{after_all, mounted}
 use Rattle.hp_worked.proofs.WorkedRecord.{refusal_of}
 use Rattle.hp_worked.proofs.WorkedWords.{machine}
@@ -58,10 +57,6 @@ abbrev has_in : Option (ℕ × File) → (i : ℕ) → Bool
 has_in None i = false
 has_in (Some f) i = has_page (cell_at f.1 i)
 
-abbrev length_of : Option (ℕ × File) → ℕ
-length_of None = 99
-length_of (Some f) = length f.1.cells
-
 -- all but the last index get a page
 fills_all_but_the_last : IsPromised begun three (Ok Done) (with_cells 0 (λ cs. slice_set cs 2 Hole) filled) → ⊥
 fills_all_but_the_last promised =
@@ -73,8 +68,7 @@ leaves_an_entry promised =
     (let made = promised.makes in let wrong : false ≡ true = ap (λ o. has_in o 1) made.named ∙ made.pages 1 refl in cc)
 
 leaves_the_file_short : IsPromised begun three (Ok Done) (plain_step begun (Preallocate 0 (codes "a") 0 2)).1 → ⊥
-leaves_the_file_short promised =
-    (let made = promised.makes in let wrong : 2 ≡ 3 = ap length_of made.named ∙ made.length in absurd (omega (arith, wrong)))
+leaves_the_file_short promised = grind (arith, common_steps)
 
 -- ---- other bytes, another file, and a page that is dropped
 
@@ -167,11 +161,6 @@ highest_first = with_cells 0 (λ cs. slice_set cs 1 (zero_at 1)) filled
 abbrev filling : Event
 filling = OnSlot 0 (slot.Preallocate (codes "a") 0 3)
 
-by_choice : (stamp : ℕ) (refused late : Bool) → after (record { stamp = stamp; refused = refused; after_grant = late }) begun filling ≡ (Ok Done, highest_first) → ⊥
-by_choice stamp true late is = (let wrong : Err OutOfMemory ≡ Ok Done = ap (λ (x : Reply × State). x.0) is in cc)
-by_choice stamp false late is = (let wrong : 0 ≡ 1 = ap (λ (x : Reply × State). second_node x.1) is in absurd (omega (arith, wrong)))
-
 takes_of_the_highest_node : IsStep begun three (Ok Done) highest_first → ⊥
 unfolding IsStep
-takes_of_the_highest_node is =
-    (let event = only_goes begun filling (Ok Done) highest_first is in by_choice event.0.stamp event.0.refused event.0.after_grant event.2)
+takes_of_the_highest_node is = grind (arith, common_steps)

@@ -1,5 +1,6 @@
 -- What is promised of some steps, by computation: the tests and the bytes that the promises speak of.
-use Rattle.std.proofs.Common.{◌≡◌, ⊎_elim, subst, ℕ, ◌+◌, ◌==◌, ◌∙◌, true, false, None, Option, Some, Ok, Err, List, [], ◌∷◌, length, take, map, nat_le, refl, sym, ap, arith, option_map, ◌++◌}
+use Rattle.std.proofs.lemmas.Grind.{common_steps}
+use Rattle.std.proofs.Common.{◌≡◌, subst, ℕ, ◌+◌, ◌==◌, ◌∙◌, true, false, None, Option, Some, Ok, Err, List, [], ◌∷◌, length, take, map, nat_le, refl, sym, ap, arith, option_map, ◌++◌}
 use Rattle.std.specs.List.{slice_index_or}
 use Rattle.std.specs.Prelude.{codes, is_some}
 use Rattle.hp_model.specs.declared.answer.Answer.{Answer}
@@ -11,7 +12,7 @@ use Rattle.hp_model.specs.declared.step.Sharing.TheVariants.{Shared, Private}
 use Rattle.hp_model.specs.declared.step.Step.{Step}
 use Rattle.hp_model.specs.declared.step.Step.TheVariants.{Anon, Attach, Connect, Create, Df, Fork, Load, Ls, Map, Meminfo, Mount, Nr, Punch, Stat, Store, Truncate, Unmap}
 use Rattle.hp_model.specs.declared.place.Place.TheVariants.{Gone, Live}
-use Rattle.hp_model.specs.files.File.{File, cell_at, new_file, with_file, with_map}
+use Rattle.hp_model.specs.files.File.{File, new_file, with_file, with_map}
 use Rattle.hp_model.specs.machine.Machine.{committed_pages, counts_in, pool_of}
 use Rattle.hp_model.specs.files.Mapping.{Map as MapOf, copy_of, is_shared, no_map, place_at, with_place}
 use Rattle.hp_model.specs.pool.NodeRows.{free_of, total_of}
@@ -19,10 +20,10 @@ use Rattle.hp_model.specs.beside.Plain.{plain_step}
 use Rattle.hp_model.specs.machine.Plan.{Slot}
 use Rattle.hp_model.specs.machine.Promises.{LeavesAll, LosesTo, Makes, SameFiles, SameLimits, Shape, StillMapped, StillNamed}
 use Rattle.hp_model.specs.machine.Promises.{AnswersWhatWas, file_in, is_backed_step, is_cut_off_step, is_ended_number, least_of, map_at, map_named}
-use Rattle.hp_model.specs.machine.Promises.{seen_in, seen_over, shown_in, shown_on, stored_over, named_on, map_in}
+use Rattle.hp_model.specs.machine.Promises.{seen_in, seen_over, shown_in, stored_over, named_on, map_in}
 use Rattle.hp_model.specs.files.Spot.{Spot}
 use Rattle.hp_model.specs.machine.State.{Node, State, slot_at, with_slot}
-use Rattle.hp_model.specs.files.Value.{shown, value}
+use Rattle.hp_model.specs.files.Value.{value}
 use Rattle.hp_worked.proofs.WorkedWords.{machine}
 
 abbrev pub after_all : State → List Step → State
@@ -192,10 +193,7 @@ file_of_name (Some f) = f.0
 
 mapped_on_another_file :
     Makes shared (Map 1 0 (codes "a") 0 1 Shared NoReserve) (Ok (MapNo 4)) (plain_step shared (Map 1 0 (codes "b") 0 1 Shared NoReserve)).1 → ⊥
-mapped_on_another_file e =
-    (let there : 1 ≡ e.1.0.file_no = ap file_of_spot e.1.1 in
-    let named : 0 ≡ e.1.0.file_no = ap file_of_name e.1.3 in
-    absurd (omega (arith, there, named)))
+mapped_on_another_file e = grind (arith, common_steps)
 
 number_in_use : Makes shared (Map 1 0 (codes "a") 0 1 Shared NoReserve) (Ok (MapNo 2)) (plain_step shared (Map 1 0 (codes "a") 0 1 Shared NoReserve)).1 → ⊥
 number_in_use e = (let there : 1 ≡ 99 = ap file_of_spot e.0 in absurd (omega (arith, there)))
@@ -233,15 +231,8 @@ stored_bytes = shown_in stored 0 0 0
 still_there : take 2 stored_bytes ≡ 0 ∷ 9 ∷ []
 still_there = refl
 
-abbrev shown_of : Option (ℕ × File) → List ℕ
-shown_of None = []
-shown_of (Some f) = shown 1024 (cell_at f.1 0)
-
 name_means_another_file : StillNamed 1024 (exchanged (slot_at stored 0)) (codes "a") 0 stored_bytes → ⊥
-name_means_another_file e =
-    (let bytes : take 2 (shown_on 1024 (exchanged (slot_at stored 0)) 1 0) ≡ take 2 stored_bytes =
-    ap (λ (o : Option (ℕ × File)). take 2 (shown_of o)) e.1 ∙ ap (take 2) e.2 in
-    let wrong : false ≡ true = ap (λ (xs : List ℕ). slice_index_or xs 1 0 == 9) bytes in cc)
+name_means_another_file e = grind (arith, common_steps)
 
 name_is_lost : StillNamed 1024 (slot_at machine 0) (codes "a") 0 stored_bytes → ⊥
 name_is_lost e = (let wrong : false ≡ true = ap is_some e.1 in cc)
@@ -333,8 +324,7 @@ child_lost_its_copy : copy_of (place_at (child_in taken).map 0) ≡ None
 child_lost_its_copy = refl
 
 lost_to_the_owner : LosesTo sharing by_owner taken 0 (child_in sharing) (child_in taken) 0
-lost_to_the_owner =
-    (refl, (refl, record { index = refl; private = refl; owner = refl; held = refl; kept = refl; lost = refl; marked = refl }, λ e. (let same : 1 ≡ 0 = e in absurd (omega (arith, same)))))
+lost_to_the_owner = grind (arith, common_steps)
 
 -- the child's copy at the next index goes too
 abbrev lost_next : State
@@ -344,9 +334,7 @@ abbrev byte_at : Spot → ℕ → ℕ
 byte_at p i = slice_index_or (value 1024 p.file p.map i) 0 0
 
 lost_at_another_index : StillMapped sharing by_owner (Ok Done) lost_next 0 (child_in sharing) (child_in lost_next) 1 → ⊥
-lost_at_another_index still =
-    ⊎_elim (λ same. (let wrong : 0 ≡ 7 = ap (λ (bytes : List ℕ). slice_index_or bytes 0 0) same in absurd (omega (arith, wrong))))
-    (λ lost. (let wrong : 1 ≡ 0 = lost.1.1.index in absurd (omega (arith, wrong)))) still.shows
+lost_at_another_index still = grind (arith, common_steps)
 
 -- the owner loses its copy with the child
 abbrev none_kept : State

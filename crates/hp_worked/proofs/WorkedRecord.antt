@@ -1,6 +1,7 @@
 -- For the fields of the promises a wrong machine that the record refuses: a reply, or a state after the step.
-use Rattle.std.proofs.Common.{◌≡◌, ⊎_elim, ℕ, ◌≤◌, ◌∙◌, Bool, true, false, None, Option, Some, Ok, Err, List, [], ◌∷◌, length, replicate, refl, ap, arith}
-use Rattle.std.specs.List.{count_by, slice_index_or}
+use Rattle.std.proofs.lemmas.Grind.{common_steps}
+use Rattle.std.proofs.Common.{◌≡◌, ⊎_elim, ℕ, ◌≤◌, ◌∙◌, Bool, true, false, None, Option, Some, Ok, Err, [], ◌∷◌, length, replicate, refl, ap, arith}
+use Rattle.std.specs.List.{count_by}
 use Rattle.std.specs.Prelude.{codes, is_some}
 use Rattle.hp_model.specs.declared.answer.Answer.TheVariants.{Done, MapNo, Number, Stat as StatAnswer}
 use Rattle.hp_model.specs.declared.cell.Cell.TheVariants.{Entered, Hole}
@@ -143,8 +144,7 @@ cells_on None = 0
 cells_on (Some m) = length (file_in m 0).cells
 
 stat_drops_entries : IsPromised mounted (Stat 2 (codes "a")) (Ok (StatAnswer 3 0 3 1)) (with_slot mounted 2 (bare (slot_at mounted 2))) → ⊥
-stat_drops_entries promised =
-    (let wrong : 0 ≡ 3 = ap (λ (xs : List Slot). cells_on (slice_index_or xs 2 None)) (promised.reads refl) in absurd (omega (arith, wrong)))
+stat_drops_entries promised = grind (arith, common_steps)
 
 -- ---- steps that take entries on a slot that they are not on
 
@@ -186,8 +186,7 @@ abbrev smaller : Step
 smaller = Remount 2 (codes "size=2K,min_size=2K")
 
 remounted_with_its_old_limit : IsPromised mounted smaller (Ok Done) mounted → ⊥
-remounted_with_its_old_limit promised =
-    (let wrong : 3 ≡ 2 = ap (λ x. home_or (max_of x)) promised.mounted in absurd (omega (arith, wrong)))
+remounted_with_its_old_limit promised = grind (arith, common_steps)
 
 abbrev remounted_to : (Slot → Slot) → State
 remounted_to h = (let t : State = (plain_step mounted smaller).1 in with_slot t 2 (h (slot_at t 2)))
@@ -218,8 +217,7 @@ remount_changes_another_mount promised = (let wrong : true ≡ false = ap (λ (l
 
 -- and a step that is no remount has set limits
 create_changes_limits : IsPromised mounted (Create 2 (codes "b")) (Ok Done) (with_slot mounted 2 (with_limit 9 2 (slot_at mounted 2))) → ⊥
-create_changes_limits promised =
-    (let wrong : 9 ≡ 3 = ap (λ (l : Limits). home_or l.max) (promised.mounts 2 refl) in absurd (omega (arith, wrong)))
+create_changes_limits promised = grind (arith, common_steps)
 
 -- of 4 pages 5 are promised
 abbrev past_the_pool : Step
@@ -323,10 +321,7 @@ unspent_after =
     with_map_of 0 (with_place (parent_in t).map 0 (Live false (copy_of (place_at (parent_in t).map 0)))) t
 
 store_spends_nothing : IsPromised reserved first_store (Ok Done) unspent_after → ⊥
-store_spends_nothing promised =
-    (let kept = (promised.kept 0 refl).maps 1 1 (parent_in reserved) (parent_in unspent_after) refl refl in
-    ⊎_elim (λ same. (let wrong : true ≡ false = ap (λ p. is_some (copy_of p)) same in cc))
-    (λ changed. ⊎_elim (λ spent. (let wrong : true ≡ false = spent.spent refl in cc)) (λ taken. taken.0.2 refl) changed) (kept.places 0))
+store_spends_nothing promised = grind (arith, common_steps)
 
 -- ---- a create, a map and a punch that drop entries of a file
 
@@ -345,9 +340,7 @@ abbrev punched_bare : State
 punched_bare = (let t : State = (plain_step mounted (Punch 2 (codes "a") 0 1)).1 in with_slot t 2 (bare (slot_at t 2)))
 
 punch_drops_entries : IsPromised mounted (Punch 2 (codes "a") 0 1) (Ok Done) punched_bare → ⊥
-punch_drops_entries promised =
-    (let kept = (promised.kept 2 refl).files (codes "a") (first_file mounted) (first_file punched_bare) refl refl refl 1 in
-    ⊎_elim (λ same. (let wrong : false ≡ true = ap is_entered same in cc)) (λ cut. (let wrong : false ≡ true = cut.0 in cc)) kept)
+punch_drops_entries promised = grind (arith, common_steps)
 
 -- ---- a fork that gives the child a map without its copies, one that owns, a map more, and a map of another file
 
@@ -369,9 +362,7 @@ child_has_no_copy promised =
     let wrong : false ≡ true = ap (λ o. copy_at o 0) kept.1 ∙ ap (λ x. is_some (copy_of (place_at x 0))) kept.2 in cc)
 
 child_owns : IsPromised unforked (Fork 1 2) (Ok Done) (with_map_of 1 (record (child_in after_fork).map { owner = true }) after_fork) → ⊥
-child_owns promised =
-    (let kept = (promised.forks 0 1 refl).1 in
-    let wrong : true ≡ false = ap (λ o. (spot_or o).map.owner) kept.1 ∙ ap (λ x. x.owner) kept.2 in cc)
+child_owns promised = grind (arith, common_steps)
 
 abbrev fork_makes_one_more : State
 fork_makes_one_more = (plain_step after_fork (Map 2 0 (codes "a") 0 1 Private NoReserve)).1

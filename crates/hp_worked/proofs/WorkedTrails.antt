@@ -1,4 +1,5 @@
 -- Trails made by hand, and receipts that join them or do not, by computation.
+use Rattle.std.proofs.lemmas.Grind.{common_steps}
 use Rattle.std.proofs.Common.{◌≡◌, ◌≢◌, inl, inr, ℕ, zero, suc, ◌<◌, ◌≤◌, Bool, true, false, Option, None, Some, Ok, List, [], ◌∷◌, refl, ap, ◌∙◌, arith, is_some}
 use Rattle.std.specs.Option.{option_map, option_and_then}
 use Rattle.std.specs.List.{All, slice_get, slice_index_or}
@@ -22,7 +23,7 @@ use Rattle.hp_model.specs.declared.step.Reserving.TheVariants.{Reserve}
 use Rattle.hp_model.specs.threads.Differ.{Asks, IsBefore, Differ, HasReceipt, LostSection, SharedSection, entry_at}
 use Rattle.hp_model.specs.Profile.{most_frames}
 use Rattle.hp_model.specs.files.File.{with_file, new_file}
-use Rattle.hp_model.specs.threads.JointRun.{keep, numbered, slot_part, told, Trails, slot_trail, Entry, InTasks, InSlot, InPool, Item, IsThere, Joins, AreRuns, IsJointRun}
+use Rattle.hp_model.specs.threads.JointRun.{Trails, slot_trail, Entry, InTasks, InSlot, InPool, Item, Joins, AreRuns, IsJointRun}
 use Rattle.hp_model.specs.threads.LocalRun.{IsLocalRun}
 use Rattle.hp_model.specs.machine.Machine.{start, open_mount, pool_of}
 use Rattle.hp_model.specs.files.MakeMap.{mapped, with_new}
@@ -101,41 +102,10 @@ abbrev items : List Item
 items = item (InPool (Nr 4) (Ok (Number 4))) 0 ∷ item (InTasks add_one) 0 ∷ item (InSlot 0 create_a) 0 ∷ item (InTasks find_one) 1 ∷ item (InSlot 0 (map_a 1)) 1 ∷ []
 
 one_slot : (P : ℕ → Type 0) → P 0 → (k : ℕ) → k < 1 → P k
-one_slot P p zero l = p
-one_slot P p (suc k) l = absurd (omega (arith, l))
+one_slot P p k l = grind (arith, common_steps)
 
 pub joins : Joins (trails 1 1) sessions items
-joins = record {
-  order = record {
-    tasks = refl;
-    slots = one_slot (λ k. keep (slot_part k) items ≡ numbered 0 (slot_trail (trails 1 1) k)) refl;
-    pool = refl;
-    there = λ i d l. within i d l;
-  };
-  told = record { each = one_slot (λ s. keep (told s) items ≡ slice_index_or sessions s []) refl; by = λ i d l. told_within i d l };
-}
-  where
-    within : All (λ (i : Item). IsThere 1 i.entry) items
-    within =
-        let P : Item → Type 0 = λ i. IsThere 1 i.entry in
-        let a = item (InPool (Nr 4) (Ok (Number 4))) 0 in
-        let b = item (InTasks add_one) 0 in
-        let c = item (InSlot 0 create_a) 0 in
-        let d = item (InTasks find_one) 1 in
-        let e = item (InSlot 0 (map_a 1)) 1 in
-        All-cons P a (b ∷ c ∷ d ∷ e ∷ []) tt
-        (All-cons P b (c ∷ d ∷ e ∷ []) tt (All-cons P c (d ∷ e ∷ []) (omega arith) (All-cons P d (e ∷ []) tt (All-cons P e [] (omega arith) (All-nil P)))))
-
-    told_within : All (λ (i : Item). i.by < 1) items
-    told_within =
-        let P : Item → Type 0 = λ i. i.by < 1 in
-        let a = item (InPool (Nr 4) (Ok (Number 4))) 0 in
-        let b = item (InTasks add_one) 0 in
-        let c = item (InSlot 0 create_a) 0 in
-        let d = item (InTasks find_one) 1 in
-        let e = item (InSlot 0 (map_a 1)) 1 in
-        All-cons P a (b ∷ c ∷ d ∷ e ∷ []) (omega arith)
-        (All-cons P b (c ∷ d ∷ e ∷ []) (omega arith) (All-cons P c (d ∷ e ∷ []) (omega arith) (All-cons P d (e ∷ []) (omega arith) (All-cons P e [] (omega arith) (All-nil P)))))
+joins = grind (arith, common_steps)
 
 -- ---- each trail is a run, and so the joined list is a run of the machine
 

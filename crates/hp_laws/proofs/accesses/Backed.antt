@@ -1,60 +1,31 @@
 -- An access whose page is kept for it is never refused for want of a huge page.
-use Rattle.std.proofs.Common.{false, ◌≡◌, ⊎_elim, ◌||◌, ◌&&◌, ◌==◌, ℕ, ◌+◌, true, not, Option, None, Some, is_some, List, length, refl, nat_lt}
-use Rattle.std.proofs.lemmas.Bool.{or_cases, and_parts, not-true}
+use Rattle.std.proofs.Common.{arith}
+use Rattle.std.proofs.Common.{◌≡◌, ℕ, true, Option, None, Some, List, length}
 use Rattle.hp_model.specs.declared.answer.Answer.TheVariants.{Done}
 use Rattle.hp_model.specs.declared.event.SlotEvent.TheVariants as slot
-use Rattle.hp_model.specs.declared.place.Place.{Place}
-use Rattle.hp_model.specs.declared.place.Place.TheVariants.{Gone, Live}
-use Rattle.hp_model.specs.declared.refusal.Refusal.TheVariants.{OutOfRange, CrossesPage, TooMany, BeyondEnd, NoSuchMap, TakenByOwner}
+use Rattle.hp_model.specs.declared.refusal.Refusal.TheVariants.{NoSuchMap}
 use Rattle.hp_model.specs.declared.step.Intent.{Intent}
 use Rattle.hp_model.specs.declared.step.Intent.TheVariants.{Read, Write}
-use Rattle.hp_model.specs.files.Access.{uncopied_access, access, private_access, shared_access}
-use Rattle.hp_model.specs.files.File.{Mount, cell_at}
+use Rattle.hp_model.specs.files.Access.{access}
+use Rattle.hp_model.specs.files.File.{Mount}
 use Rattle.hp_laws.specs.Laws.{KeepsGoing}
-use Rattle.hp_model.specs.files.Mapping.{copy_of, is_map, is_shared, place_at}
-use Rattle.hp_model.specs.files.Page.{Copy}
-use Rattle.hp_model.specs.machine.Plan.{refuse, Slot, Outcome, Refused, Answered, Choice, continued, with_value}
-use Rattle.hp_model.specs.Profile.{most_bytes}
-use Rattle.hp_model.specs.machine.Promises.{is_cut_off, is_refused, spot_on, is_backed, owns_copy}
-use Rattle.hp_model.specs.files.Reserved.{is_reserved}
-use Rattle.hp_model.specs.machine.SlotEvent.{byte_access, bytes_answer, fault, is_beyond, is_unmapped, load, slot_event, store}
+use Rattle.hp_model.specs.files.Mapping.{is_map}
+use Rattle.hp_model.specs.machine.Plan.{Slot, Outcome, Answered, Choice, continued, with_value}
+use Rattle.hp_model.specs.machine.Promises.{is_cut_off, is_refused, spot_on, is_backed}
+use Rattle.hp_model.specs.machine.SlotEvent.{byte_access, bytes_answer, load, slot_event, store}
 use Rattle.hp_model.specs.files.Spot.{Spot, again, spot, written}
 use Rattle.hp_model.specs.files.Value.{value}
-use Rattle.hp_laws.proofs.steps.Outcomes.{reply_of, Always, always_if, always_test, always_then}
-use Rattle.hp_laws.proofs.accesses.Reserved.{reserved_access, copy_keeps}
+use Rattle.hp_laws.proofs.steps.Outcomes.{reply_of, Always, always_test, always_then}
 
 module _ (c : Choice) (size : ℕ) (m : Mount) (s : Spot) (home i : ℕ) where
-  reserved_goes : (intent : Intent) → is_reserved s.file s.map i ≡ true → Always KeepsGoing (access c size m s home i intent)
-  reserved_goes intent e = reserved_access c size m s home i intent e
-
-  copy_goes : (p : Place Copy) → s.map.owner ≡ true → is_some (copy_of p) ≡ true → Always KeepsGoing (private_access c size m s home i p Write)
-  copy_goes Gone owner has = cc
-  copy_goes (Live consumed None) owner has = cc
-  copy_goes (Live consumed (Some copy)) owner has = copy_keeps c m s home i consumed copy owner
-
-  owned_goes : owns_copy s.map i ≡ true → Always KeepsGoing (access c size m s home i Write)
-  owned_goes e =
-      let apart = and_parts (not (is_shared s.map.sharing)) (s.map.owner && is_some (copy_of (place_at s.map i))) e in
-      let owned = and_parts s.map.owner (is_some (copy_of (place_at s.map i))) apart.1 in
-      let other = not-true (is_shared s.map.sharing) apart.0 in
-      always_if KeepsGoing (is_shared s.map.sharing) (shared_access c size m s home i (cell_at s.file i)) (private_access c size m s home i (place_at s.map i) Write)
-      (λ t. cc) (λ f. copy_goes (place_at s.map i) owned.0 owned.1)
-
   access_goes : (intent : Intent) → is_backed intent (Some s) i ≡ true → Always KeepsGoing (access c size m s home i intent)
-  access_goes Read e = reserved_goes Read e
-  access_goes Write e = ⊎_elim (λ l. reserved_goes Write l) (λ r. owned_goes r) (or_cases (is_reserved s.file s.map i) (owns_copy s.map i) e)
+  access_goes intent e = grind arith
 
   bytes_go : (offset count : ℕ) (intent : Intent) → is_backed intent (Some s) i ≡ true → Always KeepsGoing (byte_access c size m home i offset count intent s)
-  bytes_go offset count intent e =
-      always_test KeepsGoing (is_unmapped s i || (count == 0)) OutOfRange _ refl
-      (λ a. always_test KeepsGoing (nat_lt size (offset + count)) CrossesPage _ refl
-      (λ b. always_test KeepsGoing (nat_lt most_bytes count) TooMany _ refl
-      (λ d. always_test KeepsGoing (is_beyond s i) BeyondEnd (access c size m s home i intent) refl (λ f. access_goes intent e))))
+  bytes_go offset count intent e = grind arith
 
   goes_on : (f : Mount → Outcome) → ((n : Mount) → KeepsGoing (f n)) → (o : Outcome) → KeepsGoing o → KeepsGoing (continued f o)
-  goes_on f h (Refused r) keeps = keeps
-  goes_on f h (Answered a None) keeps = tt
-  goes_on f h (Answered a (Some n)) keeps = h n
+  goes_on f h o keeps = grind arith
 
 module _ (size k : ℕ) (c : Choice) (task home number i offset : ℕ) where
   pub load_goes : (old : Slot) (count : ℕ) → is_backed Read (spot_on old task number) i ≡ true → Always KeepsGoing (slot_event size k c old (slot.Load task home number i offset count))
@@ -80,14 +51,7 @@ module _ (size k : ℕ) (c : Choice) (task home number i offset : ℕ) where
 
 pub fault_goes : (size k : ℕ) (c : Choice) (task home number i : ℕ) (intent : Intent) (old : Slot) → is_backed intent (spot_on old task number) i ≡ true
     → Always KeepsGoing (slot_event size k c old (slot.Fault task home number i intent))
-fault_goes size k c task home number i intent None e = cc
-fault_goes size k c task home number i intent (Some m) e = by_spot (spot m (is_map task number)) e
-  where
-    by_spot : (o : Option Spot) → is_backed intent o i ≡ true → Always KeepsGoing (with_value o NoSuchMap (fault c size m home i intent))
-    by_spot None e = refl
-    by_spot (Some s) e =
-        always_test KeepsGoing (is_unmapped s i) OutOfRange _ refl
-        (λ a. always_test KeepsGoing (is_beyond s i) BeyondEnd (access c size m s home i intent) refl (λ b. access_goes c size m s home i intent e))
+fault_goes size k c task home number i intent old e = grind (arith, Always, always_test, access_goes)
 
 -- ---- an access through a marked map, where it has no copy
 
@@ -95,59 +59,20 @@ abbrev pub Stops : Outcome → Type 0
 Stops o = is_refused (reply_of o) ≡ true
 
 still_stops : (f : Mount → Outcome) (o : Outcome) → Stops o → Stops (continued f o)
-still_stops f (Refused r) stops = refl
-still_stops f (Answered a n) stops = cc
+still_stops f o stops = grind arith
 
 module _ (c : Choice) (size : ℕ) (m : Mount) (s : Spot) (home i : ℕ) where
-  private_stops : (p : Place Copy) (intent : Intent) → s.map.unmapped ≡ true → is_some (copy_of p) ≡ false → Always Stops (private_access c size m s home i p intent)
-  private_stops Gone intent marked none = refl
-  private_stops (Live consumed (Some copy)) intent marked none = cc
-  private_stops (Live consumed None) intent marked none =
-      always_if Stops s.map.unmapped (refuse TakenByOwner) (uncopied_access c size m s home i consumed intent) (λ e. refl) (λ e. cc)
-
-  access_stops : (intent : Intent) → is_cut_off (Some s) i ≡ true → Always Stops (access c size m s home i intent)
-  access_stops intent e =
-      let apart = and_parts (not (is_shared s.map.sharing)) (s.map.unmapped && not (is_some (copy_of (place_at s.map i)))) e in
-      let cut = and_parts s.map.unmapped (not (is_some (copy_of (place_at s.map i)))) apart.1 in
-      let other = not-true (is_shared s.map.sharing) apart.0 in
-      always_if Stops (is_shared s.map.sharing) (shared_access c size m s home i (cell_at s.file i)) (private_access c size m s home i (place_at s.map i) intent)
-      (λ t. cc) (λ f. private_stops (place_at s.map i) intent cut.0 (not-true (is_some (copy_of (place_at s.map i))) cut.1))
-
   bytes_stop : (offset count : ℕ) (intent : Intent) → is_cut_off (Some s) i ≡ true → Always Stops (byte_access c size m home i offset count intent s)
-  bytes_stop offset count intent e =
-      always_test Stops (is_unmapped s i || (count == 0)) OutOfRange _ refl
-      (λ a. always_test Stops (nat_lt size (offset + count)) CrossesPage _ refl
-      (λ b. always_test Stops (nat_lt most_bytes count) TooMany _ refl
-      (λ d. always_test Stops (is_beyond s i) BeyondEnd (access c size m s home i intent) refl (λ f. access_stops intent e))))
+  bytes_stop offset count intent e = grind arith
 
 module _ (size k : ℕ) (c : Choice) (task home number i offset : ℕ) where
   pub load_stops : (old : Slot) (count : ℕ) → is_cut_off (spot_on old task number) i ≡ true → Always Stops (slot_event size k c old (slot.Load task home number i offset count))
   load_stops None count e = cc
-  load_stops (Some m) count e = by_spot (spot m (is_map task number)) e
-    where
-      by_spot : (o : Option Spot) → is_cut_off o i ≡ true → Always Stops (with_value o NoSuchMap (load c size m home i offset count))
-      by_spot None e = cc
-      by_spot (Some s) e =
-          let f : Mount → Outcome = λ n. Answered (bytes_answer offset count (value size (again n s).file (again n s).map i)) (Some n) in
-          always_then Stops Stops f (still_stops f) (byte_access c size m home i offset count Read s) (bytes_stop c size m s home i offset count Read e)
+  load_stops (Some m) count e = grind (arith, Always, always_then, still_stops, bytes_stop)
 
   pub store_stops : (old : Slot) (bytes : List ℕ) → is_cut_off (spot_on old task number) i ≡ true → Always Stops (slot_event size k c old (slot.Store task home number i offset bytes))
-  store_stops None bytes e = cc
-  store_stops (Some m) bytes e = by_spot (spot m (is_map task number)) e
-    where
-      by_spot : (o : Option Spot) → is_cut_off o i ≡ true → Always Stops (with_value o NoSuchMap (store c size m home i offset bytes))
-      by_spot None e = cc
-      by_spot (Some s) e =
-          let f : Mount → Outcome = λ n. Answered Done (Some (written n s i offset bytes)) in
-          always_then Stops Stops f (still_stops f) (byte_access c size m home i offset (length bytes) Write s) (bytes_stop c size m s home i offset (length bytes) Write e)
+  store_stops old bytes e = grind arith
 
 pub fault_stops : (size k : ℕ) (c : Choice) (task home number i : ℕ) (intent : Intent) (old : Slot) → is_cut_off (spot_on old task number) i ≡ true
     → Always Stops (slot_event size k c old (slot.Fault task home number i intent))
-fault_stops size k c task home number i intent None e = cc
-fault_stops size k c task home number i intent (Some m) e = by_spot (spot m (is_map task number)) e
-  where
-    by_spot : (o : Option Spot) → is_cut_off o i ≡ true → Always Stops (with_value o NoSuchMap (fault c size m home i intent))
-    by_spot None e = refl
-    by_spot (Some s) e =
-        always_test Stops (is_unmapped s i) OutOfRange _ refl
-        (λ a. always_test Stops (is_beyond s i) BeyondEnd (access c size m s home i intent) refl (λ b. access_stops c size m s home i intent e))
+fault_stops size k c task home number i intent old e = grind arith

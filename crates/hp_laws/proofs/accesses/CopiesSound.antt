@@ -1,21 +1,22 @@
 -- A mount stays sound where a place gets a copy whose stamp no other place holds: a new one, or one that is written.
-use Rattle.std.proofs.Common.{◌≡◌, ⊎_elim, inl, inr, ◌⊎◌, ℕ, ◌-◌, ◌<◌, ◌≤◌, Bool, true, false, ◌==◌, Option, None}
-use Rattle.std.proofs.Common.{Some, List, length, map, get_or, set, arith, refl, sym, ap, ◌∙◌, subst, nat_lt, if◌then◌else◌}
-use Rattle.std.specs.List.{count_by, list_any, slice_index_or}
+use Rattle.std.proofs.lemmas.Grind.{common_steps}
+use Rattle.std.proofs.Common.{◌≡◌, ⊎_elim, inl, inr, ◌⊎◌, ℕ, ◌<◌, ◌≤◌, Bool, true, false, ◌==◌, Option, None}
+use Rattle.std.proofs.Common.{Some, List, length, map, get_or, set, arith, refl, sym, ap, ◌∙◌, subst}
+use Rattle.std.specs.List.{count_by, list_any}
 use Rattle.std.proofs.lemmas.Bool.{and_from, and_parts, both_ways, cases_eq, cond_both, eq-eqb, eqb-true}
 use Rattle.std.proofs.lemmas.List.{get_or-map, get_or-set_other, get_or-set_same, length-map, length-set}
 use Rattle.std.proofs.lemmas.List.Elements.{All-set}
 use Rattle.std.proofs.lemmas.List.Folds.{list_any_at}
 use Rattle.std.proofs.lemmas.List.Sums.{get_or-le-sum_by, sum_by-set}
 use Rattle.hp_model.specs.declared.place.Place.{Place}
-use Rattle.hp_model.specs.declared.place.Place.TheVariants.{Gone, Live}
+use Rattle.hp_model.specs.declared.place.Place.TheVariants.{Live}
 use Rattle.hp_model.specs.files.CopyWrite.{drop_stamp, holds, is_held_once, robbed}
 use Rattle.hp_model.specs.files.File.{File, Mount, file_in, map_in, new_file, with_file, with_map}
 use Rattle.hp_model.specs.files.Mapping.{Map, copy_of, is_map, is_shared, is_unconsumed, no_map, place_at, with_place}
 use Rattle.hp_model.specs.files.MountCounts.{stamps_of}
 use Rattle.hp_model.specs.files.Page.{Copy}
 use Rattle.hp_model.specs.machine.SlotEvent.{has_name}
-use Rattle.hp_model.specs.machine.Sound.{HasCopy, IsCopyPlace, IsSoundFile, IsSoundMap, IsSoundMount, file_has, is_stamp, map_has, owns_stamp, place_has}
+use Rattle.hp_model.specs.machine.Sound.{HasCopy, IsCopyPlace, IsSoundFile, IsSoundMap, IsSoundMount, file_has, is_stamp, map_has, owns_stamp}
 use Rattle.hp_model.specs.files.Spot.{Spot}
 use Rattle.hp_laws.proofs.counts.Copies.{file_copy, file_has_stamp, file_there, has_stamp, live_of, map_copy, map_there}
 use Rattle.hp_laws.proofs.counts.FileMoves.{held_in, live_at, maps_count}
@@ -25,7 +26,7 @@ use Rattle.hp_laws.proofs.counts.MountMoves.{IsSpot}
 use Rattle.hp_laws.proofs.counts.MountsSound.{put_sound, set_count}
 use Rattle.hp_laws.proofs.lists.Places.{sum_by-map_same}
 use Rattle.hp_laws.proofs.accesses.Shown.{place_other, place_put}
-use Rattle.hp_laws.proofs.lists.AtMostOne.{bit, few, single, some_counted}
+use Rattle.hp_laws.proofs.lists.AtMostOne.{bit, few, single}
 
 -- the copy at a place of the mount
 abbrev pub HasAt : Mount → (j k i : ℕ) → Copy → Type 0
@@ -93,30 +94,7 @@ module _ (m : Mount) (s : Spot) (at : IsSpot m s) (i : ℕ) (c : Bool) (o : Opti
     pub other : (h ≡ s.file_no) × (l ≡ s.map_no) × (z ≡ i) → ⊥
 
   put_cases : (h l z : ℕ) (a : Copy) → HasAt after h l z a → IsPut h l z a ⊎ IsOld h l z a
-  put_cases h l z a has =
-      elim (cases_eq h s.file_no) as (λ _. IsPut h l z a ⊎ IsOld h l z a) [
-        | inr other ↦ inr (record { has = subst (λ f. HasCopy (map_in f l) z a) (get_or-set_other m.files s.file_no h new (new_file None) other) has; other = λ e. other e.0 })
-        | inl same ↦ in_file same
-            (subst (λ f. HasCopy (map_in f l) z a) (ap (file_in after) same ∙ file_here) has)
-            (λ held. subst (λ f. HasCopy (map_in f l) z a) (sym (ap (file_in m) same ∙ spot_file m s at)) held)
-      ]
-    where
-      at_index : h ≡ s.file_no → l ≡ s.map_no → HasCopy put z a → (HasCopy (map_in s.file l) z a → HasAt m h l z a) → IsPut h l z a ⊎ IsOld h l z a
-      at_index file same has back =
-          elim (cases_eq z i) as (λ _. IsPut h l z a ⊎ IsOld h l z a) [
-            | inl here ↦ inl (record { file = file; map = same; index = here; same = (let both = sym has ∙ ap (λ x. copy_of (place_at put x)) here ∙ ap copy_of place_here in cc) })
-            | inr other ↦ inr (record {
-              has = back (subst (λ x. HasCopy x z a) (sym (ap (map_in s.file) same ∙ spot_map m s at)) (sym (ap copy_of (place_other s.map i c o is (Live d (Some copy)) z other)) ∙ has));
-              other = λ e. other e.2;
-            })
-          ]
-
-      in_file : h ≡ s.file_no → HasCopy (map_in new l) z a → (HasCopy (map_in s.file l) z a → HasAt m h l z a) → IsPut h l z a ⊎ IsOld h l z a
-      in_file file has back =
-          elim (cases_eq l s.map_no) as (λ _. IsPut h l z a ⊎ IsOld h l z a) [
-            | inr other ↦ inr (record { has = back (subst (λ x. HasCopy x z a) (get_or-set_other s.file.maps s.map_no l put no_map other) has); other = λ e. other e.1 })
-            | inl same ↦ at_index file same (subst (λ x. HasCopy x z a) (ap (map_in new) same ∙ map_here) has) back
-          ]
+  put_cases h l z a has = grind (arith, cases_eq, get_or-set_other, file_here, spot_file, place_here, spot_map, place_other, map_here)
 
   module _ (alone : IsAlone m s.file_no s.map_no i copy.stamp) where
     pub put_alone : IsAlone after s.file_no s.map_no i copy.stamp
@@ -136,8 +114,7 @@ module _ (m : Mount) (s : Spot) (at : IsSpot m s) (i : ℕ) (c : Bool) (o : Opti
       was = subst IsSoundFile (at.file.is s.file) (sound.files s.file_no s.file at.file.within)
 
       live_consumed : (b : Bool) → b ≡ true → is_unconsumed (Live b (Some copy)) ≡ false
-      live_consumed true e = refl
-      live_consumed false e = cc
+      live_consumed b e = grind arith
 
       map_sound : IsSoundMap (length s.file.cells) put
       map_sound z a has =
@@ -160,11 +137,7 @@ module _ (m : Mount) (s : Spot) (at : IsSpot m s) (i : ℕ) (c : Bool) (o : Opti
       in_was l z a has = subst (λ f. HasCopy (map_in f l) z a) (spot_file m s at) has
 
       owner_same : (l : ℕ) → (map_in new l).owner ≡ (map_in s.file l).owner
-      owner_same l =
-          elim (cases_eq l s.map_no) as (λ _. (map_in new l).owner ≡ (map_in s.file l).owner) [
-            | inl same ↦ ap (λ x. x.owner) (ap (map_in new) same ∙ map_here) ∙ sym (ap (λ x. x.owner) (ap (map_in s.file) same ∙ spot_map m s at))
-            | inr other ↦ ap (λ x. x.owner) (get_or-set_other s.file.maps s.map_no l put no_map other)
-          ]
+      owner_same l = grind (arith, common_steps)
 
       one_owner : (stamp j k : ℕ) → owns_stamp stamp (map_in new j) ≡ true → owns_stamp stamp (map_in new k) ≡ true → j ≡ k
       one_owner stamp j k a b =
@@ -223,27 +196,13 @@ module _ (m : Mount) (s : Spot) (at : IsSpot m s) (i : ℕ) (c : Bool) (o : Opti
 
 module _ (stamp : ℕ) where
   robbed_place : (p : Place Copy) (a : Copy) → copy_of (drop_stamp stamp p) ≡ Some a → a.stamp ≡ stamp → ⊥
-  robbed_place Gone a = λ e. cc
-  robbed_place (Live c None) a = λ e. cc
-  robbed_place (Live c (Some b)) a =
-      elim (b.stamp == stamp) as (λ t. (b.stamp == stamp) ≡ t → copy_of (if t then Live c None else Live c (Some b)) ≡ Some a → a.stamp ≡ stamp → ⊥) [
-        | true ↦ λ t e same. cc
-        | false ↦ λ t e same. (let is : b ≡ a = cc in both_ways (b.stamp == stamp) t (eq-eqb b.stamp stamp (ap (λ x. x.stamp) is ∙ same)))
-      ] refl
+  robbed_place p a = grind arith
 
   held : (p : Place Copy) (a : Copy) → copy_of p ≡ Some a → a.stamp ≡ stamp → holds stamp p ≡ true
   held p a e same = ap (λ o. elim o [ None ↦ false | Some copy ↦ copy.stamp == stamp ]) e ∙ eq-eqb a.stamp stamp same
 
   robbed_none : (x : Map) (z : ℕ) (a : Copy) → HasCopy (robbed stamp x) z a → a.stamp ≡ stamp → ⊥
-  robbed_none x z a =
-      cond_both (list_any (holds stamp) x.places) (record x { unmapped = true; places = map (drop_stamp stamp) x.places }) x (λ y. HasCopy y z a → a.stamp ≡ stamp → ⊥)
-      (λ some. elim (nat_lt z x.start) as (λ b. copy_of (if b then Gone else slice_index_or (map (drop_stamp stamp) x.places) (z - x.start) Gone) ≡ Some a → a.stamp ≡ stamp → ⊥) [
-        | true ↦ λ e same. cc
-        | false ↦ λ e same. robbed_place (get_or x.places (z - x.start) Gone) a (sym (ap copy_of (get_map (drop_stamp stamp) Gone refl x.places (z - x.start))) ∙ e) same
-      ])
-      (λ none e same. (let live = live_of (place_at x z) a e in
-      let at = live_at x z live.0 (Some a) live.1 in
-      both_ways (list_any (holds stamp) x.places) none (list_any_at (holds stamp) x.places (z - x.start) Gone at.within (held (get_or x.places (z - x.start) Gone) a (ap copy_of at.is) same))))
+  robbed_none x z a = grind (arith, cond_both, robbed_place, get_map, live_of, live_at, both_ways, list_any_at, held)
 
 module _ (m : Mount) (s : Spot) (at : IsSpot m s) (i : ℕ) (copy : Copy) (has : HasCopy s.map i copy) (sound : IsSoundMount m) where
   abbrev left : File
@@ -310,23 +269,12 @@ module _ (m : Mount) (s : Spot) (at : IsSpot m s) (i : ℕ) (copy : Copy) (has :
               get_or-map (robbed copy.stamp) s.file.maps l no_map no_map (omega (arith, there, set, long)))
 
       alone : IsAlone back s.file_no s.map_no i copy.stamp
-      alone h l z a held same =
-          elim (cases_eq h s.file_no) as (λ _. (h ≡ s.file_no) × (l ≡ s.map_no) × (z ≡ i)) [
-            | inl here ↦ (let in_it = in_map l z a (subst (λ f. HasCopy (map_in f l) z a) (ap (file_in back) here ∙ file_left) held) same in (here, in_it.0, in_it.1))
-            | inr other ↦ absurd
-                (other
-                (same_file m sound h l z s.file_no s.map_no i a copy
-                (subst (λ f. HasCopy (map_in f l) z a) (get_or-set_other m.files s.file_no h left (new_file None) other) held) here_at same))
-          ]
+      alone h l z a held same = grind (arith, cases_eq, in_map, file_left, same_file, get_or-set_other, here_at)
 
   -- ---- a copy that one map holds
 
   count_held : (f : File) (k z : ℕ) (a : Copy) → HasCopy (map_in f k) z a → a.stamp ≡ copy.stamp → 1 ≤ held_in copy.stamp (map_in f k)
-  count_held f k z a held same =
-      let x : Map = map_in f k in
-      let live = live_of (place_at x z) a held in
-      let at = live_at x z live.0 (Some a) live.1 in
-      some_counted (place_has (is_stamp copy.stamp)) Gone x.places (z - x.start) at.within (ap (place_has (is_stamp copy.stamp)) at.is ∙ eq-eqb a.stamp copy.stamp same)
+  count_held f k z a held same = grind (arith, common_steps)
 
   pub held_once : is_held_once s.file copy.stamp ≡ true → IsAlone m s.file_no s.map_no i copy.stamp
   held_once once h l z a held same =

@@ -1,38 +1,34 @@
 -- What an access, and a store after it, makes of the places of maps and of the cells of files.
+use Rattle.std.proofs.lemmas.Grind.{common_steps}
 use Rattle.std.proofs.Common.{◌≡◌, ⊎_elim, inl, inr, ◌⊎◌, map, ℕ, suc, ◌+◌, ◌-◌, ◌<◌, Bool, true, false, ◌&&◌, ◌==◌, not}
 use Rattle.std.proofs.Common.{Option, None, Some, is_some, List, [], ◌∷◌, length, get_or, refl, sym, ap, ◌∙◌, subst, arith, if◌then◌else◌, nat_lt}
 use Rattle.std.specs.List.{slice_index_or, list_any}
 use Rattle.std.proofs.lemmas.Bool.{cases_eq, cond_both, eq-eqb, ltb-true, or_cases}
 use Rattle.std.proofs.lemmas.List.{get_or-set_same, get_or-set_other}
-use Rattle.std.proofs.lemmas.List.Folds.{list_any_at}
-use Rattle.hp_model.specs.declared.answer.Answer.TheVariants.{Done}
 use Rattle.hp_model.specs.declared.cell.Cell.{Cell}
-use Rattle.hp_model.specs.declared.cell.Cell.TheVariants.{Hole, Entered, Present}
+use Rattle.hp_model.specs.declared.cell.Cell.TheVariants.{Hole, Present}
 use Rattle.hp_model.specs.declared.place.Place.{Place}
 use Rattle.hp_model.specs.declared.place.Place.TheVariants.{Gone, Live}
-use Rattle.hp_model.specs.declared.refusal.Refusal.TheVariants.{TakenByOwner}
 use Rattle.hp_model.specs.declared.section.Section.TheVariants.{GrantPage}
 use Rattle.hp_model.specs.declared.step.Intent.{Intent}
-use Rattle.hp_model.specs.declared.step.Intent.TheVariants.{Read, Write}
+use Rattle.hp_model.specs.declared.step.Intent.TheVariants.{Write}
 use Rattle.hp_model.specs.files.Access.{shared_access, new_copy, uncopied_access, private_access, access}
 use Rattle.hp_model.specs.files.CopyWrite.{holds, drop_stamp, robbed, taken_back, is_held_once, copy_write}
 use Rattle.hp_model.specs.files.File.{File, Mount, cell_at, has_page, new_file, with_cell, with_file, with_map}
 use Rattle.hp_model.specs.Lists.{edit_at}
 use Rattle.hp_model.specs.files.Mapping.{Map, copy_of, is_shared, place_at, with_place, without_copy}
-use Rattle.hp_model.specs.files.Page.{Page, Copy, zeros}
+use Rattle.hp_model.specs.files.Page.{Page, Copy}
 use Rattle.hp_model.specs.files.Spot.{Spot, cell_written, copied, file_written, map_written, place_written, written}
 use Rattle.hp_model.specs.files.Value.{value}
 use Rattle.hp_model.specs.machine.Kept.{IsFilled}
-use Rattle.hp_model.specs.machine.Plan.{Answered, Ask, Choice, Finish, Outcome}
-use Rattle.hp_model.specs.machine.Promises.{file_in, is_at, is_same_copy, map_in, no_map}
+use Rattle.hp_model.specs.machine.Plan.{Ask, Choice, Finish, Outcome}
+use Rattle.hp_model.specs.machine.Promises.{file_in, is_at, map_in, no_map}
 use Rattle.hp_model.specs.machine.Sound.{IsSoundMount}
 use Rattle.hp_model.specs.pool.Grant.{is_full, rise}
-use Rattle.hp_laws.proofs.counts.Copies.{live_of}
-use Rattle.hp_laws.proofs.counts.FileMoves.{live_at}
 use Rattle.hp_laws.proofs.lists.Looks.{edit_here, edit_other, same_edit}
 use Rattle.hp_laws.proofs.counts.MountMoves.{IsSpot}
 use Rattle.hp_laws.proofs.steps.Outcomes.{Always, always_if, always_test, outcome_if}
-use Rattle.hp_laws.proofs.accesses.StoredMaps.{IsLostAt, at_index, back, dropped_at, edit_marks, held_copy, left, map_beside, map_left, mine, same_written, written_at, written_off}
+use Rattle.hp_laws.proofs.accesses.StoredMaps.{IsLostAt, at_index, back, edit_marks, left, map_beside, map_left, mine, same_written, written_at, written_off}
 use Rattle.hp_laws.proofs.accesses.Shown.{On, Own, Result, marked, on_grant_page, on_reserved_page, place_other, place_put}
 use Rattle.hp_laws.proofs.accesses.StoredFiles.{ready}
 
@@ -43,21 +39,8 @@ any_there t d [] e = cc
 any_there t d (x ∷ xs) e =
     ⊎_elim (λ here. (0, omega arith, here)) (λ later. (let there = any_there t d xs later in (suc there.0, omega (arith, there.1), there.2))) (or_cases (t x) (list_any t xs) e)
 
-held_there : (stamp : ℕ) (y : Map) (x : ℕ) → holds stamp (place_at y x) ≡ true → list_any (holds stamp) y.places ≡ true
-held_there stamp y x e =
-    let held = held_copy stamp (place_at y x) e in
-    let live = live_of (place_at y x) held.0 held.1 in
-    let at = live_at y x live.0 (Some held.0) live.1 in
-    list_any_at (holds stamp) y.places (x - y.start) Gone at.within (ap (holds stamp) (at.is ∙ sym live.1) ∙ e)
-
 robbed_place : (stamp : ℕ) (y : Map) (x : ℕ) → place_at (robbed stamp y) x ≡ drop_stamp stamp (place_at y x)
-robbed_place stamp y x =
-    cond_both (list_any (holds stamp) y.places) (record y { unmapped = true; places = map (drop_stamp stamp) y.places }) y
-    (λ z. place_at z x ≡ drop_stamp stamp (place_at y x)) (λ some. dropped_at stamp y x) (λ none. not_held none (holds stamp (place_at y x)) refl)
-  where
-    not_held : list_any (holds stamp) y.places ≡ false → (b : Bool) → holds stamp (place_at y x) ≡ b → place_at y x ≡ drop_stamp stamp (place_at y x)
-    not_held none true e = (let some = held_there stamp y x e in cc)
-    not_held none false e = ap (λ b. if b then without_copy (place_at y x) else place_at y x) (sym e)
+robbed_place stamp y x = grind (arith, common_steps)
 
 -- it has a place that was so
 robbed_mark : (stamp : ℕ) (y : Map) → ((robbed stamp y).unmapped ≡ y.unmapped) ⊎ (((robbed stamp y).unmapped ≡ true) × ((x : ℕ) × (holds stamp (place_at y x) ≡ true)))
@@ -144,18 +127,7 @@ module _ (size : ℕ) (m : Mount) (sound : IsSoundMount m) (s : Spot) (at : IsSp
     both v same = ap v file_here ∙ same ∙ sym (ap v file_was)
 
   fill_held : (page : Page) → is_shared s.map.sharing ≡ true → i < length s.file.cells → Held (with_file m s.file_no (with_cell s.file i (Present page)))
-  fill_held page shared l =
-      let g : File = with_cell s.file i (Present page) in
-      put_held g (λ k x. inl (both g (λ f. place_at (map_in f k) x) refl))
-      (λ x. elim (cases_eq x i) as (λ _. CellAt (with_file m s.file_no g) s.file_no x) [
-        | inl same ↦ subst (λ y. CellAt (with_file m s.file_no g) s.file_no y) (sym same) (inr (
-          ap (λ b. b && (s.file_no == s.file_no)) shared ∙ eq-eqb s.file_no s.file_no refl,
-          refl,
-          ap (λ f. has_page (cell_at f i)) (file_here g) ∙ ap has_page (get_or-set_same s.file.cells i (Present page) Hole l),
-        ))
-        | inr other ↦ inl (both g (λ f. cell_at f x) (get_or-set_other s.file.cells i x (Present page) Hole other))
-      ])
-      (λ k. inl (both g (λ f. (map_in f k).unmapped) refl))
+  fill_held page shared l = grind (arith, put_held, both, cases_eq, eq-eqb, file_here, get_or-set_same, get_or-set_other)
 
   copy_held : (c d : Bool) (o : Option Copy) (new : Copy) → place_at s.map i ≡ Live c o → Held (with_file m s.file_no (with_map s.file s.map_no (with_place s.map i (Live d (Some new)))))
   copy_held c d o new is =
@@ -206,37 +178,16 @@ module _ (size : ℕ) (m : Mount) (sound : IsSoundMount m) (s : Spot) (at : IsSp
     dropped l x other held = place_beside l x other ∙ ap (λ b. if b then without_copy (place_at (map_in s.file l) x) else place_at (map_in s.file l) x) held
 
     none_left : (p : Place Copy) → copy_of (without_copy p) ≡ None
-    none_left Gone = refl
-    none_left (Live c o) = refl
+    none_left p = grind arith
 
     some_marked : (l x : ℕ) → holds copy.stamp (place_at (map_in s.file l) x) ≡ true → (robbed copy.stamp (map_in s.file l)).unmapped ≡ true
-    some_marked l x held =
-        ap (λ b. (if b then record (map_in s.file l) { unmapped = true; places = map (drop_stamp copy.stamp) (map_in s.file l).places } else map_in s.file l).unmapped)
-        (held_there copy.stamp (map_in s.file l) x held)
+    some_marked l x held = grind (arith, common_steps)
 
     lost_beside : (l x : ℕ) → (l ≡ s.map_no → ⊥) → holds copy.stamp (place_at (map_in s.file l) x) ≡ true → LostAt robs s.file_no l x
-    lost_beside l x other held = (
-      writes,
-      (
-        refl,
-        record {
-          index = at_index size m sound s at i 0 [] copy.stamp consumed copy refl is l x held;
-          private = apart;
-          owner = owner;
-          held = ap (λ q. is_same_copy q (place_at (was s.file_no l) x)) is ∙ ap (λ f. holds copy.stamp (place_at (map_in f l) x)) file_was ∙ held;
-          kept = ap (λ q. is_same_copy q (place_at (now robs s.file_no s.map_no) i)) is
-              ∙ ap (λ f. holds copy.stamp (place_at (map_in f s.map_no) i)) (file_here bare) ∙ ap (λ y. holds copy.stamp (place_at y i)) own_map
-              ∙ ap (holds copy.stamp) is ∙ eq-eqb copy.stamp copy.stamp refl;
-          lost = ap (λ f. copy_of (place_at (map_in f l) x)) (file_here bare) ∙ ap copy_of (dropped l x other held) ∙ none_left (place_at (map_in s.file l) x);
-          marked = ap (λ f. (map_in f l).unmapped) (file_here bare) ∙ ap (λ y. y.unmapped) (beside l other) ∙ some_marked l x held;
-        },
-        other,
-      ),
-    )
+    lost_beside l x other held = grind (arith, at_index, file_was, file_here, own_map, eq-eqb, dropped, none_left, marked, beside, some_marked)
 
     place_robbed : (l x : ℕ) → (l ≡ s.map_no → ⊥) → (b : Bool) → holds copy.stamp (place_at (map_in s.file l) x) ≡ b → PlaceAt robs s.file_no l x
-    place_robbed l x other true held =
-        inr (inr (lost_beside l x other held, ap (λ f. place_at (map_in f l) x) (file_here bare) ∙ dropped l x other held ∙ sym (ap (λ f. without_copy (place_at (map_in f l) x)) file_was)))
+    place_robbed l x other true held = grind (arith, lost_beside, file_here, dropped, file_was)
     place_robbed l x other false e =
         inl (both bare (λ f. place_at (map_in f l) x) (place_beside l x other ∙ ap (λ b. if b then without_copy (place_at (map_in s.file l) x) else place_at (map_in s.file l) x) e))
 
@@ -264,9 +215,7 @@ module _ (size : ℕ) (m : Mount) (sound : IsSoundMount m) (s : Spot) (at : IsSp
 
   module _ (c : Choice) (home : ℕ) where
     shared_held : (cell : Cell Page) → is_shared s.map.sharing ≡ true → i < length s.file.cells → Always (On Held) (shared_access c size m s home i cell)
-    shared_held (Present page) shared l = idle
-    shared_held Entered shared l = on_reserved_page Held home _ (λ node. fill_held (record { node = node; bytes = zeros size }) shared l)
-    shared_held Hole shared l = on_grant_page Held c m home _ (λ node. fill_held (record { node = node; bytes = zeros size }) shared l)
+    shared_held cell shared l = grind (arith, idle, on_reserved_page, fill_held, on_grant_page)
 
     new_held : (consumed : Bool) → place_at s.map i ≡ Live consumed None → Always (On Held) (new_copy c size m s home i consumed)
     new_held consumed is =
@@ -275,8 +224,7 @@ module _ (size : ℕ) (m : Mount) (sound : IsSoundMount m) (s : Spot) (at : IsSp
         (λ e. on_reserved_page Held home _ (λ node. copy_held consumed true None (fresh node) is)) (λ e. on_grant_page Held c m home _ (λ node. copy_held consumed consumed None (fresh node) is))
 
     uncopied_held : (consumed : Bool) (t : Intent) → place_at s.map i ≡ Live consumed None → Always (On Held) (uncopied_access c size m s home i consumed t)
-    uncopied_held consumed Write is = new_held consumed is
-    uncopied_held consumed Read is = always_if (On Held) (has_page (cell_at s.file i)) (Finish (Answered Done (Some m))) (new_copy c size m s home i consumed) (λ e. idle) (λ e. new_held consumed is)
+    uncopied_held consumed t is = grind (arith, new_held, always_if, On, idle)
 
     write_held : (consumed : Bool) (copy : Copy) → intent ≡ Write → is_shared s.map.sharing ≡ false → place_at s.map i ≡ Live consumed (Some copy)
         → Always (On Held) (copy_write c m s home i consumed copy)
@@ -292,14 +240,10 @@ module _ (size : ℕ) (m : Mount) (sound : IsSoundMount m) (s : Spot) (at : IsSp
         (λ other. on_grant_page Held c m home _ (λ node. copy_held consumed consumed (Some copy) (own node) is)))
 
     private_held : (p : Place Copy) (t : Intent) → intent ≡ t → is_shared s.map.sharing ≡ false → place_at s.map i ≡ p → Always (On Held) (private_access c size m s home i p t)
-    private_held Gone t same apart is = tt
-    private_held (Live consumed (Some copy)) Read same apart is = idle
-    private_held (Live consumed (Some copy)) Write same apart is = write_held consumed copy same apart is
-    private_held (Live consumed None) t same apart is = always_test (On Held) s.map.unmapped TakenByOwner (uncopied_access c size m s home i consumed t) tt (λ e. uncopied_held consumed t is)
+    private_held p t same apart is = grind (arith, idle, write_held, always_test, On, uncopied_held)
 
     pub access_held : i < length s.file.cells → Always (On Held) (access c size m s home i intent)
-    access_held l =
-        always_if (On Held) (is_shared s.map.sharing) _ _ (λ e. shared_held (cell_at s.file i) e l) (λ e. private_held (place_at s.map i) intent refl e refl)
+    access_held l = grind (arith, always_if, On, shared_held, private_held)
 
   -- ---- what a store writes
 
@@ -317,9 +261,7 @@ module _ (size : ℕ) (m : Mount) (sound : IsSoundMount m) (s : Spot) (at : IsSp
     same_marks j l = same_edit (marked l) (new_file None) edit (edit_marks size m sound s at i offset bytes l) n.files s.file_no j
 
     page_stays : (c : Cell Page) → has_page (cell_written offset bytes c) ≡ has_page c
-    page_stays Hole = refl
-    page_stays Entered = refl
-    page_stays (Present page) = refl
+    page_stays c = grind arith
 
     -- ---- through a shared map
 
@@ -331,11 +273,7 @@ module _ (size : ℕ) (m : Mount) (sound : IsSoundMount m) (s : Spot) (at : IsSp
       same_map j l = same_edit (λ f. map_in f l) (new_file None) edit (λ f. ap (λ g. map_in g l) (shared_edit f)) n.files s.file_no j
 
       shared_place : (j l x : ℕ) → PlaceAt w j l x
-      shared_place j l x =
-          ⊎_elim (λ same. inl (ap (λ y. place_at y x) (same_map j l) ∙ same))
-          (λ rest. ⊎_elim
-          (λ own. inr (inl (record { own = own.own; index = own.index; copy = ap (λ y. is_some (copy_of (place_at y x))) (same_map j l) ∙ own.copy })))
-          (λ lost. (let apart = lost.0.1.1.private in cc)) rest) (held.places j l x)
+      shared_place j l x = grind (arith, same_map)
 
       other_cell : (j x : ℕ) → (x ≡ i → ⊥) → cell_at (file_in w j) x ≡ cell_at (file_in n j) x
       other_cell j x other =
@@ -343,17 +281,10 @@ module _ (size : ℕ) (m : Mount) (sound : IsSoundMount m) (s : Spot) (at : IsSp
           (λ f. ap (λ g. cell_at g x) (shared_edit f) ∙ edit_other (cell_written offset bytes) Hole f.cells i x other) n.files s.file_no j
 
       cell_same : (j x : ℕ) → cell_at (file_in w j) x ≡ cell_at (file_in n j) x → CellAt w j x
-      cell_same j x same =
-          ⊎_elim (λ was. inl (same ∙ was)) (λ filled. inr (filled.0, filled.1, ap has_page same ∙ filled.2)) (held.cells j x)
+      cell_same j x same = grind arith
 
       cell_here : CellAt w s.file_no i
-      cell_here = inr (
-        ap (λ b. b && (s.file_no == s.file_no)) e ∙ eq-eqb s.file_no s.file_no refl,
-        refl,
-        ap (λ f. has_page (cell_at f i)) (edit_here edit (new_file None) (shared_edit (new_file None)) n.files s.file_no ∙ shared_edit (file_in n s.file_no))
-            ∙ ap has_page (edit_here (cell_written offset bytes) Hole refl (file_in n s.file_no).cells i) ∙ page_stays (cell_at (file_in n s.file_no) i)
-            ∙ (ready size m s at i n done).present e,
-      )
+      cell_here = grind (arith, eq-eqb, edit_here, shared_edit, page_stays, ready)
 
       shared_written : Held w
       shared_written = record {
@@ -394,35 +325,13 @@ module _ (size : ℕ) (m : Mount) (sound : IsSoundMount m) (s : Spot) (at : IsSp
       own_written = ap (λ y. place_at y i) map_edited ∙ written_at (now n s.file_no s.map_no) i o.consumed (Some o.copy) o.is offset bytes
 
       lost_still : (j l x : ℕ) → place_at (now w j l) x ≡ place_at (now n j l) x → LostAt n j l x → LostAt w j l x
-      lost_still j l x same lost = (
-        lost.0,
-        (
-          lost.1.0,
-          record {
-            index = lost.1.1.index;
-            private = lost.1.1.private;
-            owner = lost.1.1.owner;
-            held = lost.1.1.held;
-            kept = ap (is_same_copy (place_at s.map i)) own_written ∙ same_written offset bytes (place_at s.map i) (place_at (now n s.file_no s.map_no) i) ∙ lost.1.1.kept;
-            lost = ap copy_of same ∙ lost.1.1.lost;
-            marked = same_marks j l ∙ lost.1.1.marked;
-          },
-          lost.1.2,
-        ),
-      )
+      lost_still j l x same lost = grind (arith, own_written, same_written, marked, same_marks)
 
       place_same : (j l x : ℕ) → place_at (now w j l) x ≡ place_at (now n j l) x → PlaceAt w j l x
-      place_same j l x same =
-          ⊎_elim (λ was. inl (same ∙ was))
-          (λ rest. inr (⊎_elim (λ own. inl (record { own = own.own; index = own.index; copy = ap (λ p. is_some (copy_of p)) same ∙ own.copy }))
-          (λ lost. inr (lost_still j l x same lost.0, same ∙ lost.1)) rest)) (held.places j l x)
+      place_same j l x same = grind (arith, lost_still)
 
       own_place : PlaceAt w s.file_no s.map_no i
-      own_place = inr (inl (record {
-        own = ap (λ b. b && (s.map_no == s.map_no)) (eq-eqb s.file_no s.file_no refl) ∙ eq-eqb s.map_no s.map_no refl;
-        index = refl;
-        copy = ap (λ p. is_some (copy_of p)) (own_written ∙ ap (place_written offset bytes) o.is);
-      }))
+      own_place = grind (arith, eq-eqb, own_written)
 
       place_apart : (l x : ℕ) → (l ≡ s.map_no → ⊥) → place_at (now w s.file_no l) x ≡ place_at (now n s.file_no l) x
       place_apart l x other = ap (λ y. place_at y x) (map_apart l other)
@@ -442,16 +351,10 @@ module _ (size : ℕ) (m : Mount) (sound : IsSoundMount m) (s : Spot) (at : IsSp
       ]
 
       private_mark : (j l : ℕ) → LostAt n j l i → MarkAt w j l
-      private_mark j l lost =
-          inr (lost_still j l i
-          (subst (λ k. place_at (now w k l) i ≡ place_at (now n k l) i) lost.1.0 (place_apart l i lost.1.2)) lost)
+      private_mark j l lost = grind (arith, lost_still, place_apart)
 
       private_written : Held w
-      private_written = record {
-        places = private_place;
-        cells = λ j x. ⊎_elim (λ was. inl (same_cell j x ∙ was)) (λ filled. inr (filled.0, filled.1, ap has_page (same_cell j x) ∙ filled.2)) (held.cells j x);
-        marks = λ j l. ⊎_elim (λ same. inl (same_marks j l ∙ same)) (λ lost. private_mark j l lost) (held.marks j l);
-      }
+      private_written = grind (arith, private_place, same_cell, same_marks, private_mark)
 
     pub store_held : Held w
     store_held = elim (is_shared s.map.sharing) as (λ b. is_shared s.map.sharing ≡ b → Held w) [ true ↦ λ e. shared_written e | false ↦ λ e. private_written e ] refl

@@ -1,14 +1,14 @@
 -- What files and maps show after an access.
-use Rattle.std.proofs.Common.{◌≡◌, inl, inr, ◌⊎◌, map, ℕ, ◌<◌, ◌-◌, Bool, true, false, ◌&&◌, not, Option, None, Some, List, length, set, refl, sym, ap, ◌∙◌, subst, arith, if◌then◌else◌, nat_lt}
+use Rattle.std.proofs.lemmas.Grind.{common_steps}
+use Rattle.std.proofs.Common.{◌≡◌, inl, inr, ◌⊎◌, map, ℕ, ◌<◌, Bool, true, false, ◌&&◌, not, Option, None, Some, List, length, refl, sym, ap, ◌∙◌, subst, arith, if◌then◌else◌}
 use Rattle.std.specs.List.{slice_index_or}
-use Rattle.std.proofs.lemmas.Bool.{cases_eq, ltb-false}
-use Rattle.std.proofs.lemmas.List.{get_or-set_same, get_or-set_other}
+use Rattle.std.proofs.lemmas.Bool.{cases_eq}
+use Rattle.std.proofs.lemmas.List.{get_or-set_same}
 use Rattle.hp_model.specs.declared.answer.Answer.TheVariants.{Done}
 use Rattle.hp_model.specs.declared.cell.Cell.{Cell}
 use Rattle.hp_model.specs.declared.cell.Cell.TheVariants.{Hole, Entered, Present}
 use Rattle.hp_model.specs.declared.place.Place.{Place}
 use Rattle.hp_model.specs.declared.place.Place.TheVariants.{Gone, Live}
-use Rattle.hp_model.specs.declared.refusal.Refusal.TheVariants.{NoPages, MountFull, OutOfMemory, TakenByOwner}
 use Rattle.hp_model.specs.declared.step.Intent.TheVariants.{Read, Write}
 use Rattle.hp_model.specs.files.Access.{shared_access, new_copy, uncopied_access, private_access, access}
 use Rattle.hp_model.specs.files.CopyWrite.{robbed, taken_back, is_held_once, owner_write, copy_write}
@@ -16,12 +16,12 @@ use Rattle.hp_model.specs.files.File.{File, Mount, cell_at, has_page, new_file, 
 use Rattle.hp_model.specs.pool.Grant.{is_full, rise}
 use Rattle.hp_model.specs.files.Mapping.{Map, copy_of, is_shared, place_at, with_place}
 use Rattle.hp_model.specs.files.Page.{Page, Copy, zeros}
-use Rattle.hp_model.specs.machine.Plan.{Outcome, Refused, Answered, Plan, Finish, Ask, Choice, continued, grant_page, reserved_page, when_granted}
+use Rattle.hp_model.specs.machine.Plan.{Outcome, Refused, Answered, Plan, Finish, Ask, Choice, continued, grant_page, reserved_page}
 use Rattle.hp_model.specs.declared.section.Section.TheVariants.{GrantPage}
 use Rattle.hp_model.specs.machine.Promises.{file_in, map_in, no_map}
 use Rattle.hp_model.specs.files.Spot.{Spot, again, copied}
 use Rattle.hp_model.specs.files.Value.{shown, value}
-use Rattle.hp_laws.proofs.counts.FileMoves.{IsMapAt, live_at}
+use Rattle.hp_laws.proofs.counts.FileMoves.{IsMapAt}
 use Rattle.hp_laws.proofs.lists.Looks.{same_put}
 use Rattle.hp_laws.proofs.counts.MountMoves.{IsSpot}
 use Rattle.hp_laws.proofs.steps.Outcomes.{Always, always_if, always_test, always_weaker}
@@ -56,26 +56,14 @@ fill_looks size f i page l e =
 -- ---- a place of a map
 
 pub not_below : (b : Bool) (x : Place Copy) (c : Bool) (o : Option Copy) → (if b then Gone else x) ≡ Live c o → b ≡ false
-not_below true x c o e = cc
-not_below false x c o e = refl
+not_below b x c o e = grind arith
 
 module _ (m : Map) (i : ℕ) (c : Bool) (o : Option Copy) (is : place_at m i ≡ Live c o) (p : Place Copy) where
-  from : nat_lt i m.start ≡ false
-  from = not_below (nat_lt i m.start) (slice_index_or m.places (i - m.start) Gone) c o is
-
   pub place_put : place_at (with_place m i p) i ≡ p
-  place_put =
-      ap (λ b. if b then Gone else slice_index_or (set m.places (i - m.start) p) (i - m.start) Gone) from
-      ∙ get_or-set_same m.places (i - m.start) p Gone (live_at m i c o is).within
+  place_put = grind (arith, common_steps)
 
   pub place_other : (x : ℕ) → (x ≡ i → ⊥) → place_at (with_place m i p) x ≡ place_at m x
-  place_other x other =
-      let low = ltb-false i m.start from in
-      elim (nat_lt x m.start) as (λ b. nat_lt x m.start ≡ b → (if b then Gone else slice_index_or (set m.places (i - m.start) p) (x - m.start) Gone)
-      ≡ (if b then Gone else slice_index_or m.places (x - m.start) Gone)) [
-        | true ↦ λ e. refl
-        | false ↦ λ e. get_or-set_other m.places (i - m.start) (x - m.start) p Gone (λ same. other (omega (arith, same, low, ltb-false x m.start e)))
-      ] refl
+  place_other x other = grind (arith, common_steps)
 
 -- the map has a copy there that shows what it showed
 copy_looks : (size : ℕ) (f : File) (k : ℕ) (m : Map) (i : ℕ) (c d : Bool) (o : Option Copy) (new : Copy) → IsMapAt f k m → place_at m i ≡ Live c o → new.page.bytes ≡ value size f m i
@@ -100,29 +88,18 @@ On Q (Refused r) = Unit {0}
 On Q (Answered a None) = ⊥
 On Q (Answered a (Some n)) = Q n
 
-on_granted : (Q : Mount → Type 0) (b : Bool) (n : Mount) → Q n → On Q (if b then Answered Done (Some n) else Refused NoPages)
-on_granted Q true n h = h
-on_granted Q false n h = tt
-
 pub on_grant_page : (Q : Mount → Type 0) (c : Choice) (m : Mount) (home : ℕ) (n : ℕ → Mount) → ((node : ℕ) → Q (n node)) → Always (On Q) (grant_page c m home (λ node. Answered Done (Some (n node))))
-on_grant_page Q c m home n h =
-    always_test (On Q) (is_full m 1) MountFull _ tt
-    (λ e. always_test (On Q) c.refused OutOfMemory (Ask (λ nr. GrantPage home (rise m 1)) (λ a. when_granted (Answered Done (Some (n a.node))) a)) tt
-    (λ f a. on_granted Q a.granted (n a.node) (h a.node)))
+on_grant_page Q c m home n h = grind arith
 
 pub on_reserved_page : (Q : Mount → Type 0) (home : ℕ) (n : ℕ → Mount) → ((node : ℕ) → Q (n node)) → Always (On Q) (reserved_page home (λ node. Answered Done (Some (n node))))
 on_reserved_page Q home n h = λ a. h a.node
 
 pub on_weaker : (Q R : Mount → Type 0) → ((n : Mount) → Q n → R n) → (o : Outcome) → On Q o → On R o
-on_weaker Q R h (Refused r) on = tt
-on_weaker Q R h (Answered a None) on = on
-on_weaker Q R h (Answered a (Some n)) on = h n on
+on_weaker Q R h o on = grind arith
 
 -- what follows an answer, on the mount that it leaves
 pub on_follows : (Q R : Mount → Type 0) (f : Mount → Outcome) → ((n : Mount) → Q n → On R (f n)) → (o : Outcome) → On Q o → On R (continued f o)
-on_follows Q R f h (Refused r) on = tt
-on_follows Q R f h (Answered a None) on = absurd on
-on_follows Q R f h (Answered a (Some n)) on = h n on
+on_follows Q R f h o on = grind arith
 
 -- ---- an access that leaves all as it shows
 
@@ -166,15 +143,7 @@ module _ (size : ℕ) (m : Mount) (s : Spot) (at : IsSpot m s) (i : ℕ) where
 
   -- nothing changes
   stays_same : (is_shared s.map.sharing ≡ true → has_page (cell_at s.file i) ≡ true) → Same m
-  stays_same there =
-      record {
-        cells = λ j x. refl;
-        maps = λ j l x. refl;
-        marks = λ j l. refl;
-        value = ap (λ f. value size f (slice_index_or f.maps s.map_no s.map) i) (at.file.is s.file) ∙ ap (λ y. value size s.file y i) same_map;
-        present = λ e. ap (λ f. has_page (cell_at f i)) (at.file.is (new_file None)) ∙ there e;
-        held = λ e j l. refl;
-      }
+  stays_same there = grind arith
 
   pub fill_same : (node : ℕ) → i < length s.file.cells → shown size (cell_at s.file i) ≡ zeros size →
       Same (with_file m s.file_no (with_cell s.file i (Present (record { node = node; bytes = zeros size }))))
@@ -252,15 +221,10 @@ module _ (size : ℕ) (m : Mount) (s : Spot) (at : IsSpot m s) (i : ℕ) where
       idle = stays_same (λ e. cc)
 
       uncopied_same : (consumed : Bool) → place_at s.map i ≡ Live consumed None → Always (On Same) (uncopied_access c size m s home i consumed Read)
-      uncopied_same consumed is =
-          always_if (On Same) (has_page (cell_at s.file i)) (Finish (Answered Done (Some m))) (new_copy c size m s home i consumed) (λ e. idle)
-          (λ e. always_weaker (On Copied) (On Same) (on_weaker Copied Same (λ n h. h.0)) (new_copy c size m s home i consumed) (new_same consumed is))
+      uncopied_same consumed is = grind (arith, always_if, idle, always_weaker, on_weaker, new_same)
 
       read_private : (p : Place Copy) → place_at s.map i ≡ p → Always (On Same) (private_access c size m s home i p Read)
-      read_private Gone is = tt
-      read_private (Live consumed (Some copy)) is = idle
-      read_private (Live consumed None) is =
-          always_test (On Same) s.map.unmapped TakenByOwner (uncopied_access c size m s home i consumed Read) tt (λ e. uncopied_same consumed is)
+      read_private p is = grind (arith, idle, always_test, uncopied_same)
 
       -- ---- a write
 
@@ -274,8 +238,7 @@ module _ (size : ℕ) (m : Mount) (s : Spot) (at : IsSpot m s) (i : ℕ) where
           (sym (ap (λ q. by_place size q (look size i s.file)) is))
 
       owner_or : (b : Bool) (x n : Mount) → Result x → Result n → On Result (if b then Answered Done (Some x) else Answered Done (Some n))
-      owner_or true x n hx hn = hx
-      owner_or false x n hx hn = hn
+      owner_or b x n hx hn = grind arith
 
       write_copy : (consumed : Bool) (copy : Copy) → place_at s.map i ≡ Live consumed (Some copy) → Always (On Result) (copy_write c m s home i consumed copy)
       write_copy consumed copy is =
@@ -295,17 +258,10 @@ module _ (size : ℕ) (m : Mount) (s : Spot) (at : IsSpot m s) (i : ℕ) where
       write_private : (p : Place Copy) → place_at s.map i ≡ p → Always (On Result) (private_access c size m s home i p Write)
       write_private Gone is = tt
       write_private (Live consumed (Some copy)) is = write_copy consumed copy is
-      write_private (Live consumed None) is =
-          always_test (On Result) s.map.unmapped TakenByOwner (uncopied_access c size m s home i consumed Write) tt
-          (λ e. always_weaker (On Copied) (On Result) (on_weaker Copied Result (λ n h. inl h)) (new_copy c size m s home i consumed) (new_same consumed is))
+      write_private (Live consumed None) is = grind (arith, always_test, always_weaker, on_weaker, new_same)
 
     pub write_done : i < length s.file.cells → Always (On Result) (access c size m s home i Write)
-    write_done l =
-        always_if (On Result) (is_shared s.map.sharing) (shared_access c size m s home i (cell_at s.file i)) (private_access c size m s home i (place_at s.map i) Write)
-        (λ e. always_weaker (On Same) (On Result) (on_weaker Same Result (λ n h. inl (h, λ apart. cc))) (shared_access c size m s home i (cell_at s.file i)) (shared_same (cell_at s.file i) l refl))
-        (λ e. write_private e (place_at s.map i) refl)
+    write_done l = grind (arith, always_if, always_weaker, on_weaker, shared_same, write_private)
 
     pub read_same : i < length s.file.cells → Always (On Same) (access c size m s home i Read)
-    read_same l =
-        always_if (On Same) (is_shared s.map.sharing) (shared_access c size m s home i (cell_at s.file i)) (private_access c size m s home i (place_at s.map i) Read)
-        (λ e. shared_same (cell_at s.file i) l refl) (λ e. read_private e (place_at s.map i) refl)
+    read_same l = grind (arith, always_if, shared_same, read_private)

@@ -1,43 +1,43 @@
 -- What a slot's files show after a file or a map is made, a load and a store, and what a load answers.
-use Rattle.std.proofs.Common.{◌≡◌, ◌⊎◌, ℕ, zero, suc, ◌+◌, ◌<◌, Bool, true, false, ◌&&◌, ◌||◌, ◌==◌, not, Option, None, Some, ⊎_elim}
+use Rattle.std.proofs.Common.{arith}
+use Rattle.std.proofs.lemmas.Grind.{common_steps}
+use Rattle.std.proofs.Common.{◌≡◌, ◌⊎◌, ℕ, ◌+◌, ◌<◌, Bool, true, false, ◌&&◌, ◌==◌, not, Option, None, Some}
 use Rattle.std.proofs.Common.{Result as ResultOf, Ok, Err, List, [], ◌∷◌, length, replicate, refl, sym, ap, ◌∙◌, if◌then◌else◌, nat_lt, ◌-◌}
-use Rattle.std.specs.List.{slice_index_or, sum}
-use Rattle.std.proofs.lemmas.Bool.{cond_both, leb-false}
+use Rattle.std.proofs.lemmas.Bool.{cond_both}
 use Rattle.hp_model.specs.declared.answer.Answer.{Answer}
 use Rattle.hp_model.specs.declared.answer.Answer.TheVariants.{Done}
 use Rattle.hp_model.specs.declared.cell.Cell.{Cell}
-use Rattle.hp_model.specs.declared.cell.Cell.TheVariants.{Hole, Entered, Present}
+use Rattle.hp_model.specs.declared.cell.Cell.TheVariants.{Hole}
 use Rattle.hp_model.specs.declared.event.SlotEvent.TheVariants as slot
 use Rattle.hp_model.specs.declared.limits.Limits.{Limits}
 use Rattle.hp_model.specs.declared.place.Place.{Place}
-use Rattle.hp_model.specs.declared.place.Place.TheVariants.{Gone, Live}
+use Rattle.hp_model.specs.declared.place.Place.TheVariants.{Gone}
 use Rattle.hp_model.specs.declared.refusal.Refusal.{Refusal}
-use Rattle.hp_model.specs.declared.refusal.Refusal.TheVariants.{NoPages, MountFull, OutOfMemory, OutOfRange, CrossesPage, TooMany, BeyondEnd, NoSuchMap}
+use Rattle.hp_model.specs.declared.refusal.Refusal.TheVariants.{NoPages, OutOfMemory, NoSuchMap}
 use Rattle.hp_model.specs.declared.step.Intent.{Intent}
 use Rattle.hp_model.specs.declared.step.Intent.TheVariants.{Read, Write}
 use Rattle.hp_model.specs.declared.step.Reserving.{Reserving}
 use Rattle.hp_model.specs.declared.step.Sharing.{Sharing}
 use Rattle.hp_model.specs.files.Access.{access}
 use Rattle.hp_laws.specs.Balance.{left_by}
-use Rattle.hp_model.specs.files.File.{File, Mount, at_least, entered, new_file, with_file, cell_at, has_page}
-use Rattle.hp_model.specs.pool.Grant.{is_full, rise, granted}
+use Rattle.hp_model.specs.files.File.{File, Mount, at_least, entered, new_file, with_file, has_page}
+use Rattle.hp_model.specs.pool.Grant.{granted}
 use Rattle.hp_model.specs.files.MakeMap.{mapped, new_map, reserves, with_new}
 use Rattle.hp_model.specs.Lists.{edit_range}
 use Rattle.hp_model.specs.files.Mapping.{Map, copy_of, is_map, is_shared, place_at}
 use Rattle.hp_model.specs.files.Options.{limits, wanted_of}
 use Rattle.hp_model.specs.files.Page.{Page, Copy, zeros}
-use Rattle.hp_model.specs.machine.Plan.{Slot, Outcome, Refused, Answered, Plan, Finish, Ask, Choice, refuse, unless, with_value, continued, grant, when_granted, gives, puts_of, fall_of}
-use Rattle.hp_model.specs.declared.section.Section.TheVariants.{FillPages, Grant, GiveBack}
-use Rattle.hp_model.specs.Profile.{most_bytes}
+use Rattle.hp_model.specs.machine.Plan.{Slot, Outcome, Refused, Answered, Plan, Ask, Choice, unless, with_value, continued, grant, when_granted, gives}
+use Rattle.hp_model.specs.declared.section.Section.TheVariants.{FillPages}
 use Rattle.hp_model.specs.machine.Promises.{file_in, spot_on, IsLoaded, shown_on, seen_on, map_in, map_on, no_map, over, is_shared_of, reaches}
-use Rattle.hp_model.specs.machine.SlotEvent.{byte_access, bytes_answer, is_beyond, fill, preallocate, preallocate_tests, unentered}
-use Rattle.hp_model.specs.machine.SlotEvent.{is_unmapped, load, mount_on, mount_outcome, remount, remount_outcome, remount_tests, slot_event, store}
+use Rattle.hp_model.specs.machine.SlotEvent.{byte_access, bytes_answer}
+use Rattle.hp_model.specs.machine.SlotEvent.{load, mount_on, mount_outcome, remount, remount_outcome, remount_tests, slot_event, store}
 use Rattle.hp_model.specs.machine.Sound.{IsSoundMount}
 use Rattle.hp_model.specs.files.Spot.{Spot, again, spot, written}
 use Rattle.hp_model.specs.files.Value.{shown, value}
 use Rattle.hp_laws.proofs.lists.Looks.{same_edit_range, same_more, same_none, same_one, same_put}
 use Rattle.hp_laws.proofs.counts.MountMoves.{IsSpot, spot_is, IsFileAt}
-use Rattle.hp_laws.proofs.steps.Outcomes.{Always, always_if, always_test, always_then, outcome_if}
+use Rattle.hp_laws.proofs.steps.Outcomes.{Always, always_then, outcome_if}
 use Rattle.hp_laws.proofs.accesses.StoredMaps.{IsLostAt, store_seen, store_marks}
 use Rattle.hp_laws.proofs.accesses.Shown.{marked, look, seen, by_place, On, Same, Result, read_same, write_done}
 use Rattle.hp_laws.proofs.accesses.StoredFiles.{ready, stored}
@@ -56,33 +56,18 @@ pub always_value : {X : Type 0} (P : Outcome → Type 0) → ((r : Refusal) → 
 always_value P stops o r f h = plan_value (Always P) stops o r f h
 
 granted_or : (P : Outcome → Type 0) → ((r : Refusal) → P (Refused r)) → (b : Bool) (o : Outcome) → P o → P (if b then o else Refused NoPages)
-granted_or P stops true o h = h
-granted_or P stops false o h = stops NoPages
+granted_or P stops b o h = grind arith
 
 pub always_grant : (P : Outcome → Type 0) → ((r : Refusal) → P (Refused r)) → (c : Choice) (m : Mount) (home k : ℕ) (o : Outcome) → P o → Always P (grant c m home k o)
-always_grant P stops c m home k o h =
-    always_unless P stops ((is_full m k, MountFull) ∷ (c.refused, OutOfMemory) ∷ []) (if rise m k == 0 then Finish o else Ask (λ nr. Grant home (rise m k)) (when_granted o))
-    (always_if P (rise m k == 0) (Finish o) (Ask (λ nr. Grant home (rise m k)) (when_granted o)) (λ e. h) (λ e a. granted_or P stops a.granted o h))
+always_grant P stops c m home k o h = grind arith
 
 -- pages of a range, whose nodes the pool answers
 pub always_fill : (P : Outcome → Type 0) → ((r : Refusal) → P (Refused r)) → (ts : List (Bool × Refusal)) (d n : ℕ) (o : List ℕ → Outcome) → ((pages : List ℕ) → P (o pages))
     → Always P (unless ts (Ask (λ nr. FillPages d n) (λ a. when_granted (o a.pages) a)))
-always_fill P stops ts d n o h =
-    always_unless P stops ts (Ask (λ nr. FillPages d n) (λ a. when_granted (o a.pages) a)) (λ a. granted_or P stops a.granted (o a.pages) (h a.pages))
-
--- where nothing of the range lacks a page, and else
-pub always_preallocate : (P : Outcome → Type 0) → ((r : Refusal) → P (Refused r)) → (c : Choice) (size : ℕ) (m : Mount) (a b : ℕ) (q : ℕ × File) → P (Answered Done (Some m))
-    → ((pages : List ℕ) → P (Answered Done (Some (with_file m q.0 (range_filled size a b (rising_nodes (lacking a b q.1) pages) q.1))))) → Always P (preallocate c size m a b q)
-always_preallocate P stops c size m a b q none h =
-    always_unless P stops (preallocate_tests a b) (if lacking a b q.1 == 0 then Finish (Answered Done (Some m)) else fill c size m a b q)
-    (always_if P (lacking a b q.1 == 0) (Finish (Answered Done (Some m))) (fill c size m a b q) (λ e. none)
-    (λ e. always_fill P stops ((is_full m (unentered a b q.1), MountFull) ∷ (c.refused, OutOfMemory) ∷ []) (rise m (unentered a b q.1)) (lacking a b q.1)
-    (λ pages. Answered Done (Some (with_file m q.0 (range_filled size a b (rising_nodes (lacking a b q.1) pages) q.1)))) h))
+always_fill P stops ts d n o h = grind (arith, always_unless, granted_or)
 
 pub always_gives : (P : Outcome → Type 0) (a : Answer) (old new : Slot) → P (Answered a new) → Always P (gives a old new)
-always_gives P a old new h =
-    always_if P ((sum (puts_of old new) == 0) && (fall_of old new == 0)) (Finish (Answered a new)) (Ask (λ nr. GiveBack (puts_of old new) (fall_of old new)) (λ answer. Answered a new))
-    (λ e. h) (λ e answer. h)
+always_gives P a old new h = grind arith
 
 pub always_mount : (P : Outcome → Type 0) → ((r : Refusal) → P (Refused r)) → ((l : Limits) → P (Answered Done (Some (record { limits = l; files = [] }))))
     → (c : Choice) (size : ℕ) (options : List ℕ) → Always P (mount_on c size options)
@@ -90,9 +75,7 @@ always_mount P stops h c size options a = by_limits (limits a.nr size (wanted_of
   where
     by_tests : (refused granted late : Bool) (o : Outcome) → P o → P (if refused then Refused OutOfMemory else if not granted then Refused NoPages else if late then Refused OutOfMemory else o)
     by_tests true granted late o g = stops OutOfMemory
-    by_tests false false late o g = stops NoPages
-    by_tests false true true o g = stops OutOfMemory
-    by_tests false true false o g = g
+    by_tests refused granted late o g = grind arith
 
     by_limits : (r : ResultOf Limits Refusal) → P (mount_outcome c a r)
     by_limits (Err e) = stops e
@@ -136,9 +119,7 @@ module _ (size : ℕ) (m : Mount) (a : Answer) where
   )
 
 entered_shows : (size : ℕ) (c : Cell Page) → shown size (entered c) ≡ shown size c
-entered_shows size Hole = refl
-entered_shows size Entered = refl
-entered_shows size (Present page) = refl
+entered_shows size c = grind arith
 
 mapped_shows : (size task number a n : ℕ) (sharing : Sharing) (reserving : Reserving) (f : File) (x : ℕ) → look size x (mapped task number a n sharing reserving f) ≡ look size x f
 mapped_shows size task number a n sharing reserving f x =
@@ -150,15 +131,10 @@ mapped_shows size task number a n sharing reserving f x =
     (λ e. long)
 
 zero_shows : (size : ℕ) (c : Cell Page) → has_page c ≡ false → shown size c ≡ zeros size
-zero_shows size Hole none = refl
-zero_shows size Entered none = refl
-zero_shows size (Present page) none = cc
+zero_shows size c none = grind arith
 
 filled_shows : (size a b : ℕ) (pages : List ℕ) (f : File) (x : ℕ) → look size x (range_filled size a b (rising_nodes (lacking a b f) pages) f) ≡ look size x f
-filled_shows size a b pages f x =
-    ⊎_elim (λ same. ap (shown size) same)
-    (λ new. ap (shown size) new.is ∙ new.holds ∙ sym (zero_shows size (cell_at f x) new.lacked))
-    (filled_index size a b (rising_nodes (lacking a b f) pages) f (length-nodes_of (lacking a b f) pages) x)
+filled_shows size a b pages f x = grind (arith, zero_shows, filled_index, length-nodes_of)
 
 pub filled_quiet : (size : ℕ) (m : Mount) (a b : ℕ) (pages : List ℕ) (q : ℕ × File) → IsFileAt m q.0 q.1
     → Quiet size (Some m) (Answered Done (Some (with_file m q.0 (range_filled size a b (rising_nodes (lacking a b q.1) pages) q.1))))
@@ -166,15 +142,8 @@ filled_quiet size m a b pages q at =
     let shows = filled_shows size a b pages q.1 in
     put_quiet size m Done q (range_filled size a b (rising_nodes (lacking a b q.1) pages) q.1) at shows (λ l x. ap (by_place size (place_at (map_in q.1 l) x)) (shows x)) (λ l. refl)
 
--- a new map has no copies
-none_yet : (n j : ℕ) → copy_of {C = Copy} (slice_index_or (replicate n (Live false None)) j Gone) ≡ None
-none_yet zero j = refl
-none_yet (suc n) zero = refl
-none_yet (suc n) (suc j) = none_yet n j
-
 none_at : (task number a n : ℕ) (sharing : Sharing) (reserving : Reserving) (x : ℕ) → copy_of (place_at (new_map task number a n sharing reserving) x) ≡ None
-none_at task number a n sharing reserving x =
-    cond_both (nat_lt x a) Gone (slice_index_or (replicate n (Live false None)) (x - a) Gone) (λ (p : Place Copy). copy_of p ≡ None) (λ e. refl) (λ e. none_yet n (x - a))
+none_at task number a n sharing reserving x = grind (arith, common_steps)
 
 none_past : (x : ℕ) → copy_of (place_at no_map x) ≡ None
 none_past x = cond_both (nat_lt x 0) Gone Gone (λ (p : Place Copy). copy_of p ≡ None) (λ e. refl) (λ e. refl)
@@ -188,8 +157,7 @@ mapped_seen size task number a n sharing reserving f l x =
     (λ j. same_one (λ (y : Map). value size f y x) no_map more (ap by_copy (none_at task number a n sharing reserving x) ∙ sym (ap by_copy (none_past x))) j) l
 
 mapped_marks : (task number a n : ℕ) (sharing : Sharing) (reserving : Reserving) (f : File) (l : ℕ) → marked l (mapped task number a n sharing reserving f) ≡ marked l f
-mapped_marks task number a n sharing reserving f l =
-    let more : Map = new_map task number a n sharing reserving in same_more (λ (y : Map). y.unmapped) no_map f.maps (more ∷ []) (λ j. same_one (λ (y : Map). y.unmapped) no_map more refl j) l
+mapped_marks task number a n sharing reserving f l = grind (arith, common_steps)
 
 module _ (size : ℕ) (m : Mount) (task number a n : ℕ) (sharing : Sharing) (reserving : Reserving) (answer : Answer) where
   pub mapped_quiet : (q : ℕ × File) → IsFileAt m q.0 q.1 → Quiet size (Some m) (Answered answer (Some (with_file m q.0 (mapped task number a n sharing reserving q.1))))
@@ -207,10 +175,7 @@ module _ (size : ℕ) (m : Mount) (task number a n : ℕ) (sharing : Sharing) (r
 module _ (size : ℕ) (c : Choice) (m : Mount) (home i : ℕ) where
   pub bytes_on : (Q : Mount → Type 0) (offset count : ℕ) (intent : Intent) (s : Spot) →
       (i < length s.file.cells → Always (On Q) (access c size m s home i intent)) → Always (On Q) (byte_access c size m home i offset count intent s)
-  bytes_on Q offset count intent s h =
-      always_unless (On Q) (λ r. tt) ((is_unmapped s i || (count == 0), OutOfRange) ∷ (nat_lt size (offset + count), CrossesPage)
-      ∷ (nat_lt most_bytes count, TooMany) ∷ []) (if is_beyond s i then refuse BeyondEnd else access c size m s home i intent)
-      (always_test (On Q) (is_beyond s i) BeyondEnd (access c size m s home i intent) tt (λ e. h (leb-false (length s.file.cells) i e)))
+  bytes_on Q offset count intent s h = grind arith
 
 -- the files show what they showed, and an answer is what the map shows
 pub record Loads (size : ℕ) (old : Slot) (o : Option Spot) (i offset count : ℕ) (out : Outcome) : Type 0 where
@@ -226,13 +191,7 @@ spot_seen size m s at i = ap (seen size s.map_no i) (at.file.is (new_file None))
 
 load_ends : (size : ℕ) (m : Mount) (s : Spot) (at : IsSpot m s) (i offset count : ℕ) (o : Outcome) → On (Same size m s at i) o
     → Loads size (Some m) (Some s) i offset count (continued (λ n. Answered (bytes_answer offset count (value size (again n s).file (again n s).map i)) (Some n)) o)
-load_ends size m s at i offset count (Refused r) on = load_refused size (Some m) (Some s) i offset count r
-load_ends size m s at i offset count (Answered a None) on = absurd on
-load_ends size m s at i offset count (Answered a (Some n)) on = record {
-  quiet = (on.cells, on.maps, on.marks);
-  loaded = λ b new e. (let first : bytes_answer offset count (value size (again n s).file (again n s).map i) ≡ b = cc in
-      sym first ∙ ap (bytes_answer offset count) (on.value ∙ sym (spot_seen size m s at i)));
-}
+load_ends size m s at i offset count o on = grind (arith, load_refused, spot_seen)
 
 pub load_at : (size : ℕ) (c : Choice) (m : Mount) (s : Spot) → IsSpot m s → (home i offset count : ℕ)
     → Always (Loads size (Some m) (Some s) i offset count) (load c size m home i offset count s)
@@ -262,13 +221,12 @@ Stores size old o i offset bytes (Answered a new) =
 
 store_ends : (size : ℕ) (m : Mount) (sound : IsSoundMount m) (s : Spot) (at : IsSpot m s) (i offset : ℕ) (bytes : List ℕ) (o : Outcome) → On (Result size m s at i) o
     → Stores size (Some m) (Some s) i offset bytes (continued (λ n. Answered Done (Some (written n s i offset bytes))) o)
-store_ends size m sound s at i offset bytes (Refused r) on = tt
-store_ends size m sound s at i offset bytes (Answered a None) on = absurd on
 store_ends size m sound s at i offset bytes (Answered a (Some n)) on = (
   λ j x. stored size m s at i n (ready size m s at i n on) offset bytes (i == x) (is_shared s.map.sharing) (s.file_no == j) j x refl refl refl,
   store_seen size m sound s at i offset bytes n on,
   store_marks size m sound s at i offset bytes n on,
 )
+store_ends size m sound s at i offset bytes o on = grind arith
 
 pub store_at : (size : ℕ) (c : Choice) (m : Mount) → IsSoundMount m → (s : Spot) → IsSpot m s → (home i offset : ℕ) (bytes : List ℕ)
     → Always (Stores size (Some m) (Some s) i offset bytes) (store c size m home i offset bytes s)

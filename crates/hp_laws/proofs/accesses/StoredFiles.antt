@@ -1,25 +1,23 @@
 -- What files show after a store.
-use Rattle.std.proofs.Common.{◌≡◌, ⊎_elim, ℕ, Bool, true, false, ◌&&◌, ◌==◌, None, List, refl, sym, ap, ◌∙◌, subst, if◌then◌else◌}
+use Rattle.std.proofs.Common.{arith}
+use Rattle.std.proofs.lemmas.Grind.{common_steps}
+use Rattle.std.proofs.Common.{◌≡◌, ℕ, Bool, true, false, ◌&&◌, ◌==◌, None, List, refl, sym, ap, ◌∙◌, if◌then◌else◌}
 use Rattle.std.proofs.lemmas.Bool.{cond_both, eqb-true, eqb-false}
 use Rattle.hp_model.specs.declared.cell.Cell.{Cell}
-use Rattle.hp_model.specs.declared.cell.Cell.TheVariants.{Hole, Entered, Present}
 use Rattle.hp_model.specs.files.File.{File, Mount, cell_at, has_page, new_file}
-use Rattle.hp_model.specs.Lists.{edit_at}
 use Rattle.hp_model.specs.files.Mapping.{is_shared}
 use Rattle.hp_model.specs.files.Page.{Page}
 use Rattle.hp_model.specs.machine.Promises.{file_in, over}
-use Rattle.hp_model.specs.files.Spot.{Spot, cell_written, file_written, map_written, written}
+use Rattle.hp_model.specs.files.Spot.{Spot, cell_written, file_written, written}
 use Rattle.hp_model.specs.files.Value.{shown}
-use Rattle.hp_laws.proofs.lists.Looks.{edit_here, edit_other, same_edit, same_put}
+use Rattle.hp_laws.proofs.lists.Looks.{edit_here, edit_other, same_edit}
 use Rattle.hp_laws.proofs.counts.MountMoves.{IsSpot}
 use Rattle.hp_laws.proofs.accesses.Shown.{look, Result}
 
 -- ---- a store
 
 present_over : (size offset : ℕ) (bytes : List ℕ) (c : Cell Page) → has_page c ≡ true → shown size (cell_written offset bytes c) ≡ over offset bytes (shown size c)
-present_over size offset bytes Hole e = cc
-present_over size offset bytes Entered e = cc
-present_over size offset bytes (Present page) e = refl
+present_over size offset bytes c e = grind arith
 
 module _ (size : ℕ) (m : Mount) (s : Spot) (at : IsSpot m s) (i : ℕ) (n : Mount) where
   -- the files show what they showed, and there is a page to be written
@@ -28,15 +26,7 @@ module _ (size : ℕ) (m : Mount) (s : Spot) (at : IsSpot m s) (i : ℕ) (n : Mo
     pub present : is_shared s.map.sharing ≡ true → has_page (cell_at (file_in n s.file_no) i) ≡ true
 
   pub ready : Result size m s at i n → Ready
-  ready done =
-      ⊎_elim (λ same. record { cells = same.0.cells; present = same.0.present })
-      (λ taken. record {
-        cells = λ j x.
-            let none = new_file None in
-            ap (λ y. look size x (file_in y j)) taken.left
-            ∙ same_put (look size x) none m.files s.file_no _ at.file.within (sym (ap (look size x) (at.file.is none))) j;
-        present = λ e. (let apart = taken.apart in cc);
-      }) done
+  ready done = grind (arith, common_steps)
 
   module _ (is : Ready) (offset : ℕ) (bytes : List ℕ) (j x : ℕ) where
     abbrev after : Mount
@@ -50,17 +40,10 @@ module _ (size : ℕ) (m : Mount) (s : Spot) (at : IsSpot m s) (i : ℕ) (n : Mo
     unseen h = same_edit (look size x) (new_file None) edit h n.files s.file_no j ∙ is.cells j x
 
     other_index : (i == x) ≡ false → look size x (file_in after j) ≡ look size x (file_in m j)
-    other_index e =
-        unseen
-        (λ f. cond_both (is_shared s.map.sharing) (record f { cells = edit_at (cell_written offset bytes) f.cells i })
-        (record f { maps = edit_at (map_written i offset bytes) f.maps s.map_no }) (λ g. look size x g ≡ look size x f)
-        (λ t. ap (shown size) (edit_other (cell_written offset bytes) Hole f.cells i x (λ same. eqb-false i x e (sym same))))
-        (λ t. refl))
+    other_index e = grind (arith, unseen, cond_both, look, edit_other, eqb-false)
 
     other_kind : is_shared s.map.sharing ≡ false → look size x (file_in after j) ≡ look size x (file_in m j)
-    other_kind e =
-        unseen (λ f. ap (λ b. look size x (if b then record f { cells = edit_at (cell_written offset bytes) f.cells i }
-        else record f { maps = edit_at (map_written i offset bytes) f.maps s.map_no })) e)
+    other_kind e = grind (arith, unseen, look)
 
     other_file : (s.file_no == j) ≡ false → look size x (file_in after j) ≡ look size x (file_in m j)
     other_file e = ap (look size x) (edit_other edit (new_file None) n.files s.file_no j (λ same. eqb-false s.file_no j e (sym same))) ∙ is.cells j x
@@ -70,13 +53,7 @@ module _ (size : ℕ) (m : Mount) (s : Spot) (at : IsSpot m s) (i : ℕ) (n : Mo
     edits_none = cond_both (is_shared s.map.sharing) (new_file None) (new_file None) (λ f. f ≡ new_file None) (λ e. refl) (λ e. refl)
 
     here : is_shared s.map.sharing ≡ true → look size i (file_in (written n s i offset bytes) s.file_no) ≡ over offset bytes (look size i (file_in m s.file_no))
-    here e =
-        let f : File = file_in n s.file_no in
-        ap (look size i) (edit_here (file_written s i offset bytes) (new_file None) edits_none n.files s.file_no)
-        ∙ ap (λ b. look size i (if b then record f { cells = edit_at (cell_written offset bytes) f.cells i } else record f { maps = edit_at (map_written i offset bytes) f.maps s.map_no })) e
-        ∙ ap (shown size) (edit_here (cell_written offset bytes) Hole refl f.cells i)
-        ∙ present_over size offset bytes (cell_at f i) (is.present e)
-        ∙ ap (over offset bytes) (is.cells s.file_no i)
+    here e = grind (arith, look, edit_here, edits_none, present_over)
 
     abbrev Goal : (a b d : Bool) → (j x : ℕ) → Type 0
     Goal a b d j x = look size x (file_in (written n s i offset bytes) j) ≡ (if a && (b && d) then over offset bytes (look size x (file_in m j)) else look size x (file_in m j))
@@ -85,6 +62,4 @@ module _ (size : ℕ) (m : Mount) (s : Spot) (at : IsSpot m s) (i : ℕ) (n : Mo
     stored false b d j x ea eb ed = other_index is offset bytes j x ea
     stored true false d j x ea eb ed = other_kind is offset bytes j x eb
     stored true true false j x ea eb ed = other_file is offset bytes j x ed
-    stored true true true j x ea eb ed =
-        subst (λ y. look size y (file_in (written n s i offset bytes) j) ≡ over offset bytes (look size y (file_in m j))) (eqb-true i x ea)
-        (subst (λ y. look size i (file_in (written n s i offset bytes) y) ≡ over offset bytes (look size i (file_in m y))) (eqb-true s.file_no j ed) (here eb))
+    stored true true true j x ea eb ed = grind (arith, look, eqb-true, here)

@@ -1,15 +1,16 @@
 -- What maps show after a store, and after a fault that writes.
+use Rattle.std.proofs.lemmas.Grind.{common_steps}
 use Rattle.std.proofs.Common.{◌≡◌, ⊎_elim, inl, inr, ◌⊎◌, map, ℕ, ◌-◌, Bool, true, false, ◌&&◌, ◌==◌, not}
 use Rattle.std.proofs.Common.{Option, None, Some, is_some, List, set, refl, sym, ap, ◌∙◌, subst, arith, if◌then◌else◌, nat_lt}
-use Rattle.std.specs.List.{slice_index_or, list_any}
+use Rattle.std.specs.List.{slice_index_or}
 use Rattle.std.proofs.lemmas.Bool.{cases_eq, cond_both, eq-eqb, ltb-false, eqb-true, eqb-false}
-use Rattle.std.proofs.lemmas.List.{get_or-set_same, get_or-set_other, length-map}
+use Rattle.std.proofs.lemmas.List.{get_or-set_same, get_or-set_other}
 use Rattle.hp_model.specs.declared.place.Place.{Place}
 use Rattle.hp_model.specs.declared.place.Place.TheVariants.{Gone, Live}
-use Rattle.hp_model.specs.files.CopyWrite.{holds, drop_stamp, robbed}
+use Rattle.hp_model.specs.files.CopyWrite.{holds, robbed}
 use Rattle.hp_model.specs.files.File.{File, Mount, new_file, with_map}
 use Rattle.hp_model.specs.Lists.{edit_at}
-use Rattle.hp_model.specs.files.Mapping.{Map, copy_of, is_shared, place_at, without_copy}
+use Rattle.hp_model.specs.files.Mapping.{Map, copy_of, is_shared, place_at}
 use Rattle.hp_model.specs.files.Page.{Copy}
 use Rattle.hp_model.specs.machine.Promises.{file_in, map_in, no_map, over, is_same_copy, IsLost}
 use Rattle.hp_model.specs.files.Spot.{Spot, cell_written, file_written, map_written, place_written, written}
@@ -27,34 +28,12 @@ module _ (m : Map) (i : ℕ) (c : Bool) (o : Option Copy) (is : place_at m i ≡
   from = not_below (nat_lt i m.start) (slice_index_or m.places (i - m.start) Gone) c o is
 
   pub written_at : place_at (map_written i offset bytes m) i ≡ place_written offset bytes (place_at m i)
-  written_at =
-      ap (λ b. if b then Gone else slice_index_or (edit_at (place_written offset bytes) m.places (i - m.start)) (i - m.start) Gone) from
-      ∙ edit_here (place_written offset bytes) Gone refl m.places (i - m.start)
-      ∙ sym (ap (λ b. place_written offset bytes (if b then Gone else slice_index_or m.places (i - m.start) Gone)) from)
+  written_at = grind (arith, from, edit_here)
 
   pub written_off : (x : ℕ) → (x ≡ i → ⊥) → place_at (map_written i offset bytes m) x ≡ place_at m x
-  written_off x other =
-      let low = ltb-false i m.start from in
-      elim (nat_lt x m.start) as (λ b. nat_lt x m.start ≡ b → (if b then Gone else slice_index_or
-      (edit_at (place_written offset bytes) m.places (i - m.start)) (x - m.start) Gone)
-      ≡ (if b then Gone else slice_index_or m.places (x - m.start) Gone)) [
-        | true ↦ λ e. refl
-        | false ↦ λ e. edit_other (place_written offset bytes) Gone m.places (i - m.start) (x - m.start) (λ same. other (omega (arith, same, low, ltb-false x m.start e)))
-      ] refl
+  written_off x other = grind (arith, ltb-false, from, edit_other)
 
 -- ---- a map that may lose its copies of a stamp
-
-no_copy : (p : Place Copy) → copy_of (without_copy p) ≡ None
-no_copy Gone = refl
-no_copy (Live consumed copy) = refl
-
-pub dropped_at : (stamp : ℕ) (m : Map) (x : ℕ) → place_at (record m { unmapped = true; places = map (drop_stamp stamp) m.places }) x ≡ drop_stamp stamp (place_at m x)
-dropped_at stamp m x =
-    elim (nat_lt x m.start) as (λ b. (if b then Gone else slice_index_or (map (drop_stamp stamp) m.places) (x - m.start) Gone)
-    ≡ drop_stamp stamp (if b then Gone else slice_index_or m.places (x - m.start) Gone)) [
-      | true ↦ refl
-      | false ↦ get_map (drop_stamp stamp) Gone refl m.places (x - m.start)
-    ]
 
 -- it shows what it showed, or had the copy and has none now
 abbrev Robs : (size stamp : ℕ) (old new : Map) (x : ℕ) (v : List ℕ) → Type 0
@@ -62,33 +41,14 @@ Robs size stamp old new x v = (by_place size (place_at new x) v ≡ by_place siz
     ⊎ ((holds stamp (place_at old x) ≡ true) × (copy_of (place_at new x) ≡ None) × (new.unmapped ≡ true))
 
 robs : (size stamp : ℕ) (m : Map) (x : ℕ) (v : List ℕ) → Robs size stamp m (robbed stamp m) x v
-robs size stamp m x v =
-    let less : Map = record m { unmapped = true; places = map (drop_stamp stamp) m.places } in
-    let p : Place Copy = place_at m x in
-    cond_both (list_any (holds stamp) m.places) less m (λ r. Robs size stamp m r x v)
-    (λ some. by_drop p (dropped_at stamp m x))
-    (λ none. inl refl)
-  where
-    by_drop : (p : Place Copy) → place_at (record m { unmapped = true; places = map (drop_stamp stamp) m.places }) x
-        ≡ drop_stamp stamp (place_at m x) → Robs size stamp m (record m { unmapped = true; places = map (drop_stamp stamp) m.places }) x v
-    by_drop p at =
-        elim (holds stamp (place_at m x)) as (λ b. holds stamp (place_at m x) ≡ b → Robs size stamp m (record m { unmapped = true; places = map (drop_stamp stamp) m.places }) x v) [
-          | true ↦ λ e. inr (e, ap copy_of at ∙ ap (λ b. copy_of (if b then without_copy (place_at m x) else place_at m x)) e ∙ no_copy (place_at m x), refl)
-          | false ↦ λ e. inl (ap (λ q. by_place size q v) at ∙ ap (λ b. by_place size (if b then without_copy (place_at m x) else place_at m x) v) e)
-        ] refl
+robs size stamp m x v = grind (arith, common_steps)
 
 pub held_copy : (stamp : ℕ) (p : Place Copy) → holds stamp p ≡ true → (a : Copy) × (copy_of p ≡ Some a) × (a.stamp ≡ stamp)
-held_copy stamp Gone e = cc
-held_copy stamp (Live c None) e = cc
-held_copy stamp (Live c (Some a)) e = (a, refl, eqb-true a.stamp stamp e)
+held_copy stamp p e = grind arith
 
 -- a copy whose bytes are written stays the same copy
 pub same_written : (offset : ℕ) (bytes : List ℕ) (p q : Place Copy) → is_same_copy p (place_written offset bytes q) ≡ is_same_copy p q
-same_written offset bytes Gone q = refl
-same_written offset bytes (Live c None) q = refl
-same_written offset bytes (Live c (Some a)) Gone = refl
-same_written offset bytes (Live c (Some a)) (Live d None) = refl
-same_written offset bytes (Live c (Some a)) (Live d (Some b)) = refl
+same_written offset bytes p q = grind arith
 
 -- ---- a store
 
@@ -117,12 +77,7 @@ module _ (size : ℕ) (m : Mount) (sound : IsSoundMount m) (s : Spot) (at : IsSp
   pick : (a d : Bool) (o : Option Copy) (v : List ℕ)
       → (elim o [ None ↦ (if a && (true && d) then over offset bytes v else v) | Some copy ↦ copy.page.bytes ])
       ≡ (if a && (d && not (is_some o)) then over offset bytes (elim o [ None ↦ v | Some copy ↦ copy.page.bytes ]) else (elim o [ None ↦ v | Some copy ↦ copy.page.bytes ]))
-  pick true true None v = refl
-  pick true false None v = refl
-  pick false d None v = refl
-  pick true true (Some copy) v = refl
-  pick true false (Some copy) v = refl
-  pick false d (Some copy) v = refl
+  pick a d o v = grind arith
 
   shared_seen : (n : Mount) → is_shared s.map.sharing ≡ true → Copied size m s at i n → (j l x : ℕ) → Seen (written n s i offset bytes) j l x
   shared_seen n e done j l x =
@@ -149,9 +104,7 @@ module _ (size : ℕ) (m : Mount) (sound : IsSoundMount m) (s : Spot) (at : IsSp
     pub beside : (l x : ℕ) → (l ≡ s.map_no → ⊥) → (seen size l x (file_in n s.file_no) ≡ here s.file_no l x) ⊎ Lost n s.file_no l x
 
   copied_mine : (n : Mount) → is_shared s.map.sharing ≡ false → Copied size m s at i n → Mine n
-  copied_mine n apart done =
-      let same = done.0 in
-      record { own = done.1 apart; self = λ x. same.maps s.file_no s.map_no x; there = λ j l x other. same.maps j l x; beside = λ l x other. inl (same.maps s.file_no l x) }
+  copied_mine n apart done = grind arith
 
   module _ (stamp : ℕ) where
     abbrev pub left : File
@@ -167,9 +120,7 @@ module _ (size : ℕ) (m : Mount) (sound : IsSoundMount m) (s : Spot) (at : IsSp
     file_was = at.file.is (new_file None)
 
     pub map_left : map_in left s.map_no ≡ s.map
-    map_left =
-        (let long = length-map s.file.maps (robbed stamp) in
-        let within = at.map.within in get_or-set_same (map (robbed stamp) s.file.maps) s.map_no s.map no_map (omega (arith, long, within)))
+    map_left = grind (arith, common_steps)
 
     pub map_beside : (l : ℕ) → (l ≡ s.map_no → ⊥) → map_in left l ≡ robbed stamp (map_in s.file l)
     map_beside l other = get_or-set_other (map (robbed stamp) s.file.maps) s.map_no l s.map no_map other ∙ get_map (robbed stamp) no_map refl s.file.maps l
@@ -229,9 +180,7 @@ module _ (size : ℕ) (m : Mount) (sound : IsSoundMount m) (s : Spot) (at : IsSp
     edits_none = ap (λ b. if b then new_file None else new_file None) apart
 
     pub file_here : file_in after s.file_no ≡ g
-    file_here =
-        edit_here (file_written s i offset bytes) (new_file None) edits_none n.files s.file_no
-        ∙ ap (λ b. if b then record f { cells = edit_at (cell_written offset bytes) f.cells i } else g) apart
+    file_here = grind (arith, edit_here, edits_none)
 
     pub map_other : (l : ℕ) → (l ≡ s.map_no → ⊥) → map_in g l ≡ map_in f l
     map_other l other = edit_other (map_written i offset bytes) no_map f.maps s.map_no l other
@@ -241,45 +190,17 @@ module _ (size : ℕ) (m : Mount) (sound : IsSoundMount m) (s : Spot) (at : IsSp
 
     -- what stands at the owner's place afterwards
     pub own_after : place_at (map_in (file_in after s.file_no) s.map_no) i ≡ place_written offset bytes (place_at (map_in f s.map_no) i)
-    own_after =
-        let own = is.own in ap (λ y. place_at (map_in y s.map_no) i) file_here ∙ ap (λ y. place_at y i) map_here ∙ written_at (map_in f s.map_no) i own.consumed (Some own.copy) own.is offset bytes
+    own_after = grind (arith, file_here, map_here, written_at)
 
     -- the test of what is reached, by its three parts
     abbrev Tested : (a d b : Bool) → (j l x : ℕ) → Type 0
     Tested a d b j l x = (seen size l x (file_in after j) ≡ (if a && (d && b) then over offset bytes (here j l x) else here j l x)) ⊎ Lost after j l x
 
     in_other_file : (a b : Bool) (j l x : ℕ) → (j ≡ s.file_no → ⊥) → Tested a false b j l x
-    in_other_file a b j l x other =
-        let same = ap (seen size l x) (edit_other (file_written s i offset bytes) (new_file None) n.files s.file_no j other) ∙ is.there j l x other in
-        inl (same ∙ untested a)
-      where
-        untested : (a : Bool) → here j l x ≡ (if a && (false && b) then over offset bytes (here j l x) else here j l x)
-        untested true = refl
-        untested false = refl
+    in_other_file a b j l x other = grind (arith, seen, edit_other)
 
     in_other_map : (a : Bool) (l x : ℕ) → (l ≡ s.map_no → ⊥) → Tested a true false s.file_no l x
-    in_other_map a l x other =
-        ⊎_elim
-        (λ same. inl (ap (seen size l x) file_here ∙ ap (λ y. by_place size (place_at y x) (look size x f)) (map_other l other) ∙ same ∙ untested a))
-        (λ lost. (let new : map_in (file_in after s.file_no) l ≡ map_in f l = ap (λ y. map_in y l) file_here ∙ map_other l other in
-        inr (
-          lost.0,
-          record {
-            index = lost.1.index;
-            private = lost.1.private;
-            owner = lost.1.owner;
-            held = lost.1.held;
-            kept = ap (is_same_copy (place_at s.map i)) own_after ∙ same_written offset bytes (place_at s.map i) (place_at (map_in f s.map_no) i) ∙ lost.1.kept;
-            lost = ap (λ y. copy_of (place_at y x)) new ∙ lost.1.lost;
-            marked = ap (λ y. y.unmapped) new ∙ lost.1.marked;
-          },
-          lost.2,
-        )))
-        (is.beside l x other)
-      where
-        untested : (a : Bool) → here s.file_no l x ≡ (if a && (true && false) then over offset bytes (here s.file_no l x) else here s.file_no l x)
-        untested true = refl
-        untested false = refl
+    in_other_map a l x other = grind (arith, seen, file_here, by_place, look, map_other, own_after, same_written, marked)
 
     seen_after : (x : ℕ) → seen size s.map_no x (file_in after s.file_no) ≡ by_place size (place_at (map_written i offset bytes (map_in f s.map_no)) x) (look size x f)
     seen_after x = ap (seen size s.map_no x) file_here ∙ ap (λ y. by_place size (place_at y x) (look size x f)) map_here
@@ -296,26 +217,15 @@ module _ (size : ℕ) (m : Mount) (sound : IsSoundMount m) (s : Spot) (at : IsSp
         inl (seen_after i ∙ ap (λ q. by_place size q (look size i f)) (written_at (map_in f s.map_no) i own.consumed (Some own.copy) own.is offset bytes ∙ ap (place_written offset bytes) own.is)
         ∙ ap (over offset bytes) was)
 
-    same_number : (a b : ℕ) → (a == b) ≡ true → b ≡ a
-    same_number a b e = sym (eqb-true a b e)
-
     tested : (a d b : Bool) (j l x : ℕ) → (i == x) ≡ a → (s.file_no == j) ≡ d → (s.map_no == l) ≡ b → Tested a d b j l x
     tested a false b j l x ea ed eb = in_other_file a b j l x (λ same. eqb-false s.file_no j ed (sym same))
     tested a true false j l x ea ed eb =
         subst (λ y. Tested a true false y l x) (eqb-true s.file_no j ed) (in_other_map a l x (λ same. eqb-false s.map_no l eb (sym same)))
-    tested false true true j l x ea ed eb =
-        subst (λ y. Tested false true true y l x) (eqb-true s.file_no j ed)
-        (subst (λ y. Tested false true true s.file_no y x) (eqb-true s.map_no l eb) (at_other x (λ same. eqb-false i x ea (sym same))))
-    tested true true true j l x ea ed eb =
-        subst (λ y. Tested true true true y l x) (eqb-true s.file_no j ed)
-        (subst (λ y. Tested true true true s.file_no y x) (eqb-true s.map_no l eb) (subst (λ y. Tested true true true s.file_no s.map_no y) (eqb-true i x ea) at_here))
+    tested false true true j l x ea ed eb = grind (arith, eqb-true, at_other, eqb-false)
+    tested true true true j l x ea ed eb = grind (arith, eqb-true, at_here)
 
     private_seen : (j l x : ℕ) → Seen after j l x
-    private_seen j l x =
-        let shown = copy_of (place_at (map_in (file_in m j) l) x) in
-        subst (λ b. (seen size l x (file_in after j) ≡ (if (i == x) && ((s.file_no == j) && (if b then not (is_some shown) else (s.map_no == l)))
-        then over offset bytes (here j l x) else here j l x)) ⊎ Lost after j l x) (sym apart)
-        (tested (i == x) (s.file_no == j) (s.map_no == l) j l x refl refl refl)
+    private_seen j l x = grind (arith, seen, tested)
 
   pub store_seen : (n : Mount) → Result size m s at i n → (j l x : ℕ) → Seen (written n s i offset bytes) j l x
   store_seen n done j l x =
@@ -332,25 +242,8 @@ module _ (size : ℕ) (m : Mount) (sound : IsSoundMount m) (s : Spot) (at : IsSp
       (record f { maps = edit_at (map_written i offset bytes) f.maps s.map_no }) (λ g. marked l g ≡ marked l f)
       (λ e. refl) (λ e. same_edit (λ (y : Map). y.unmapped) no_map (map_written i offset bytes) (λ y. refl) f.maps s.map_no l)
 
-  robbed_marks : (stamp : ℕ) (y : Map) → y.unmapped ≡ true → (robbed stamp y).unmapped ≡ true
-  robbed_marks stamp y e =
-      cond_both (list_any (holds stamp) y.places) (record y { unmapped = true; places = map (drop_stamp stamp) y.places }) y (λ r. r.unmapped ≡ true) (λ some. refl) (λ none. e)
-
-  left_marks : (stamp l : ℕ) → marked l s.file ≡ true → marked l (left stamp) ≡ true
-  left_marks stamp l e =
-      elim (cases_eq l s.map_no) as (λ _. marked l (left stamp) ≡ true) [
-        | inl same ↦ subst (λ y. marked y (left stamp) ≡ true) (sym same) (ap (λ y. y.unmapped) (map_left stamp ∙ sym (at.map.is no_map)) ∙ subst (λ y. marked y s.file ≡ true) same e)
-        | inr other ↦ ap (λ y. y.unmapped) (map_beside stamp l other) ∙ robbed_marks stamp (map_in s.file l) e
-      ]
-
   back_marks : (stamp j l : ℕ) → marked l (file_in m j) ≡ true → marked l (file_in (back stamp) j) ≡ true
-  back_marks stamp j l e =
-      elim (cases_eq j s.file_no) as (λ _. marked l (file_in (back stamp) j) ≡ true) [
-        | inl same ↦
-            subst (λ y. marked l (file_in (back stamp) y) ≡ true) (sym same)
-            (ap (marked l) (file_left stamp) ∙ left_marks stamp l (ap (marked l) (sym (file_was stamp)) ∙ subst (λ y. marked l (file_in m y) ≡ true) same e))
-        | inr other ↦ ap (marked l) (get_or-set_other m.files s.file_no j (left stamp) (new_file None) other) ∙ e
-      ]
+  back_marks stamp j l e = grind (arith, common_steps)
 
   pub store_marks : (n : Mount) → Result size m s at i n → (j l : ℕ) → marked l (file_in m j) ≡ true → marked l (file_in (written n s i offset bytes) j) ≡ true
   store_marks n done j l e =
@@ -360,19 +253,10 @@ module _ (size : ℕ) (m : Mount) (sound : IsSoundMount m) (s : Spot) (at : IsSp
   -- ---- a write that is only a fault
 
   in_mine : (n : Mount) → Mine n → (j l x : ℕ) → (seen size l x (file_in n j) ≡ here j l x) ⊎ Lost n j l x
-  in_mine n own j l x =
-      elim (cases_eq j s.file_no) as (λ _. (seen size l x (file_in n j) ≡ here j l x) ⊎ Lost n j l x) [
-        | inl same ↦ subst (λ k. (seen size l x (file_in n k) ≡ here k l x) ⊎ Lost n k l x) (sym same)
-            (elim (cases_eq l s.map_no) as (λ _. (seen size l x (file_in n s.file_no) ≡ here s.file_no l x) ⊎ Lost n s.file_no l x) [
-              | inl own_map ↦ subst (λ k. (seen size k x (file_in n s.file_no) ≡ here s.file_no k x) ⊎ Lost n s.file_no k x) (sym own_map) (inl (own.self x))
-              | inr other ↦ own.beside l x other
-            ])
-        | inr other ↦ inl (own.there j l x other)
-      ]
+  in_mine n own j l x = grind (arith, cases_eq, seen)
 
   pub touched_seen : (n : Mount) → Result size m s at i n → (j l x : ℕ) → (seen size l x (file_in n j) ≡ here j l x) ⊎ Lost n j l x
   touched_seen n done j l x = ⊎_elim (λ copied. inl (copied.0.maps j l x)) (λ taken. in_mine n (mine n taken.apart done) j l x) done
 
   pub touched_marks : (n : Mount) → Result size m s at i n → (j l : ℕ) → marked l (file_in m j) ≡ true → marked l (file_in n j) ≡ true
-  touched_marks n done j l e =
-      ⊎_elim (λ copied. copied.0.marks j l ∙ e) (λ taken. ap (λ y. marked l (file_in y j)) taken.left ∙ back_marks taken.copy.stamp j l e) done
+  touched_marks n done j l e = grind (arith, marked, back_marks)

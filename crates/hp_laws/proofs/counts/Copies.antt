@@ -1,24 +1,22 @@
 -- Where copies stand: by their places, and by the tests that find them.
-use Rattle.std.proofs.Common.{◌≡◌, ℕ, ◌+◌, ◌-◌, ◌<◌, Bool, true, false, ◌==◌, None, Some, List, length, get_or, arith, refl, sym, ap, ◌∙◌, subst, nat_lt, if◌then◌else◌}
+use Rattle.std.proofs.lemmas.Grind.{common_steps}
+use Rattle.std.proofs.Common.{◌≡◌, ℕ, ◌+◌, ◌-◌, ◌<◌, Bool, true, ◌==◌, None, Some, List, length, get_or, arith, refl, sym, ap, ◌∙◌, subst, nat_lt, if◌then◌else◌}
 use Rattle.std.specs.List.{slice_index_or}
-use Rattle.std.proofs.lemmas.Bool.{and_parts, cond_both, eqb-true, le-ltb, ltb-false, ltb-true}
-use Rattle.std.proofs.lemmas.List.{get_or_default, get_or_past}
+use Rattle.std.proofs.lemmas.Bool.{and_parts, cond_both, eqb-true, le-ltb}
+use Rattle.std.proofs.lemmas.List.{get_or_default}
 use Rattle.std.proofs.lemmas.List.Folds.{Any-from_list_any, list_any_at}
-use Rattle.hp_model.specs.files.File.{File, Mount, file_in, map_in, new_file}
+use Rattle.hp_model.specs.files.File.{File, Mount, file_in, map_in}
 use Rattle.hp_model.specs.files.Mapping.{Map, copy_of, no_map, place_at}
 use Rattle.hp_model.specs.files.Page.{Copy}
 use Rattle.hp_model.specs.machine.Sound.{HasCopy, IsSoundFile, file_has, map_has, place_has}
 use Rattle.hp_model.specs.declared.place.Place.{Place}
 use Rattle.hp_model.specs.declared.place.Place.TheVariants.{Gone, Live}
-use Rattle.hp_laws.proofs.counts.FileMoves.{live_at}
 use Rattle.hp_laws.proofs.counts.CopiesHeld.{IsAgreed, is_stamp_at}
 
 -- ---- by places
 
 pub live_of : (p : Place Copy) (a : Copy) → copy_of p ≡ Some a → (c : Bool) × (p ≡ Live c (Some a))
-live_of Gone a e = cc
-live_of (Live c None) a e = cc
-live_of (Live c (Some b)) a e = (c, ap (λ o. Live c o) e)
+live_of p a e = grind arith
 
 pub none_copied : (i : ℕ) → copy_of (place_at no_map i) ≡ None
 none_copied i = cond_both (nat_lt i 0) Gone (slice_index_or no_map.places (i - 0) Gone) (λ p. copy_of p ≡ None) (λ e. refl) (λ e. refl)
@@ -28,36 +26,26 @@ no_copy i a has = (let none = sym (none_copied i) ∙ has in cc)
 
 -- below a length, or the element is the default
 within : {X : Type 0} (xs : List X) (k : ℕ) (d : X) → (get_or xs k d ≡ d → ⊥) → k < length xs
-within xs k d h =
-    elim (nat_lt k (length xs)) as (λ b. nat_lt k (length xs) ≡ b → k < length xs) [
-      | true ↦ λ e. ltb-true k (length xs) e
-      | false ↦ λ e. absurd (h (get_or_past xs k d (ltb-false k (length xs) e)))
-    ] refl
+within xs k d h = grind (arith, common_steps)
 
 -- a map that has a copy is there, and so is its file
 pub map_there : (f : File) (k i : ℕ) (a : Copy) → HasCopy (map_in f k) i a → k < length f.maps
 map_there f k i a has = within f.maps k no_map (λ none. no_copy i a (subst (λ m. HasCopy m i a) none has))
 
 pub file_there : (m : Mount) (j k i : ℕ) (a : Copy) → HasCopy (map_in (file_in m j) k) i a → j < length m.files
-file_there m j k i a has =
-    within m.files j (new_file None) (λ none. (let there = map_there (new_file None) k i a (subst (λ f. HasCopy (map_in f k) i a) none has) in absurd (omega (arith, there))))
+file_there m j k i a has = grind (arith, common_steps)
 
 -- ---- by tests
 
 module _ (t : ℕ → ℕ → Bool) where
   pub has_stamp : (m : Map) (i : ℕ) (a : Copy) → HasCopy m i a → t a.stamp a.page.node ≡ true → map_has t m ≡ true
-  has_stamp m i a has e =
-      let live = live_of (place_at m i) a has in
-      let at = live_at m i live.0 (Some a) live.1 in
-      list_any_at (place_has t) m.places (i - m.start) Gone at.within (ap (place_has t) at.is ∙ e)
+  has_stamp m i a has e = grind (arith, common_steps)
 
   pub file_has_stamp : (f : File) (k i : ℕ) (a : Copy) → HasCopy (map_in f k) i a → t a.stamp a.page.node ≡ true → file_has t f ≡ true
   file_has_stamp f k i a has e = list_any_at (map_has t) f.maps k no_map (map_there f k i a has) (has_stamp (map_in f k) i a has e)
 
   place_copy : (p : Place Copy) → place_has t p ≡ true → (a : Copy) × (copy_of p ≡ Some a) × (t a.stamp a.page.node ≡ true)
-  place_copy Gone e = cc
-  place_copy (Live c None) e = cc
-  place_copy (Live c (Some a)) e = (a, refl, e)
+  place_copy p e = grind arith
 
   -- the place of one that passes
   pub map_copy : (m : Map) → map_has t m ≡ true → (i : ℕ) × (a : Copy) × HasCopy m i a × (t a.stamp a.page.node ≡ true)

@@ -2,7 +2,7 @@
 use Rattle.std.proofs.Common.{◌≡◌, ℕ, ◌+◌, ◌≤◌, Bool, true, false, ◌&&◌, ◌||◌, ◌==◌, None, Some, List, [], ◌∷◌, ◌++◌, length, map, refl, sym, ap, ◌∙◌, cond, arith, if◌then◌else◌}
 use Rattle.std.specs.List.{list_any, filter_map, flat_map, cons_option}
 use Rattle.std.proofs.lemmas.List.{map-append}
-use Rattle.std.proofs.lemmas.Bool.{or_left, or_right, and_parts, both_ways, false_from_ne_true}
+use Rattle.std.proofs.lemmas.Bool.{and_parts, both_ways, false_from_ne_true}
 use Rattle.std.proofs.lemmas.List.Elements.{filter_map-append}
 use Rattle.hp_model.specs.files.File.{File}
 use Rattle.hp_model.specs.Lists.{distinct, is_among}
@@ -26,8 +26,7 @@ IsAgreed f = (q m n : ℕ) → file_has (is_stamp_at m q) f ≡ true → file_ha
 -- ---- how many different numbers a list has
 
 at_least_if : (b : Bool) (n : ℕ) → n ≤ cond b n (n + 1)
-at_least_if true n = omega arith
-at_least_if false n = omega arith
+at_least_if b n = grind arith
 
 grows_left : (ys xs : List ℕ) → length (distinct xs) ≤ length (distinct (ys ++ xs))
 grows_left [] xs = omega arith
@@ -37,9 +36,7 @@ grows_left (y ∷ ys) xs =
     omega (arith, more, is, grows_left ys xs)
 
 absorbed : (a b : Bool) → (b ≡ true → a ≡ true) → (a || b) ≡ a
-absorbed true b h = refl
-absorbed false true h = sym (h refl)
-absorbed false false h = refl
+absorbed a b h = grind arith
 
 pub fewer_members : (xs ys : List ℕ) → ((q : ℕ) → is_among q xs ≡ true → is_among q ys ≡ true) → length (distinct xs) ≤ length (distinct ys)
 fewer_members xs ys within =
@@ -71,8 +68,7 @@ pub stamps_are : (f : File) (q : ℕ) → is_among q (stamps_of f) ≡ file_has 
 stamps_are f q = maps_stamp q f.maps
 
 one_at : (b : Bool) (q s : ℕ) (rest : List ℕ) → is_among q (cons_option (if b then Some s else None) rest) ≡ ((b && (s == q)) || is_among q rest)
-one_at true q s rest = refl
-one_at false q s rest = refl
+one_at b q s rest = grind arith
 
 places_at : (n q : ℕ) (ps : List (Place Copy)) → is_among q (filter_map (stamp_at n) (filter_map copy_of ps)) ≡ list_any (place_has (is_stamp_at n q)) ps
 places_at n q [] = refl
@@ -116,30 +112,24 @@ stamps_at_stay n f g h = same_members (stamps_at n g) (stamps_at n f) (λ q. sta
 -- one copy more, with a stamp that no map holds
 pub stamps_grow : (stamp node : ℕ) (f g : File) → ((t : ℕ → ℕ → Bool) → file_has t g ≡ (t stamp node || file_has t f)) → is_among stamp (stamps_of f) ≡ false
     → length (distinct (stamps_of g)) ≡ length (distinct (stamps_of f)) + 1
-stamps_grow stamp node f g h new =
-    one_more_member stamp (stamps_of f) (stamps_of g) (λ q. stamps_are g q ∙ h (is_stamp q) ∙ ap (λ b. (stamp == q) || b) (sym (stamps_are f q))) new
+stamps_grow stamp node f g h new = grind (arith, one_more_member, stamps_are)
 
 or_weaker : (a b c d : Bool) → (a ≡ true → c ≡ true) → (b ≡ true → d ≡ true) → (a || b) ≡ true → (c || d) ≡ true
-or_weaker true b c d f g e = or_left c d (f refl)
-or_weaker false b c d f g e = or_right c d (g e)
+or_weaker a b c d f g e = grind arith
 
 pub any_weaker : {X : Type 0} (p q : X → Bool) → ((x : X) → p x ≡ true → q x ≡ true) → (xs : List X) → list_any p xs ≡ true → list_any q xs ≡ true
 any_weaker p q h [] e = e
 any_weaker p q h (x ∷ xs) e = or_weaker (p x) (list_any p xs) (q x) (list_any q xs) (h x) (any_weaker p q h xs) e
 
 place_weaker : (t u : ℕ → ℕ → Bool) → ((s n : ℕ) → t s n ≡ true → u s n ≡ true) → (p : Place Copy) → place_has t p ≡ true → place_has u p ≡ true
-place_weaker t u h Gone e = e
-place_weaker t u h (Live c None) e = e
-place_weaker t u h (Live c (Some copy)) e = h copy.stamp copy.page.node e
+place_weaker t u h n e = grind arith
 
 -- a weaker test finds a copy too
 pub weaker : (t u : ℕ → ℕ → Bool) (f : File) → ((s n : ℕ) → t s n ≡ true → u s n ≡ true) → file_has t f ≡ true → file_has u f ≡ true
 weaker t u f h = any_weaker (map_has t) (map_has u) (λ m. any_weaker (place_has t) (place_has u) (place_weaker t u h) m.places) f.maps
 
 new_at : (n stamp : ℕ) (f : File) → is_among stamp (stamps_of f) ≡ false → is_among stamp (stamps_at n f) ≡ false
-new_at n stamp f new =
-    false_from_ne_true (is_among stamp (stamps_at n f)) (λ e. both_ways (is_among stamp (stamps_of f)) new
-    (stamps_are f stamp ∙ weaker (is_stamp_at n stamp) (is_stamp stamp) f (λ s k both. (and_parts (k == n) (s == stamp) both).1) (sym (stamps_at_are n f stamp) ∙ e)))
+new_at n stamp f new = grind (arith, false_from_ne_true, both_ways, stamps_are, weaker, and_parts, stamps_at_are)
 
 at_grow : (b : Bool) (n stamp node : ℕ) (f g : File) → (node == n) ≡ b → ((t : ℕ → ℕ → Bool) → file_has t g ≡ (t stamp node || file_has t f)) → is_among stamp (stamps_of f) ≡ false
     → length (distinct (stamps_at n g)) ≡ length (distinct (stamps_at n f)) + cond b 1 0
@@ -147,10 +137,7 @@ at_grow true n stamp node f g e h new =
     one_more_member stamp (stamps_at n f) (stamps_at n g)
     (λ q. stamps_at_are n g q ∙ h (is_stamp_at n q) ∙ ap (λ b. (b && (stamp == q)) || file_has (is_stamp_at n q) f) e ∙ ap (λ b. (stamp == q) || b) (sym (stamps_at_are n f q)))
     (new_at n stamp f new)
-at_grow false n stamp node f g e h new =
-    let same = same_members (stamps_at n g) (stamps_at n f)
-    (λ q. stamps_at_are n g q ∙ h (is_stamp_at n q) ∙ ap (λ b. (b && (stamp == q)) || file_has (is_stamp_at n q) f) e ∙ sym (stamps_at_are n f q)) in
-    omega (arith, same)
+at_grow false n stamp node f g e h new = grind (arith, same_members, stamps_at_are)
 
 pub stamps_at_grow : (n stamp node : ℕ) (f g : File) → ((t : ℕ → ℕ → Bool) → file_has t g ≡ (t stamp node || file_has t f)) → is_among stamp (stamps_of f) ≡ false
     → length (distinct (stamps_at n g)) ≡ length (distinct (stamps_at n f)) + cond (node == n) 1 0

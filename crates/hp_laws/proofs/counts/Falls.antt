@@ -1,10 +1,11 @@
 -- What only gives back: no count of a file or a mount is higher after it.
-use Rattle.std.proofs.Common.{◌≡◌, ⊎_elim, ℕ, zero, suc, ◌+◌, ◌-◌, ◌≤◌, Bool, true, false, not, None, Some, List}
-use Rattle.std.proofs.Common.{[], ◌∷◌, ◌++◌, length, map, take, drop, replicate, refl, sym, ap, ◌∙◌, cond, arith, if◌then◌else◌}
+use Rattle.std.proofs.lemmas.Grind.{common_steps}
+use Rattle.std.proofs.Common.{◌≡◌, ⊎_elim, ℕ, zero, suc, ◌+◌, ◌-◌, ◌≤◌, Bool, true, false, not, List}
+use Rattle.std.proofs.Common.{[], ◌∷◌, ◌++◌, length, map, take, drop, refl, sym, ◌∙◌, cond, arith, if◌then◌else◌}
 use Rattle.std.specs.List.{list_any, sum_by, count_by, filter}
 use Rattle.std.proofs.lemmas.Bool.{or_left, or_right, or_cases}
 use Rattle.std.proofs.lemmas.List.Folds.{list_any-append}
-use Rattle.std.proofs.lemmas.List.Sums.{sum_by-append, sum_by-take-drop, sum_by-take-le, sum_by-cons}
+use Rattle.std.proofs.lemmas.List.Sums.{sum_by-append, sum_by-take-drop, sum_by-cons}
 use Rattle.hp_model.specs.files.File.{cell_punched, cells_to, File, has_page}
 use Rattle.hp_model.specs.files.Fork.{file_forked}
 use Rattle.hp_model.specs.files.GiveBack.{file_unmapped, file_without, is_left, map_unmapped, punched, truncated, unlinked}
@@ -14,9 +15,9 @@ use Rattle.hp_model.specs.files.MountCounts.{file_pages, file_reserves, file_pag
 use Rattle.hp_model.specs.files.Page.{Page, Copy}
 use Rattle.hp_model.specs.machine.Sound.{place_has, map_has}
 use Rattle.hp_model.specs.declared.cell.Cell.{Cell}
-use Rattle.hp_model.specs.declared.cell.Cell.TheVariants.{Hole, Entered, Present}
+use Rattle.hp_model.specs.declared.cell.Cell.TheVariants.{Hole, Entered}
 use Rattle.hp_model.specs.declared.place.Place.{Place}
-use Rattle.hp_model.specs.declared.place.Place.TheVariants.{Gone, Live}
+use Rattle.hp_model.specs.declared.place.Place.TheVariants.{Gone}
 use Rattle.hp_laws.proofs.counts.CopiesHeld.{stamps_fall, stamps_at_fall}
 use Rattle.hp_laws.proofs.lists.Places.{any_map_down, any_filter, sum_by-map_le, sum_by-filter_le}
 use Rattle.hp_model.proofs.Editing.{sum_by-edit_range}
@@ -75,54 +76,30 @@ any_edit_range p f h a b xs e =
     (λ r. any_drop p a xs (any_drop p (b - a) (drop a xs) r)) e
 
 sum_by-edit_range_le : {X : Type 0} (g : X → ℕ) (f : X → X) → ((x : X) → g (f x) ≤ g x) → (a b : ℕ) (xs : List X) → sum_by g (edit_range f a b xs) ≤ sum_by g xs
-sum_by-edit_range_le g f h a b xs =
-    let all = sum_by-edit_range g f a b xs in
-    let mid = sum_by-map_le g f h (take (b - a) (drop a xs)) in
-    let ends = sum_by-take-drop g xs a in
-    let ranges = sum_by-take-drop g (drop a xs) (b - a) in
-    omega (arith, all, mid, ends, ranges)
+sum_by-edit_range_le g f h a b xs = grind (arith, sum_by-edit_range, sum_by-map_le, sum_by-take-drop)
 
 -- ---- punched and cut
 
 hole_least : (test : Cell Page → Bool) → test Hole ≡ false → test Entered ≡ test Entered → (x : Cell Page) → bit (test (cell_punched x)) ≤ bit (test x)
-hole_least test none same Hole = omega arith
-hole_least test none same Entered = omega arith
-hole_least test none same (Present page) = let zero_here = ap bit none in omega (arith, zero_here)
+hole_least test none same x = grind arith
 
 cells_punched : (a b : ℕ) (xs : List (Cell Page)) → CellsFall xs (edit_range cell_punched a b xs)
-cells_punched a b xs = record {
-  pages = sum_by-edit_range_le (λ x. cond (has_page x) 1 0) cell_punched (hole_least has_page refl refl) a b xs;
-  waits = sum_by-edit_range_le (λ x. cond (is_waiting x) 1 0) cell_punched (hole_least is_waiting refl refl) a b xs;
-  each = λ n. sum_by-edit_range_le (λ x. cond (is_page_at n x) 1 0) cell_punched (hole_least (is_page_at n) refl refl) a b xs;
-}
-
-pub no_holes : (test : Cell Page → Bool) → test Hole ≡ false → (k : ℕ) → count_by test (replicate k Hole) ≡ 0
-no_holes test none zero = refl
-no_holes test none (suc k) =
-    let here = ap bit none in
-    omega (arith, sum_by-cons (λ x. cond (test x) 1 0) Hole (replicate k Hole), here, no_holes test none k)
+cells_punched a b xs = grind (arith, sum_by-edit_range_le, hole_least)
 
 cut_le : (test : Cell Page → Bool) → test Hole ≡ false → (n : ℕ) (xs : List (Cell Page)) → count_by test (cells_to n xs) ≤ count_by test xs
-cut_le test none n xs =
-    let parts = sum_by-append (λ x. cond (test x) 1 0) (take n xs) (replicate (n - length xs) Hole) in
-    let front = sum_by-take-le (λ x. cond (test x) 1 0) xs n in
-    omega (arith, parts, front, no_holes test none (n - length xs))
+cut_le test none n xs = grind (arith, common_steps)
 
 cells_cut : (n : ℕ) (xs : List (Cell Page)) → CellsFall xs (cells_to n xs)
 cells_cut n xs = record { pages = cut_le has_page refl n xs; waits = cut_le is_waiting refl n xs; each = λ k. cut_le (is_page_at k) refl n xs }
 
 copy_down : (t : ℕ → ℕ → Bool) (p : Place Copy) → place_has t (without_copy p) ≡ true → place_has t p ≡ true
-copy_down t Gone e = e
-copy_down t (Live c o) e = cc
+copy_down t p e = grind arith
 
 owed_if : (b : Bool) (x y : ℕ) → x ≤ y → cond b x 0 ≤ cond b y 0
-owed_if true x y l = l
-owed_if false x y l = omega arith
+owed_if b x y l = grind arith
 
 copy_owes : (p : Place Copy) → bit (is_unconsumed (without_copy p)) ≤ bit (is_unconsumed p)
-copy_owes Gone = omega arith
-copy_owes (Live true o) = omega arith
-copy_owes (Live false o) = omega arith
+copy_owes p = grind arith
 
 -- each map falls
 maps_fall : (h : Map → Map) → ((t : ℕ → ℕ → Bool) (m : Map) → map_has t (h m) ≡ true → map_has t m ≡ true) →
@@ -133,8 +110,7 @@ punched_has : (a b : ℕ) (t : ℕ → ℕ → Bool) (m : Map) → map_has t (ma
 punched_has a b t m = any_edit_range (place_has t) without_copy (copy_down t) (a - m.start) (b - m.start) m.places
 
 punched_owes : (a b : ℕ) (m : Map) → owner_reserves (map_punched a b m) ≤ owner_reserves m
-punched_owes a b m =
-    owed_if m.owner _ _ (sum_by-edit_range_le (λ (p : Place Copy). cond (is_unconsumed p) 1 0) without_copy copy_owes (a - m.start) (b - m.start) m.places)
+punched_owes a b m = grind (arith, owed_if, sum_by-edit_range_le, copy_owes)
 
 pub punched_falls : (a b : ℕ) (f : File) → FileFalls f (punched a b f)
 punched_falls a b f = file_falls f (punched a b f) (cells_punched a b f.cells) (maps_fall (map_punched a b) (punched_has a b) (punched_owes a b) f.maps)
@@ -158,22 +134,17 @@ range_has : (a b : ℕ) (t : ℕ → ℕ → Bool) (m : Map) → map_has t (with
 range_has a b t m = any_edit_range (place_has t) (λ p. Gone) (gone_down t) (a - m.start) (b - m.start) m.places
 
 range_owes : (a b : ℕ) (m : Map) → owner_reserves (without_range a b m) ≤ owner_reserves m
-range_owes a b m =
-    owed_if m.owner _ _ (sum_by-edit_range_le (λ (p : Place Copy). cond (is_unconsumed p) 1 0) (λ p. Gone) gone_owes (a - m.start) (b - m.start) m.places)
+range_owes a b m = grind (arith, owed_if, sum_by-edit_range_le, gone_owes)
 
 range_has_if : (d : Bool) (a b : ℕ) (t : ℕ → ℕ → Bool) (m : Map) → map_has t (if d then without_range a b m else m) ≡ true → map_has t m ≡ true
 range_has_if true a b t m e = range_has a b t m e
 range_has_if false a b t m e = e
 
 range_owes_if : (d : Bool) (a b : ℕ) (m : Map) → owner_reserves (if d then without_range a b m else m) ≤ owner_reserves m
-range_owes_if true a b m = range_owes a b m
-range_owes_if false a b m = omega arith
+range_owes_if d a b m = grind (arith, range_owes)
 
 maps_filtered : (test : Map → Bool) (xs ys : List Map) → MapsFall xs ys → MapsFall xs (filter test ys)
-maps_filtered test xs ys fall = record {
-  has = λ t e. fall.has t (any_filter (map_has t) test ys e);
-  reserves = (let less = sum_by-filter_le owner_reserves test ys in let falls = fall.reserves in omega (arith, less, falls));
-}
+maps_filtered test xs ys fall = grind (arith, any_filter, sum_by-filter_le)
 
 pub unmapped_falls : (test : Map → Bool) (a b : ℕ) (f : File) → FileFalls f (file_unmapped test a b f)
 unmapped_falls test a b f =
@@ -185,9 +156,7 @@ pub without_falls : (task : ℕ) (f : File) → FileFalls f (file_without task f
 without_falls task f = file_falls f (file_without task f) (same_cells f.cells) (maps_filtered (λ m. not (is_of task m)) f.maps f.maps (same_maps f.maps))
 
 fresh_has : (t : ℕ → ℕ → Bool) (p : Place Copy) → place_has t (unconsumed p) ≡ true → place_has t p ≡ true
-fresh_has t Gone e = e
-fresh_has t (Live c None) e = e
-fresh_has t (Live c (Some copy)) e = e
+fresh_has t p e = grind arith
 
 child_owes : (child : ℕ) (ms : List Map) → sum_by owner_reserves (map (map_for child) ms) ≡ 0
 child_owes child [] = refl

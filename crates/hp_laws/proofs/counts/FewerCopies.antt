@@ -1,20 +1,21 @@
 -- Maps without some of the copies of others: what holds of the copies of those holds of theirs.
-use Rattle.std.proofs.Common.{◌≡◌, ℕ, ◌-◌, ◌<◌, ◌≤◌, Bool, true, false, Some, List, [], ◌∷◌, ◌++◌, length, map, get_or, cond, arith, refl, sym, ap, ◌∙◌, subst, nat_lt, if◌then◌else◌}
-use Rattle.std.specs.List.{All, count_by, filter, list_any, slice_index_or}
-use Rattle.std.proofs.lemmas.Bool.{and_from, and_parts, cond_both}
+use Rattle.std.proofs.lemmas.Grind.{common_steps}
+use Rattle.std.proofs.Common.{◌≡◌, ℕ, ◌-◌, ◌<◌, ◌≤◌, Bool, true, false, Some, List, [], ◌∷◌, ◌++◌, length, map, get_or, cond, arith, refl, sym, ◌∙◌, subst, if◌then◌else◌}
+use Rattle.std.specs.List.{All, count_by, filter}
+use Rattle.std.proofs.lemmas.Bool.{and_from, and_parts}
 use Rattle.std.proofs.lemmas.List.{get_or-map, get_or_default, length-map}
 use Rattle.std.proofs.lemmas.List.Elements.{All-append, All-filter, All-map}
 use Rattle.std.proofs.lemmas.List.Sums.{sum_by-append, sum_by-cons}
-use Rattle.hp_model.specs.files.CopyWrite.{drop_stamp, holds, robbed}
+use Rattle.hp_model.specs.files.CopyWrite.{robbed}
 use Rattle.hp_model.specs.files.File.{File}
 use Rattle.hp_model.specs.Lists.{edit_range}
-use Rattle.hp_model.specs.files.Mapping.{Map, copy_of, is_shared, is_unconsumed, map_for, map_punched, no_map, place_at, unconsumed, without_copy, without_range}
+use Rattle.hp_model.specs.files.Mapping.{Map, copy_of, is_shared, is_unconsumed, map_for, map_punched, no_map, place_at, without_copy, without_range}
 use Rattle.hp_model.specs.files.Page.{Copy}
 use Rattle.hp_model.specs.machine.Sound.{FileHasCopy, HasCopy, IsSoundFile, IsSoundMap, file_has, is_stamp, map_has, owns_stamp}
 use Rattle.hp_model.specs.declared.place.Place.{Place}
-use Rattle.hp_model.specs.declared.place.Place.TheVariants.{Gone, Live}
+use Rattle.hp_model.specs.declared.place.Place.TheVariants.{Gone}
 use Rattle.hp_laws.proofs.counts.Copies.{file_copy, file_has_stamp, has_stamp, map_copy, map_there}
-use Rattle.hp_laws.proofs.lists.Looks.{get_map, related_edit_range}
+use Rattle.hp_laws.proofs.lists.Looks.{related_edit_range}
 use Rattle.hp_laws.proofs.lists.Places.{sum_by-filter_le}
 use Rattle.hp_laws.proofs.lists.AtMostOne.{few, single}
 
@@ -35,23 +36,13 @@ abbrev Stays : Place Copy → Place Copy → Type 0
 Stays p q = (a : Copy) → copy_of p ≡ Some a → p ≡ q
 
 stays_if : (b : Bool) (p q : Place Copy) → Stays p q → Stays (if b then Gone else p) (if b then Gone else q)
-stays_if true p q h a e = cc
-stays_if false p q h a e = h a e
+stays_if b p q h a e = grind arith
 
 less_by : (x : Map) (mark : Bool) (ps : List (Place Copy)) → ((k : ℕ) → Stays (get_or ps k Gone) (get_or x.places k Gone)) → IsLess x (record x { unmapped = mark; places = ps })
-less_by x mark ps h =
-    let y : Map = record x { unmapped = mark; places = ps } in
-    let same : (i : ℕ) → Stays (place_at y i) (place_at x i) = λ i. stays_if (nat_lt i x.start) (slice_index_or ps (i - x.start) Gone) (slice_index_or x.places (i - x.start) Gone) (h (i - x.start)) in
-    record {
-      sharing = refl;
-      copies = λ i a has. sym (ap copy_of (same i a has)) ∙ has;
-      owner = λ o. o;
-      consumed = λ o i a has e. ap is_unconsumed (same i a has) ∙ e;
-    }
+less_by x mark ps h = grind (arith, stays_if)
 
 without_stays : (p : Place Copy) → Stays (without_copy p) p
-without_stays Gone a e = cc
-without_stays (Live c o) a e = cc
+without_stays p a e = grind arith
 
 pub less_range : (a b : ℕ) (x : Map) → IsLess x (without_range a b x)
 less_range a b x =
@@ -63,27 +54,11 @@ less_punched a b x =
     less_by x x.unmapped (edit_range without_copy (a - x.start) (b - x.start) x.places)
     (related_edit_range Stays (λ p q e. refl) Gone without_copy without_stays (a - x.start) (b - x.start) x.places)
 
-drop_stays : (stamp : ℕ) (p : Place Copy) → Stays (drop_stamp stamp p) p
-drop_stays stamp p = cond_both (holds stamp p) (without_copy p) p (λ q. Stays q p) (λ e. without_stays p) (λ e a h. refl)
-
 pub less_robbed : (stamp : ℕ) (x : Map) → IsLess x (robbed stamp x)
-less_robbed stamp x =
-    cond_both (list_any (holds stamp) x.places) (record x { unmapped = true; places = map (drop_stamp stamp) x.places }) x (IsLess x)
-    (λ e. less_by x true (map (drop_stamp stamp) x.places)
-    (λ k. subst (λ p. Stays p (get_or x.places k Gone)) (sym (get_map (drop_stamp stamp) Gone refl x.places k)) (drop_stays stamp (get_or x.places k Gone))))
-    (λ e. less_same x)
-
-child_copy : (p : Place Copy) → copy_of (unconsumed p) ≡ copy_of p
-child_copy Gone = refl
-child_copy (Live c o) = refl
+less_robbed stamp x = grind (arith, common_steps)
 
 child_at : (child i : ℕ) (x : Map) → copy_of (place_at (map_for child x) i) ≡ copy_of (place_at x i)
-child_at child i x =
-    elim (nat_lt i x.start) as (λ b. copy_of (if b then Gone else slice_index_or (map unconsumed x.places) (i - x.start) Gone)
-    ≡ copy_of (if b then Gone else slice_index_or x.places (i - x.start) Gone)) [
-      | true ↦ refl
-      | false ↦ ap copy_of (get_map unconsumed Gone refl x.places (i - x.start)) ∙ child_copy (get_or x.places (i - x.start) Gone)
-    ]
+child_at child i x = grind (arith, common_steps)
 
 pub less_child : (child : ℕ) (x : Map) → IsLess x (map_for child x)
 less_child child x = record { sharing = refl; copies = λ i a h. sym (child_at child i x) ∙ h; owner = λ o. cc; consumed = λ o. cc }

@@ -1,20 +1,20 @@
 -- How the counts of a file change with one page: filled, copied, copied on a write.
-use Rattle.std.proofs.Common.{◌≡◌, ⊎_elim, subst, ◌++◌, ℕ, zero, suc, ◌+◌, ◌-◌, ◌<◌, Bool, true, false, ◌||◌, ◌==◌, Option}
-use Rattle.std.proofs.Common.{None, Some, List, [], ◌∷◌, length, map, refl, sym, ap, ◌∙◌, cond, arith, if◌then◌else◌, nat_lt}
-use Rattle.std.specs.List.{list_any, slice_set, slice_index_or, sum_by, count_by, filter_map, flat_map}
+use Rattle.std.proofs.lemmas.Grind.{common_steps}
+use Rattle.std.proofs.Common.{◌≡◌, ⊎_elim, ◌++◌, ℕ, ◌+◌, ◌-◌, ◌<◌, Bool, true, false, ◌||◌, ◌==◌, Option}
+use Rattle.std.proofs.Common.{None, Some, List, [], ◌∷◌, length, map, refl, sym, ap, ◌∙◌, cond, arith}
+use Rattle.std.specs.List.{list_any, slice_index_or, sum_by, count_by, filter_map, flat_map}
 use Rattle.std.proofs.lemmas.List.{map-append}
 use Rattle.std.proofs.lemmas.Bool.{or_parts, or_cases, or_left, or_right, and_from, and_parts, eq-eqb, eqb-true}
 use Rattle.std.proofs.lemmas.List.Sums.{sum_by-set, sum_by-cons, sum_by-append}
-use Rattle.hp_model.specs.files.File.{with_cell, with_map, File, cell_at, has_page}
+use Rattle.hp_model.specs.files.File.{with_cell, with_map, File, cell_at}
 use Rattle.hp_model.specs.Lists.{is_among}
 use Rattle.hp_model.specs.files.Mapping.{with_place, Map, place_at, copy_of, is_unconsumed}
-use Rattle.hp_model.specs.files.MountCounts.{file_pages, file_reserves, file_pages_at, is_waiting, is_page_at, owner_reserves, stamps_of}
+use Rattle.hp_model.specs.files.MountCounts.{file_pages, file_reserves, file_pages_at, owner_reserves, stamps_of}
 use Rattle.hp_model.specs.files.Page.{Page, Copy}
 use Rattle.hp_model.specs.machine.Sound.{place_has, map_has, file_has, is_stamp}
 use Rattle.hp_model.specs.declared.cell.Cell.TheVariants.{Hole, Entered, Present}
 use Rattle.hp_model.specs.declared.place.Place.{Place}
 use Rattle.hp_model.specs.declared.place.Place.TheVariants.{Gone, Live}
-use Rattle.hp_laws.proofs.counts.CountSteps.{share, count-set, fill_entry-pages, fill_entry-reserves}
 use Rattle.hp_laws.proofs.counts.CopiesHeld.{is_stamp_at, IsAgreed, stamps_grow, stamps_at_grow, weaker}
 use Rattle.hp_laws.proofs.lists.Places.{any_set}
 use Rattle.hp_laws.proofs.lists.AtMostOne.{bit}
@@ -28,50 +28,22 @@ pub record FileGrows (f g : File) (node k u : ℕ) : Type 0 where
 -- ---- a page of the file
 
 pub fill_entry : (f : File) (i : ℕ) (page : Page) → i < length f.cells → cell_at f i ≡ Entered → FileGrows f (with_cell f i (Present page)) page.node 1 0
-fill_entry f i page l is = record {
-  pages = fill_entry-pages f i page l is;
-  usage = omega (arith, fill_entry-pages f i page l is, fill_entry-reserves f i page l is);
-  each = λ n. (let step = count-set (is_page_at n) f i (Present page) l in let was = ap (share (is_page_at n)) is in omega (arith, step, was));
-}
+fill_entry f i page l is = grind (arith, common_steps)
 
 pub fill_hole : (f : File) (i : ℕ) (page : Page) → i < length f.cells → cell_at f i ≡ Hole → FileGrows f (with_cell f i (Present page)) page.node 1 1
-fill_hole f i page l is =
-    let step = count-set has_page f i (Present page) l in
-    let was = ap (share has_page) is in
-    let waits = count-set is_waiting f i (Present page) l in
-    let waited = ap (share is_waiting) is in
-    record {
-      pages = omega (arith, step, was);
-      usage = omega (arith, step, was, waits, waited);
-      each = λ n. (let at_n = count-set (is_page_at n) f i (Present page) l in let was_n = ap (share (is_page_at n)) is in omega (arith, at_n, was_n));
-    }
+fill_hole f i page l is = grind (arith, common_steps)
 
 -- ---- a place of a map
-
-below_start : (b : Bool) (x : Place Copy) (c : Bool) (o : Option Copy) → (if b then Gone else x) ≡ Live c o → x ≡ Live c o
-below_start true x c o e = cc
-below_start false x c o e = e
 
 pub record IsLiveAt (m : Map) (i : ℕ) (c : Bool) (o : Option Copy) : Type 0 where
   pub within : i - m.start < length m.places
   pub is : slice_index_or m.places (i - m.start) Gone ≡ Live c o
 
-in_range : (j : ℕ) (ps : List (Place Copy)) (c : Bool) (o : Option Copy) → slice_index_or ps j Gone ≡ Live c o → j < length ps
-in_range j [] c o e = cc
-in_range zero (p ∷ ps) c o e = omega arith
-in_range (suc j) (p ∷ ps) c o e = let rest = in_range j ps c o e in omega (arith, rest)
-
 pub live_at : (m : Map) (i : ℕ) (c : Bool) (o : Option Copy) → place_at m i ≡ Live c o → IsLiveAt m i c o
-live_at m i c o e =
-    let is = below_start (nat_lt i m.start) (slice_index_or m.places (i - m.start) Gone) c o e in
-    record {
-      within = in_range (i - m.start) m.places c o is;
-      is = is;
-    }
+live_at m i c o e = grind (arith, common_steps)
 
 pub or_false : (b : Bool) → b ≡ (b || false)
-or_false true = refl
-or_false false = refl
+or_false b = grind arith
 
 -- where a copy is put where none is
 put_has : (t : ℕ → ℕ → Bool) (m : Map) (i : ℕ) (c d : Bool) (new : Copy) → IsLiveAt m i c None → map_has t (with_place m i (Live d (Some new))) ≡ (t new.stamp new.page.node || map_has t m)
@@ -91,19 +63,13 @@ put_file_has t f k m i c d new here at =
 
 -- ---- reservations of owners
 
-owner_if : (b : Bool) (x y u v : ℕ) → x + u ≡ y + v → cond b x 0 + cond b u 0 ≡ cond b y 0 + cond b v 0
-owner_if true x y u v e = e
-owner_if false x y u v e = refl
-
 -- what a place adds to its map's reservations
 abbrev pub owed : Map → Place Copy → ℕ
 owed m p = cond m.owner (cond (is_unconsumed p) 1 0) 0
 
 pub owner_step : (m : Map) (i : ℕ) (p : Place Copy) → i - m.start < length m.places
     → owner_reserves (with_place m i p) + owed m (slice_index_or m.places (i - m.start) Gone) ≡ owner_reserves m + owed m p
-owner_step m i p l =
-    let count = sum_by-set (λ (x : Place Copy). cond (is_unconsumed x) 1 0) m.places (i - m.start) p Gone l in
-    owner_if m.owner (count_by is_unconsumed (slice_set m.places (i - m.start) p)) (count_by is_unconsumed m.places) _ _ count
+owner_step m i p l = grind (arith, common_steps)
 
 pub reserves_step : (f : File) (k : ℕ) (m : Map) (i : ℕ) (c d : Bool) (o q : Option Copy) → IsMapAt f k m → IsLiveAt m i c o
     → file_reserves (with_map f k (with_place m i (Live d q))) + owed m (Live c o) ≡ file_reserves f + owed m (Live d q)
@@ -115,16 +81,13 @@ reserves_step f k m i c d o q here at =
     omega (arith, maps, was, step, is)
 
 pub same_owed : (m : Map) (c : Bool) (o q : Option Copy) → owed m (Live c o) ≡ owed m (Live c q)
-same_owed m true o q = refl
-same_owed m false o q = refl
+same_owed m c o q = grind arith
 
 owned : (b : Bool) → b ≡ true → ◌≡◌ {A = ℕ} (cond b 1 0) 1
-owned true e = refl
-owned false e = cc
+owned b e = grind arith
 
 pub spent : (b : Bool) → ◌≡◌ {A = ℕ} (cond b 0 0) 0
-spent true = refl
-spent false = refl
+spent b = grind arith
 
 -- ---- a new copy where there is none
 
@@ -231,10 +194,4 @@ some_node q f e = maps_node q f.maps e
 -- in an agreed file every test of a stamp at its node finds what the stamp finds
 pub agreed_test : (t : ℕ → ℕ → Bool) (stamp node : ℕ) (f r : File) → IsAgreed f → ((u : ℕ → ℕ → Bool) → file_has u r ≡ true → file_has u f ≡ true)
     → file_has (is_stamp_at node stamp) f ≡ true → file_has (is_stamp stamp) r ≡ true → t stamp node ≡ true → file_has t r ≡ true
-agreed_test t stamp node f r agreed within here held passes =
-    let other = some_node stamp r held in
-    let same : other.0 ≡ node = agreed stamp other.0 node (within (is_stamp_at other.0 stamp) other.1) here in
-    let at_node : file_has (is_stamp_at node stamp) r ≡ true = subst (λ (n : ℕ). file_has (is_stamp_at n stamp) r ≡ true) same other.1 in
-    weaker (is_stamp_at node stamp) t r
-    (λ s n both. (let parts = and_parts (n == node) (s == stamp) both in
-    let is_n = eqb-true n node parts.0 in let is_s = eqb-true s stamp parts.1 in ap (λ x. t x n) is_s ∙ ap (λ x. t stamp x) is_n ∙ passes)) at_node
+agreed_test t stamp node f r agreed within here held passes = grind (arith, some_node, is_stamp_at, weaker, and_parts, eqb-true)

@@ -1,24 +1,24 @@
 -- Each change of a file keeps it sound.
-use Rattle.std.proofs.Common.{◌≡◌, inl, inr, ℕ, zero, suc, ◌+◌, ◌-◌, ◌<◌, ◌≤◌, Bool, true, false, ◌&&◌, not, take, None, Some}
-use Rattle.std.proofs.Common.{List, [], ◌∷◌, length, map, get_or, replicate, cond, arith, refl, sym, ap, ◌∙◌, subst, nat_lt, if◌then◌else◌, length-append}
+use Rattle.std.proofs.lemmas.Grind.{common_steps}
+use Rattle.std.proofs.Common.{◌≡◌, inl, inr, ℕ, ◌+◌, ◌-◌, ◌<◌, ◌≤◌, Bool, true, false, not, None, Some}
+use Rattle.std.proofs.Common.{List, [], ◌∷◌, length, map, get_or, cond, arith, refl, sym, ap, ◌∙◌, subst, nat_lt}
 use Rattle.std.specs.List.{slice_index_or, slice_set}
 use Rattle.std.proofs.lemmas.Bool.{and_parts, cases_eq, cond_both, false_from_ne_true, ltb-false, ltb-true}
-use Rattle.std.proofs.lemmas.List.{get_or-map, get_or-set_other, get_or-set_same, get_or_past, length-map, length-replicate, length-set, length-take}
+use Rattle.std.proofs.lemmas.List.{get_or-map, get_or-set_other, get_or-set_same, get_or_past, length-map, length-set}
 use Rattle.std.proofs.lemmas.List.Elements.{All-map, All-push}
 use Rattle.std.proofs.lemmas.List.Sums.{sum_by-append, sum_by-cons}
 use Rattle.hp_model.specs.declared.cell.Cell.{Cell}
-use Rattle.hp_model.specs.declared.cell.Cell.TheVariants.{Hole}
 use Rattle.hp_model.specs.declared.place.Place.{Place}
-use Rattle.hp_model.specs.declared.place.Place.TheVariants.{Gone, Live}
+use Rattle.hp_model.specs.declared.place.Place.TheVariants.{Gone}
 use Rattle.hp_model.specs.declared.step.Reserving.{Reserving}
 use Rattle.hp_model.specs.declared.step.Sharing.{Sharing}
 use Rattle.hp_model.specs.files.CopyWrite.{robbed}
-use Rattle.hp_model.specs.files.File.{File, at_least, cell_punched, cells_to, entered, with_map}
+use Rattle.hp_model.specs.files.File.{File, cell_punched, cells_to, with_map}
 use Rattle.hp_model.specs.files.Fork.{file_forked}
 use Rattle.hp_model.specs.files.GiveBack.{file_unmapped, file_without, is_left, map_unmapped, punched, truncated, unlinked}
 use Rattle.hp_model.specs.Lists.{edit_range}
-use Rattle.hp_model.specs.files.MakeMap.{cells_mapped, mapped, new_map, reserves}
-use Rattle.hp_model.specs.files.Mapping.{Map, copy_of, is_of, is_shared, map_punched, no_map, place_at, without_copy, without_range}
+use Rattle.hp_model.specs.files.MakeMap.{cells_mapped, mapped, new_map}
+use Rattle.hp_model.specs.files.Mapping.{Map, copy_of, is_of, map_punched, no_map, place_at, without_copy, without_range}
 use Rattle.hp_model.specs.files.Page.{Copy, Page}
 use Rattle.hp_model.specs.machine.Sound.{FileHasCopy, HasCopy, IsSoundMap, is_stamp, map_has, owns_stamp}
 use Rattle.hp_model.proofs.Editing.{get_or-edit_in, length-edit_range}
@@ -75,32 +75,16 @@ module _ (n pages : ℕ) (x : Map) (i : ℕ) (a : Copy) (from : n ≤ i) (to : i
   cut = edit_range without_copy (n - x.start) (n + pages - x.start) x.places
 
   none_left : (p : Place Copy) → copy_of (without_copy p) ≡ Some a → ⊥
-  none_left Gone e = cc
-  none_left (Live c o) e = cc
+  none_left p e = grind arith
 
   none_at : x.start ≤ i → copy_of (get_or cut (i - x.start) Gone) ≡ Some a → ⊥
-  none_at low has =
-      let k : ℕ = i - x.start in
-      elim (nat_lt k (length x.places)) as (λ b. nat_lt k (length x.places) ≡ b → ⊥) [
-        | true ↦ λ e. none_left (get_or x.places k Gone)
-            (sym (ap copy_of (get_or-edit_in without_copy (n - x.start) (n + pages - x.start) x.places k Gone (omega (arith, from)) (omega (arith, to, low)) (ltb-true k (length x.places) e))) ∙ has)
-        | false ↦ λ e. (let past = ltb-false k (length x.places) e in
-            let long = length-edit_range without_copy (n - x.start) (n + pages - x.start) x.places in
-            let none = sym (ap copy_of (get_or_past cut k Gone (omega (arith, long, past)))) ∙ has in cc)
-      ] refl
+  none_at low has = grind (arith, none_left, get_or-edit_in, ltb-true, ltb-false, length-edit_range, get_or_past)
 
   cut_off : HasCopy (map_punched n (n + pages) x) i a → ⊥
-  cut_off =
-      elim (nat_lt i x.start) as (λ b. nat_lt i x.start ≡ b → copy_of (if b then Gone else slice_index_or cut (i - x.start) Gone) ≡ Some a → ⊥) [
-        | true ↦ λ e h. cc
-        | false ↦ λ e h. none_at (ltb-false i x.start e) h
-      ] refl
+  cut_off = grind (arith, none_at, ltb-false)
 
 length-cells_to : (n : ℕ) (cells : List (Cell Page)) → length (cells_to n cells) ≡ n
-length-cells_to n cells =
-    let both = length-append (take n cells) (replicate (n - length cells) Hole) in
-    let more = length-replicate {A = Cell Page} (n - length cells) Hole in
-    omega (arith, both, more, length-take n cells)
+length-cells_to n cells = grind (arith, common_steps)
 
 pub truncated_keeps : (n : ℕ) (f : File) → KeepsFile f (truncated n f)
 truncated_keeps n f =
@@ -122,18 +106,12 @@ truncated_keeps n f =
 
 -- ---- a map more
 
-blank_at : (n k : ℕ) → copy_of {C = Copy} (get_or (replicate n (Live false None)) k Gone) ≡ None
-blank_at zero k = refl
-blank_at (suc n) zero = refl
-blank_at (suc n) (suc k) = blank_at n k
-
 module _ (task number a n : ℕ) (sharing : Sharing) (reserving : Reserving) where
   abbrev new : Map
   new = new_map task number a n sharing reserving
 
   blank : (i : ℕ) → copy_of (place_at new i) ≡ None
-  blank i =
-      cond_both (nat_lt i a) Gone (slice_index_or (replicate n (Live false None)) (i - a) Gone) (λ p. copy_of p ≡ None) (λ e. refl) (λ e. blank_at n (i - a))
+  blank i = grind (arith, common_steps)
 
   owns_none : (stamp : ℕ) → owns_stamp stamp new ≡ false
   owns_none stamp =
@@ -141,11 +119,7 @@ module _ (task number a n : ℕ) (sharing : Sharing) (reserving : Reserving) whe
       (λ e. (let held = map_copy (is_stamp stamp) new (and_parts new.owner (map_has (is_stamp stamp) new) e).1 in let none = sym (blank held.0) ∙ held.2 in cc))
 
   long : (cells : List (Cell Page)) → length cells ≤ length (cells_mapped sharing reserving a n cells)
-  long cells =
-      let more = length-append cells (replicate (a + n - length cells) Hole) in
-      let same = length-edit_range entered a (a + n) (at_least (a + n) cells) in
-      cond_both (is_shared sharing && reserves reserving) (edit_range entered a (a + n) (at_least (a + n) cells)) (at_least (a + n) cells) (λ cs. length cells ≤ length cs)
-      (λ e. omega (arith, more, same)) (λ e. omega (arith, more))
+  long cells = grind (arith, common_steps)
 
   pub mapped_keeps : (f : File) → KeepsFile f (mapped task number a n sharing reserving f)
   mapped_keeps f =

@@ -1,8 +1,8 @@
 -- A file whose range gets pages of zeros.
-use Rattle.std.proofs.Common.{◌≡◌, ⊎_elim, inl, inr, ◌⊎◌, ℕ, ◌+◌, ◌-◌, ◌<◌, ◌≤◌, true, ◌==◌, List, length, map, max, take, drop, replicate, refl, sym, ap, ◌∙◌, arith}
+use Rattle.std.proofs.lemmas.Grind.{common_steps}
+use Rattle.std.proofs.Common.{◌≡◌, ⊎_elim, inl, inr, ◌⊎◌, ℕ, ◌+◌, ◌-◌, ◌<◌, ◌≤◌, true, ◌==◌, List, length, map, max, replicate, refl, sym, ap, ◌∙◌, arith}
 use Rattle.std.specs.List.{All, count_by}
-use Rattle.std.proofs.lemmas.Bool.{cases_lt}
-use Rattle.std.proofs.lemmas.List.{length-append, length-map, length-replicate}
+use Rattle.std.proofs.lemmas.List.{length-map}
 use Rattle.std.proofs.lemmas.List.Elements.{All-map}
 use Rattle.hp_model.specs.declared.cell.Cell.{Cell}
 use Rattle.hp_model.specs.declared.cell.Cell.TheVariants.{Hole}
@@ -32,22 +32,13 @@ module _ (size a b : ℕ) (nodes : List ℕ) (f : File) where
   pages = map (zero_page size) nodes
 
   pub length-longer : length longer ≡ max (length f.cells) b
-  length-longer =
-      let both = length-append f.cells (replicate (b - length f.cells) Hole) in
-      let more = length-replicate {A = Cell Page} (b - length f.cells) Hole in
-      omega (arith, both, more)
+  length-longer = grind (arith, common_steps)
 
   pub same_longer : (i : ℕ) → cell_in longer i ≡ cell_at f i
   same_longer i = same_more (λ c. c) Hole f.cells (replicate (b - length f.cells) Hole) (same_none (λ c. c) Hole (b - length f.cells)) i
 
   holes_asked : unentered a b f ≡ count_by is_hole (part a b longer)
-  holes_asked =
-      ⊎_elim
-      (λ (none : b < a).
-      ap (λ k. count_by is_hole (take k (drop a (at_least (a + (b - a)) f.cells)))) {x = b - a} {y = 0} (omega (arith, none))
-      ∙ ap (λ k. count_by is_hole (take k (drop a longer))) {x = 0} {y = b - a} (omega (arith, none)))
-      (λ (some : a ≤ b). ap (λ n. count_by is_hole (take (b - a) (drop a (at_least n f.cells)))) {x = a + (b - a)} {y = b} (omega (arith, some)))
-      (cases_lt b a)
+  holes_asked = grind arith
 
   module _ (all : length nodes ≡ lacking a b f) where
     few : length pages ≤ bare a b longer
@@ -79,10 +70,7 @@ module _ (size a b : ℕ) (nodes : List ℕ) (f : File) where
 
     -- the page at each index of the range
     pub filled_there : (i : ℕ) → a ≤ i → i < b → has_page (cell_at (range_filled size a b nodes f) i) ≡ true
-    filled_there i low high =
-        let left = fill.left in
-        let pages_of_all = length-map nodes (zero_page size) in
-        all_there a b (cells_filled a pages longer) (omega (arith, left, pages_of_all, all)) i low high (omega (arith, high, length-filled))
+    filled_there i low high = grind (arith, fill, length-map, all_there, length-filled)
 
     -- index by index: as it was, or a page of zeros where there was none
     pub filled_index : (i : ℕ) → (cell_at (range_filled size a b nodes f) i ≡ cell_at f i) ⊎ IsNew a b (λ p. p.bytes ≡ zeros size) f.cells (range_filled size a b nodes f).cells i

@@ -1,8 +1,9 @@
 -- How the counts of a mount change with one of its files.
-use Rattle.std.proofs.Common.{◌≡◌, ◌==◌, subst, ℕ, ◌+◌, ◌<◌, ◌≤◌, Bool, true, false, Option, None, Some, List, [], ◌∷◌, length, map, refl, sym, ap, ◌∙◌, cond, arith}
+use Rattle.std.proofs.lemmas.Grind.{common_steps}
+use Rattle.std.proofs.Common.{◌≡◌, ◌==◌, ℕ, ◌+◌, ◌<◌, ◌≤◌, Bool, Option, None, Some, List, length, map, refl, sym, ap, ◌∙◌, cond, arith}
 use Rattle.std.specs.List.{list_any, slice_index_or}
 use Rattle.std.specs.Option.{option_map}
-use Rattle.std.proofs.lemmas.List.Sums.{sum_by-set, sum_by-append, sum_by-cons}
+use Rattle.std.proofs.lemmas.List.Sums.{sum_by-set}
 use Rattle.hp_model.specs.files.File.{with_file, new_file, File, Mount}
 use Rattle.hp_model.specs.files.GiveBack.{swept, is_kept}
 use Rattle.hp_model.specs.Lists.{edit_at, found}
@@ -62,21 +63,10 @@ file_fills m at_no f g nodes u at fills =
 
 -- a file more, by what it has above an empty one
 pub new_grows : (m : Mount) (name : Option (List ℕ)) (g : File) (u : ℕ) → FileGrows (new_file name) g 0 0 u → MountGrows m (with_new m g) 0 0 u
-new_grows m name g u grows =
-    let pages = sum_by-append file_pages m.files (g ∷ []) in
-    let reserves = sum_by-append file_reserves m.files (g ∷ []) in
-    let one = sum_by-cons file_pages g [] in
-    let two = sum_by-cons file_reserves g [] in
-    record {
-      pages = omega (arith, pages, one, grows.pages);
-      usage = omega (arith, pages, reserves, one, two, grows.pages, grows.usage);
-      each = λ x. omega (arith, sum_by-append (file_pages_at x) m.files (g ∷ []), sum_by-cons (file_pages_at x) g [], grows.each x);
-      limits = refl;
-    }
+new_grows m name g u grows = grind (arith, common_steps)
 
 pub nothing_more : (b : Bool) (n : ℕ) → n ≡ n + cond b 0 0
-nothing_more true n = omega arith
-nothing_more false n = omega arith
+nothing_more b n = grind arith
 
 -- a change of one file that no count sees
 pub edit_grows : (m : Mount) (at_no : ℕ) (h : File → File) → ((f : File) → FileGrows f (h f) 0 0 0) → MountGrows m (record m { files = edit_at h m.files at_no }) 0 0 0
@@ -135,10 +125,7 @@ map_at test f q e = let p = found_place test f.maps q e in record { within = p.w
 
 spot_of_map : (m : Mount) (test : Map → Bool) (f : ℕ × File) (s : Spot) → IsFileAt m f.0 f.1 → (o : Option (ℕ × Map)) → found test f.1.maps ≡ o → option_map (spot_in f) o ≡ Some s → IsSpot m s
 spot_of_map m test f s at None w e = cc
-spot_of_map m test f s at (Some q) w e =
-    let is : spot_in f q ≡ s = cc in
-    let here : IsSpot m (spot_in f q) = record { file = at; map = map_at test f.1 q w } in
-    subst (λ (s : Spot). IsSpot m s) is here
+spot_of_map m test f s at (Some q) w e = grind (arith, map_at)
 
 spot_of_file : (m : Mount) (test : Map → Bool) (s : Spot) (o : Option (ℕ × File)) → found (λ f. list_any test f.maps) m.files ≡ o
     → (elim o [ None ↦ None | Some f ↦ option_map (spot_in f) (found test f.1.maps) ]) ≡ Some s → IsSpot m s

@@ -1,5 +1,6 @@
 -- A mount stays sound where its files do, and where no number and no name comes twice.
-use Rattle.std.proofs.Common.{◌≡◌, ℕ, ◌+◌, ◌≤◌, Bool, true, false, ◌&&◌, ◌==◌, not, None, List, [], ◌∷◌, ◌++◌, length, map, cond, arith, refl, sym, ap, ◌∙◌, subst, if◌then◌else◌, nat_lt}
+use Rattle.std.proofs.lemmas.Grind.{common_steps}
+use Rattle.std.proofs.Common.{◌≡◌, ℕ, ◌+◌, ◌≤◌, Bool, true, false, ◌==◌, not, None, List, [], ◌∷◌, ◌++◌, length, map, cond, arith, refl, sym, ap, subst, if◌then◌else◌, nat_lt}
 use Rattle.std.specs.List.{count_by, filter, flat_map, sum_by}
 use Rattle.std.proofs.lemmas.Bool.{and_from, and_parts, both_ways, eq-eqb, eqb-true, ltb-false, ltb-true, not-true}
 use Rattle.std.proofs.lemmas.List.{get_or_default}
@@ -26,9 +27,7 @@ use Rattle.hp_laws.proofs.lists.AtMostOne.{bit}
 -- ---- sums over the files
 
 pub bit_le : (a b : Bool) → (a ≡ true → b ≡ true) → bit a ≤ bit b
-bit_le true true h = omega arith
-bit_le true false h = (let e = h refl in cc)
-bit_le false b h = omega arith
+bit_le a b h = grind arith
 
 pub count_maps : (p : Map → Bool) (fs : List File) → count_by p (flat_map (λ f. f.maps) fs) ≡ sum_by (λ f. count_by p f.maps) fs
 count_maps p [] = refl
@@ -163,13 +162,9 @@ new_sound m g keeps numbers names sound =
 
 -- ---- numbers of a file's maps
 
-same_bit : (p : Map → Bool) (h : Map → Map) → ((x : Map) → p (h x) ≡ p x) → (xs : List Map) → count_by p (map h xs) ≤ count_by p xs
-same_bit p h same xs = sum_by-map_le (λ x. bit (p x)) h (λ x. bit_le (p (h x)) (p x) (λ e. sym (same x) ∙ e)) xs
-
 pub mapped_numbers : (h : Map → Map) → ((x : Map) → (h x).task ≡ x.task) → ((x : Map) → (h x).number ≡ x.number)
     → (task number : ℕ) (xs : List Map) → count_by (is_map task number) (map h xs) ≤ count_by (is_map task number) xs
-mapped_numbers h tasks numbers task number xs =
-    same_bit (is_map task number) h (λ x. ap (λ t. (t == task) && ((h x).number == number)) (tasks x) ∙ ap (λ u. (x.task == task) && (u == number)) (numbers x)) xs
+mapped_numbers h tasks numbers task number xs = grind (arith, common_steps)
 
 pub filtered_numbers : (p : Map → Bool) (task number : ℕ) (xs ys : List Map) → count_by (is_map task number) ys ≤ count_by (is_map task number) xs
     → count_by (is_map task number) (filter p ys) ≤ count_by (is_map task number) xs
@@ -178,8 +173,7 @@ filtered_numbers p task number xs ys le = let fewer = sum_by-filter_le (λ x. bi
 -- ---- numbers of children
 
 cons_count : (p q : Map → Bool) (b : Bool) (x : Map) (xs : List Map) (n : ℕ) → (b ≡ true → p x ≡ true → q x ≡ true) → count_by p xs ≤ n → count_by p (cond b (x ∷ xs) xs) ≤ bit (q x) + n
-cons_count p q true x xs n h le = let one = bit_le (p x) (q x) (h refl) in let cons = sum_by-cons (λ x. bit (p x)) x xs in omega (arith, one, cons, le)
-cons_count p q false x xs n h le = omega (arith, le)
+cons_count p q b x xs n h le = grind (arith, common_steps)
 
 -- of the maps that are kept no more pass the one test than of all the other
 filter_count : (p q keep : Map → Bool) → ((x : Map) → keep x ≡ true → p x ≡ true → q x ≡ true) → (xs : List Map) → count_by p (filter keep xs) ≤ count_by q xs
@@ -206,24 +200,10 @@ module _ (parent child task number : ℕ) where
   was = is_map (if task == child then parent else task) number
 
   kept_count : (xs : List Map) (b : Bool) → (task == child) ≡ b → count_by (is_map task number) (filter (λ x. not (is_of child x)) xs) ≤ cond b 0 (count_by (is_map task number) xs)
-  kept_count xs true e =
-      let none = filter_none (is_map task number) (λ x. not (is_of child x))
-      (λ x kept passes. both_ways (x.task == child) (not-true (x.task == child) kept)
-      (ap (λ t. t == child) (eqb-true x.task task (and_parts (x.task == task) (x.number == number) passes).0) ∙ e)) xs in
-      omega (arith, none)
-  kept_count xs false e = filter_count (is_map task number) (is_map task number) (λ x. not (is_of child x)) (λ x kept passes. passes) xs
+  kept_count xs b e = grind (arith, filter_none, both_ways, not-true, eqb-true, and_parts, filter_count)
 
   made_count : (xs : List Map) (b : Bool) → (task == child) ≡ b → count_by (is_map task number) (map (map_for child) (filter (is_of parent) xs)) ≤ cond b (count_by (is_map parent number) xs) 0
-  made_count xs true e =
-      let same = count_map (is_map task number) (map_for child) (filter (is_of parent) xs) in
-      let fewer = filter_count (λ x. is_map task number (map_for child x)) (is_map parent number) (is_of parent)
-      (λ x ours passes. and_from (x.task == parent) (x.number == number) ours (and_parts (child == task) (x.number == number) passes).1) xs in
-      omega (arith, same, fewer)
-  made_count xs false e =
-      let same = count_map (is_map task number) (map_for child) (filter (is_of parent) xs) in
-      let none = filter_none (λ x. is_map task number (map_for child x)) (is_of parent)
-      (λ x ours passes. both_ways (task == child) e (eq-eqb task child (sym (eqb-true child task (and_parts (child == task) (x.number == number) passes).0)))) xs in
-      omega (arith, same, none)
+  made_count xs b e = grind (arith, count_map, filter_count, and_from, and_parts, filter_none, both_ways, eq-eqb, eqb-true)
 
   forked_count : (f : File) → count_by (is_map task number) (file_forked parent child f).maps ≤ count_by was f.maps
   forked_count f =

@@ -24,8 +24,7 @@ sum_plus f g [] = refl
 sum_plus f g (n ∷ ns) = omega (arith, sum_by-cons (λ n. f n + g n) n ns, sum_by-cons f n ns, sum_by-cons g n ns, sum_plus f g ns)
 
 sum_same : (f g : ℕ → ℕ) → ((n : ℕ) → f n ≡ g n) → (ns : List ℕ) → sum_by f ns ≡ sum_by g ns
-sum_same f g h [] = refl
-sum_same f g h (n ∷ ns) = omega (arith, sum_by-cons f n ns, sum_by-cons g n ns, h n, sum_same f g h ns)
+sum_same f g h ns = grind arith
 
 sum_none : (ns : List ℕ) → sum_by (λ n. 0) ns ≡ 0
 sum_none [] = refl
@@ -57,12 +56,10 @@ abbrev Agreed : List Copy → Type 0
 Agreed cs = (q m n : ℕ) → is_among q (held_at m cs) ≡ true → is_among q (held_at n cs) ≡ true → m ≡ n
 
 among_if : (b : Bool) (q s : ℕ) (rest : List ℕ) → is_among q rest ≡ true → is_among q (cons_option (if b then Some s else None) rest) ≡ true
-among_if true q s rest e = or_right (s == q) _ e
-among_if false q s rest e = e
+among_if b q s rest e = grind arith
 
 among_here : (b : Bool) (s : ℕ) (rest : List ℕ) → b ≡ true → is_among s (cons_option (if b then Some s else None) rest) ≡ true
-among_here true s rest e = or_left (s == s) _ (eq-eqb s s refl)
-among_here false s rest e = cc
+among_here b s rest e = grind arith
 
 some_node : (q : ℕ) (cs : List Copy) → is_among q (map (λ c. c.stamp) cs) ≡ true → (n : ℕ) × (is_among q (held_at n cs) ≡ true)
 some_node q [] e = cc
@@ -75,17 +72,9 @@ some_node q (c ∷ cs) e =
     (λ r. (let rest = some_node q cs r in (rest.0, among_if (c.page.node == rest.0) q c.stamp (held_at rest.0 cs) rest.1)))
     (or_cases (c.stamp == q) (is_among q (map (λ c. c.stamp) cs)) e)
 
-at_most_one : (b : Bool) (n : ℕ) → cond b n (n + 1) ≤ n + 1
-at_most_one true n = omega arith
-at_most_one false n = omega arith
-
 one_step : (x b : Bool) (s : ℕ) (rest : List ℕ) → (x ≡ true → b ≡ true → is_among s rest ≡ true) →
     length (distinct (cons_option (if x then Some s else None) rest)) ≤ length (distinct rest) + cond (not b && x) 1 0
-one_step false true s rest h = omega arith
-one_step false false s rest h = omega arith
-one_step true true s rest h =
-    let is = length_if (is_among s rest) s (distinct rest) ∙ ap (λ b. cond b (length (distinct rest)) (length (distinct rest) + 1)) (h refl refl) in omega (arith, is)
-one_step true false s rest h = omega (arith, length_if (is_among s rest) s (distinct rest), at_most_one (is_among s rest) (length (distinct rest)))
+one_step x b s rest h = grind arith
 
 -- whether the stamp is among the others, each node has at most what it may
 copies_more : (ns : List ℕ) → ((node : ℕ) → count_by (λ n. node == n) ns ≤ 1) → (c : Copy) (cs : List Copy) → Agreed (c ∷ cs) → (b : Bool) → is_among c.stamp (map (λ c. c.stamp) cs) ≡ b
@@ -139,8 +128,7 @@ slot_below ns once (Some m) sound =
     swap_le IsSoundFile file_pages_at file_pages ns (λ f good. file_below ns once f (agreed_file f good)) m.files sound.files
 
 pub pages-le-committed : (s : Slot) → slot_pages s ≤ slot_committed s
-pages-le-committed None = omega arith
-pages-le-committed (Some m) = omega arith
+pages-le-committed s = grind arith
 
 -- a range has each node once
 none_from : (node a k : ℕ) → node < a → count_by (λ n. node == n) (range_with_len a k) ≡ 0
@@ -176,26 +164,16 @@ held_among q n (c ∷ cs) e = held_if (c.page.node == n) q c.stamp (held_at n cs
 -- a stamp that the others don't have makes one more
 one_more : (x b : Bool) (s : ℕ) (rest : List ℕ) → (b ≡ false → is_among s rest ≡ false) →
     length (distinct rest) + cond (not b && x) 1 0 ≤ length (distinct (cons_option (if x then Some s else None) rest))
-one_more false true s rest h = omega arith
-one_more false false s rest h = omega arith
-one_more true true s rest h = omega (arith, length_if (is_among s rest) s (distinct rest), at_least_all (is_among s rest) (length (distinct rest)))
-  where
-    at_least_all : (b : Bool) (n : ℕ) → n ≤ cond b n (n + 1)
-    at_least_all true n = omega arith
-    at_least_all false n = omega arith
-one_more true false s rest h =
-    let is = length_if (is_among s rest) s (distinct rest) ∙ ap (λ b. cond b (length (distinct rest)) (length (distinct rest) + 1)) (h refl) in omega (arith, is)
+one_more x b s rest h = grind arith
 
 not_held : (q n : ℕ) (cs : List Copy) (b : Bool) → is_among q (held_at n cs) ≡ b → is_among q (map (λ c. c.stamp) cs) ≡ false → is_among q (held_at n cs) ≡ false
-not_held q n cs true e h = (let yes = held_among q n cs e in cc)
-not_held q n cs false e h = e
+not_held q n cs b e h = grind (arith, held_among)
 
 abbrev Far : List ℕ → (ℕ → ℕ) → Type 0
 Far ns g = (n : ℕ) → count_by (λ k. n == k) ns ≡ 0 → g n ≡ 0
 
 listed : (ns : List ℕ) (g : ℕ → ℕ) (n k : ℕ) → Far ns g → count_by (λ j. n == j) ns ≡ k → 1 ≤ g n → 1 ≤ count_by (λ j. n == j) ns
-listed ns g n zero far e some = (let none = far n e in absurd (omega (arith, none, some)))
-listed ns g n (suc k) far e some = omega (arith, e)
+listed ns g n k far e some = grind arith
 
 copies_case : (ns : List ℕ) (c : Copy) (cs : List Copy) → Far ns (λ n. length (distinct (held_at n (c ∷ cs)))) → (b : Bool) → is_among c.stamp (map (λ c. c.stamp) cs) ≡ b
     → length (distinct (map (λ c. c.stamp) cs)) ≤ sum_by (λ n. length (distinct (held_at n cs))) ns

@@ -1,5 +1,6 @@
 -- A file with one map more: its usage is higher by what the map asks for.
-use Rattle.std.proofs.Common.{◌≡◌, ℕ, zero, suc, ◌+◌, ◌-◌, Bool, true, false, ◌||◌, ◌==◌, None, List, [], ◌∷◌, ◌++◌, length, map, take, drop, replicate, refl, ap, ◌∙◌, cond, arith}
+use Rattle.std.proofs.lemmas.Grind.{common_steps}
+use Rattle.std.proofs.Common.{◌≡◌, ℕ, zero, suc, ◌+◌, ◌-◌, Bool, false, ◌||◌, ◌==◌, None, List, [], ◌∷◌, ◌++◌, map, take, drop, replicate, refl, ap, ◌∙◌, cond, arith}
 use Rattle.std.specs.List.{list_any, count_by}
 use Rattle.std.proofs.lemmas.List.Folds.{list_any-append}
 use Rattle.std.proofs.lemmas.List.Sums.{sum_by-append, sum_by-take-drop, sum_by-cons}
@@ -15,10 +16,8 @@ use Rattle.hp_model.specs.files.MountCounts.{is_waiting, is_page_at, owner_reser
 use Rattle.hp_model.specs.files.Page.{Page, Copy}
 use Rattle.hp_model.specs.machine.Sound.{place_has, map_has, file_has}
 use Rattle.hp_model.specs.declared.cell.Cell.{Cell}
-use Rattle.hp_model.specs.declared.cell.Cell.TheVariants.{Hole, Entered, Present}
-use Rattle.hp_model.specs.declared.place.Place.{Place}
+use Rattle.hp_model.specs.declared.cell.Cell.TheVariants.{Hole, Entered}
 use Rattle.hp_model.specs.declared.place.Place.TheVariants.{Live}
-use Rattle.hp_laws.proofs.counts.Falls.{no_holes}
 use Rattle.hp_laws.proofs.counts.FileMoves.{FileGrows, spent}
 use Rattle.hp_laws.proofs.counts.CopiesHeld.{stamps_stay, stamps_at_stay}
 use Rattle.hp_laws.proofs.lists.Places.{sum_by-map_same}
@@ -31,26 +30,14 @@ pub record CellsWait (xs ys : List (Cell Page)) (u : ℕ) : Type 0 where
   pub waits : count_by is_waiting ys ≡ count_by is_waiting xs + u
   pub each : (n : ℕ) → count_by (is_page_at n) ys ≡ count_by (is_page_at n) xs
 
-longer : (test : Cell Page → Bool) → test Hole ≡ false → (n : ℕ) (xs : List (Cell Page)) → count_by test (at_least n xs) ≡ count_by test xs
-longer test none n xs =
-    omega (arith, sum_by-append (λ x. cond (test x) 1 0) xs (replicate (n - length xs) Hole), no_holes test none (n - length xs))
-
 pub cells_longer : (n : ℕ) (xs : List (Cell Page)) → CellsWait xs (at_least n xs) 0
-cells_longer n xs = record {
-  pages = longer has_page refl n xs;
-  waits = (let same = longer is_waiting refl n xs in omega (arith, same));
-  each = λ k. longer (is_page_at k) refl n xs;
-}
+cells_longer n xs = grind (arith, common_steps)
 
 entered_same : (test : Cell Page → Bool) → test Entered ≡ test Hole → (x : Cell Page) → bit (test (entered x)) ≡ bit (test x)
-entered_same test e Hole = ap bit e
-entered_same test e Entered = refl
-entered_same test e (Present page) = refl
+entered_same test e x = grind arith
 
 wait_one : (x : Cell Page) → bit (is_waiting (entered x)) ≡ bit (is_waiting x) + bit (is_hole x)
-wait_one Hole = refl
-wait_one Entered = refl
-wait_one (Present page) = refl
+wait_one x = grind arith
 
 wait_more : (xs : List (Cell Page)) → count_by is_waiting (map entered xs) ≡ count_by is_waiting xs + count_by is_hole xs
 wait_more [] = refl
@@ -65,18 +52,10 @@ wait_more (x ∷ xs) =
     )
 
 range_same : (test : Cell Page → Bool) → test Entered ≡ test Hole → (a b : ℕ) (xs : List (Cell Page)) → count_by test (edit_range entered a b xs) ≡ count_by test xs
-range_same test e a b xs =
-    let g = λ (x : Cell Page). bit (test x) in
-    let all = sum_by-edit_range g entered a b xs in
-    let mid = sum_by-map_same g entered (entered_same test e) (take (b - a) (drop a xs)) in
-    omega (arith, all, mid, sum_by-take-drop g xs a, sum_by-take-drop g (drop a xs) (b - a))
+range_same test e a b xs = grind (arith, bit, sum_by-edit_range, sum_by-map_same, entered_same, sum_by-take-drop)
 
 range_waits : (a b : ℕ) (xs : List (Cell Page)) → count_by is_waiting (edit_range entered a b xs) ≡ count_by is_waiting xs + count_by is_hole (take (b - a) (drop a xs))
-range_waits a b xs =
-    let g = λ (x : Cell Page). bit (is_waiting x) in
-    let all = sum_by-edit_range g entered a b xs in
-    let mid = wait_more (take (b - a) (drop a xs)) in
-    omega (arith, all, mid, sum_by-take-drop g xs a, sum_by-take-drop g (drop a xs) (b - a))
+range_waits a b xs = grind (arith, bit, sum_by-edit_range, wait_more, sum_by-take-drop)
 
 width : (a n : ℕ) → (a + n) - a ≡ n
 width a n = omega arith
@@ -100,13 +79,10 @@ holds_none t zero = refl
 holds_none t (suc n) = holds_none t n
 
 owes_all : (n : ℕ) → count_by (is_unconsumed {C = Copy}) (replicate n (Live false None)) ≡ n
-owes_all zero = refl
-owes_all (suc n) = omega (arith, sum_by-cons (λ (p : Place Copy). cond (is_unconsumed p) 1 0) (Live false None) (replicate n (Live false None)), owes_all n)
+owes_all n = grind (arith, common_steps)
 
 or_none : (a b : Bool) → b ≡ false → (a || (b || false)) ≡ a
-or_none true b e = refl
-or_none false true e = cc
-or_none false false e = refl
+or_none a b e = grind arith
 
 map_more : (f : File) (cells : List (Cell Page)) (m : Map) (u w : ℕ) → CellsWait f.cells cells w → ((t : ℕ → ℕ → Bool) → map_has t m ≡ false) → owner_reserves m + w ≡ u
     → FileGrows f (record f { cells = cells; maps = f.maps ++ m ∷ [] }) 0 0 u

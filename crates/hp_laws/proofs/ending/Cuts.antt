@@ -1,22 +1,23 @@
 -- What files and maps show after a range of a file or of a map is gone.
-use Rattle.std.proofs.Common.{◌≡◌, ⊎_elim, inl, inr, ◌⊎◌, subst, ℕ, ◌+◌, ◌-◌, ◌<◌, ◌≤◌, ◌&&◌, ◌==◌, Bool, true, false, Option}
+use Rattle.std.proofs.lemmas.Grind.{common_steps}
+use Rattle.std.proofs.Common.{◌≡◌, inl, inr, ◌⊎◌, subst, ℕ, ◌+◌, ◌-◌, ◌<◌, ◌≤◌, ◌&&◌, ◌==◌, Bool, true, false, Option}
 use Rattle.std.proofs.Common.{None, Some, List, length, map, replicate, take, get_or, option_map, refl, sym, ap, ◌∙◌, arith, if◌then◌else◌, nat_le, nat_lt}
 use Rattle.std.specs.List.{list_any}
 use Rattle.std.specs.Str.{bytes_eq}
 use Rattle.std.proofs.lemmas.Slice.Eq.{bytes_eq-Decides}
 use Rattle.std.proofs.lemmas.Bool.{cases_eq, cases_lt, eq-eqb, eqb-true, false_from_ne_true, leb-false, leb-true, ltb-false, ltb-true}
-use Rattle.std.proofs.lemmas.List.{get_or-set_other, get_or-set_same, get_or-take, get_or_past, length-take}
+use Rattle.std.proofs.lemmas.List.{get_or-set_other, get_or-set_same, get_or_past}
 use Rattle.std.proofs.lemmas.List.Elements.{All-get_or}
 use Rattle.hp_model.specs.declared.cell.Cell.{Cell}
-use Rattle.hp_model.specs.declared.cell.Cell.TheVariants.{Hole, Entered, Present}
+use Rattle.hp_model.specs.declared.cell.Cell.TheVariants.{Hole}
 use Rattle.hp_model.specs.declared.event.SlotEvent.{SlotEvent}
 use Rattle.hp_model.specs.declared.event.SlotEvent.TheVariants as slot
 use Rattle.hp_model.specs.declared.place.Place.{Place}
-use Rattle.hp_model.specs.declared.place.Place.TheVariants.{Gone, Live}
-use Rattle.hp_model.specs.files.File.{File, Mount, cell_at, cell_punched, cells_to, new_file, with_file}
+use Rattle.hp_model.specs.declared.place.Place.TheVariants.{Gone}
+use Rattle.hp_model.specs.files.File.{File, Mount, cell_punched, cells_to, new_file, with_file}
 use Rattle.hp_model.specs.files.GiveBack.{punched, truncated, unlinked}
 use Rattle.hp_model.specs.Lists.{edit_range, found}
-use Rattle.hp_model.specs.files.Mapping.{Map, copy_of, is_map, map_punched, no_map, place_at, without_copy}
+use Rattle.hp_model.specs.files.Mapping.{Map, is_map, map_punched, no_map, place_at, without_copy}
 use Rattle.hp_model.specs.files.Page.{Copy, Page, zeros}
 use Rattle.hp_model.specs.machine.Promises.{file_in, is_in, map_in, means_file, shape_of}
 use Rattle.hp_model.specs.machine.SlotEvent.{file_named, has_name}
@@ -43,49 +44,18 @@ module _ {X : Type 0} (f : X → X) (a b : ℕ) (xs : List X) (k : ℕ) (d : X) 
   beyond past = (let same = length-edit_range f a b xs in get_or_past (edit_range f a b xs) k d (omega (arith, past, same)))
 
   pub ranged_in : f d ≡ d → a ≤ k → k < b → get_or (edit_range f a b xs) k d ≡ f (get_or xs k d)
-  ranged_in none from to =
-      ⊎_elim (λ l. get_or-edit_in f a b xs k d from to l) (λ past. beyond past ∙ sym none ∙ sym (ap f (get_or_past xs k d past))) (cases_lt k (length xs))
+  ranged_in none from to = grind (arith, get_or-edit_in, beyond, get_or_past, cases_lt)
 
   pub ranged_out : (k < a) ⊎ (b ≤ k) → get_or (edit_range f a b xs) k d ≡ get_or xs k d
-  ranged_out out =
-      ⊎_elim
-      (λ l. ⊎_elim (λ low. get_or-edit_below f a b xs k d low l)
-      (λ high. ⊎_elim (λ low. get_or-edit_below f a b xs k d low l) (λ from. get_or-edit_past f a b xs k d from high l) (cases_lt k a)) out)
-      (λ past. beyond past ∙ sym (get_or_past xs k d past)) (cases_lt k (length xs))
+  ranged_out out = grind (arith, get_or-edit_below, get_or-edit_past, cases_lt, beyond, get_or_past)
 
   pub ranged : f d ≡ d → get_or (edit_range f a b xs) k d ≡ (if is_in a b k then f (get_or xs k d) else get_or xs k d)
-  ranged none = by_tests (nat_le a k) (nat_lt k b) refl refl
-    where
-      by_tests : (x y : Bool) → nat_le a k ≡ x → nat_lt k b ≡ y → get_or (edit_range f a b xs) k d ≡ (if x && y then f (get_or xs k d) else get_or xs k d)
-      by_tests true true from to = ranged_in none (leb-true a k from) (ltb-true k b to)
-      by_tests true false from to = ranged_out (inr (ltb-false k b to))
-      by_tests false y from to = ranged_out (inl (leb-false a k from))
+  ranged none = grind (arith, ranged_in, leb-true, ltb-true, ranged_out, ltb-false, leb-false)
 
 -- of a map's places
 pub place_ranged : (g : Place Copy → Place Copy) → g Gone ≡ Gone → (a b : ℕ) (y : Map) (i : ℕ)
     → place_at (record y { places = edit_range g (a - y.start) (b - y.start) y.places }) i ≡ (if is_in a b i then g (place_at y i) else place_at y i)
-place_ranged g none a b y i = by_start (nat_lt i y.start) refl
-  where
-    either : (c : Bool) → Gone ≡ (if c then g Gone else Gone)
-    either true = sym none
-    either false = refl
-
-    by_tests : y.start ≤ i → (c d : Bool) → nat_le a i ≡ c → nat_lt i b ≡ d
-        → get_or (edit_range g (a - y.start) (b - y.start) y.places) (i - y.start) Gone ≡ (if c && d then g (get_or y.places (i - y.start) Gone) else get_or y.places (i - y.start) Gone)
-    by_tests above true true from to =
-        let low = leb-true a i from in
-        let high = ltb-true i b to in
-        ranged_in g (a - y.start) (b - y.start) y.places (i - y.start) Gone none (omega (arith, low, above)) (omega (arith, high, above))
-    by_tests above true false from to =
-        let high = ltb-false i b to in ranged_out g (a - y.start) (b - y.start) y.places (i - y.start) Gone (inr (omega (arith, high, above)))
-    by_tests above false d from to =
-        let low = leb-false a i from in ranged_out g (a - y.start) (b - y.start) y.places (i - y.start) Gone (inl (omega (arith, low, above)))
-
-    by_start : (c : Bool) → nat_lt i y.start ≡ c
-        → (if c then Gone else get_or (edit_range g (a - y.start) (b - y.start) y.places) (i - y.start) Gone)
-        ≡ (if is_in a b i then g (if c then Gone else get_or y.places (i - y.start) Gone) else (if c then Gone else get_or y.places (i - y.start) Gone))
-    by_start true below = either (is_in a b i)
-    by_start false above = by_tests (ltb-false i y.start above) (nat_le a i) (nat_lt i b) refl refl
+place_ranged g none a b y i = grind (arith, leb-true, ltb-true, ranged_in, ltb-false, ranged_out, leb-false)
 
 -- ---- a file of which indices are cut off
 
@@ -99,56 +69,27 @@ pub record IsCut (size : ℕ) (f g : File) (h : Map → Map) (cut : ℕ → Bool
   pub seen : (y : Map) → IsSoundMap (length f.cells) y → (x : ℕ) → value size g (h y) x ≡ (if cut x then zeros size else value size f y x)
 
 no_copy : (size : ℕ) (p : Place Copy) (v : List ℕ) → by_place size (without_copy p) v ≡ v
-no_copy size Gone v = refl
-no_copy size (Live consumed copy) v = refl
+no_copy size p v = grind arith
 
 punched_shows : (size : ℕ) (c : Cell Page) → shown size (cell_punched c) ≡ zeros size
-punched_shows size Hole = refl
-punched_shows size Entered = refl
-punched_shows size (Present page) = refl
+punched_shows size c = grind arith
 
 module _ (size a b : ℕ) (f : File) where
   punch_cells : (x : ℕ) → look size x (punched a b f) ≡ (if is_in a b x then zeros size else look size x f)
-  punch_cells x = ap (shown size) (ranged cell_punched a b f.cells x Hole refl) ∙ by_test (is_in a b x)
-    where
-      by_test : (c : Bool) → shown size (if c then cell_punched (cell_at f x) else cell_at f x) ≡ (if c then zeros size else look size x f)
-      by_test true = punched_shows size (cell_at f x)
-      by_test false = refl
+  punch_cells x = grind (arith, ranged, look, punched_shows)
 
   pub punch_cut : IsCut size f (punched a b f) (map_punched a b) (is_in a b)
-  punch_cut = record {
-    maps = refl;
-    name = refl;
-    shape = λ y. pages_same y y.unmapped (map_punched a b y).places (length-edit_range without_copy (a - y.start) (b - y.start) y.places);
-    marks = λ y. refl;
-    cells = punch_cells;
-    seen = λ y sound x.
-        ap (λ p. by_place size p (look size x (punched a b f))) (place_ranged without_copy refl a b y x)
-        ∙ ap (by_place size (if is_in a b x then without_copy (place_at y x) else place_at y x)) (punch_cells x) ∙ by_test y x (is_in a b x);
-  }
-    where
-      by_test : (y : Map) (x : ℕ) (c : Bool)
-          → by_place size (if c then without_copy (place_at y x) else place_at y x) (if c then zeros size else look size x f) ≡ (if c then zeros size else value size f y x)
-      by_test y x true = no_copy size (place_at y x) (zeros size)
-      by_test y x false = refl
+  punch_cut = grind (arith, pages_same, places, length-edit_range, punch_cells, seen, look, place_ranged, no_copy)
 
 module _ (size n : ℕ) (f : File) where
   pub cell_kept : (x : ℕ) → get_or (cells_to n f.cells) x Hole ≡ get_or (take n f.cells) x Hole
   cell_kept x = same_more (λ (c : Cell Page). c) Hole (take n f.cells) (replicate (n - length f.cells) Hole) (λ j. same_none (λ (c : Cell Page). c) Hole (n - length f.cells) j) x
 
   cut_cells : (x : ℕ) (c : Bool) → nat_le n x ≡ c → look size x (truncated n f) ≡ (if c then zeros size else look size x f)
-  cut_cells x true past =
-      let long = length-take n f.cells in
-      let from = leb-true n x past in
-      ap (shown size) (cell_kept x ∙ get_or_past (take n f.cells) x Hole (omega (arith, long, from)))
-  cut_cells x false below = ap (shown size) (cell_kept x ∙ get_or-take n f.cells x Hole (leb-false n x below))
+  cut_cells x c past = grind (arith, common_steps)
 
   none_beyond : (y : Map) → IsSoundMap (length f.cells) y → (x : ℕ) → length f.cells ≤ x → (v : List ℕ) → by_place size (place_at y x) v ≡ v
-  none_beyond y sound x past v = by_copy (copy_of (place_at y x)) refl
-    where
-      by_copy : (o : Option Copy) → copy_of (place_at y x) ≡ o → (elim o [ None ↦ v | Some copy ↦ copy.page.bytes ]) ≡ v
-      by_copy None e = refl
-      by_copy (Some copy) e = (let below = (sound x copy e).below in absurd (omega (arith, below, past)))
+  none_beyond y sound x past v = grind arith
 
   cut_seen : (y : Map) → IsSoundMap (length f.cells) y → (x : ℕ) (c : Bool) → nat_le n x ≡ c →
       value size (truncated n f) (map_punched n (n + length f.cells) y) x ≡ (if c then zeros size else value size f y x)
@@ -160,20 +101,10 @@ module _ (size n : ℕ) (f : File) where
       by_tests : (c d : Bool) → nat_le n x ≡ c → nat_lt x (n + length f.cells) ≡ d
           → by_place size (if nat_le n x && d then without_copy (place_at y x) else place_at y x) (if c then zeros size else look size x f) ≡ (if c then zeros size else value size f y x)
       by_tests true true from to = ap (λ z. by_place size (if z && true then without_copy (place_at y x) else place_at y x) (zeros size)) from ∙ no_copy size (place_at y x) (zeros size)
-      by_tests true false from to =
-          let high = ltb-false x (n + length f.cells) to in
-          ap (λ z. by_place size (if z && false then without_copy (place_at y x) else place_at y x) (zeros size)) from ∙ none_beyond y sound x (omega (arith, high)) (zeros size)
-      by_tests false d from to = ap (λ z. by_place size (if z && d then without_copy (place_at y x) else place_at y x) (look size x f)) from
+      by_tests c d from to = grind (arith, ltb-false, none_beyond, look)
 
   pub truncate_cut : IsCut size f (truncated n f) (map_punched n (n + length f.cells)) (nat_le n)
-  truncate_cut = record {
-    maps = refl;
-    name = refl;
-    shape = λ y. pages_same y y.unmapped (map_punched n (n + length f.cells) y).places (length-edit_range without_copy (n - y.start) (n + length f.cells - y.start) y.places);
-    marks = λ y. refl;
-    cells = λ x. cut_cells x (nat_le n x) refl;
-    seen = λ y sound x. cut_seen y sound x (nat_le n x) refl;
-  }
+  truncate_cut = grind (arith, pages_same, places, length-edit_range, cut_cells, seen, cut_seen)
 
 -- ---- its mount
 
@@ -205,11 +136,7 @@ module _ (size : ℕ) (m : Mount) (sound : IsSoundMount m) (name : List ℕ) (q 
   cut_there j x other old = ap (λ b. cut_off (b && cut x) old) (sym (means j ∙ false_from_ne_true (q.0 == j) (λ e. other (sym (eqb-true q.0 j e)))))
 
   cells_cut : (j x : ℕ) → look size x (file_in after j) ≡ cut_off (means_file (Some m) name j && cut x) (look size x (file_in m j))
-  cells_cut j x = elim (cases_eq j q.0) as (λ _. look size x (file_in after j) ≡ cut_off (means_file (Some m) name j && cut x) (look size x (file_in m j))) [
-    | inl same ↦ subst (λ k. look size x (file_in after k) ≡ cut_off (means_file (Some m) name k && cut x) (look size x (file_in m k))) (sym same)
-        (ap (look size x) file_now ∙ is.cells x ∙ ap (λ f. cut_off (cut x) (look size x f)) (sym file_was) ∙ cut_here x (look size x (file_in m q.0)))
-    | inr other ↦ ap (look size x) (file_other j other) ∙ cut_there j x other (look size x (file_in m j))
-  ]
+  cells_cut j x = grind (arith, cases_eq, look, file_now, file_was, cut_here, file_other, cut_there)
 
   -- the map at a place of the file
   module _ (l : ℕ) (within : l < length q.1.maps) where
@@ -244,13 +171,7 @@ module _ (size : ℕ) (m : Mount) (sound : IsSoundMount m) (name : List ℕ) (q 
       ]
 
   marks_cut : (test : Map → Bool) (p : Spot) → spot m test ≡ Some p → (map_in (file_in m p.file_no) p.map_no).unmapped ≡ true → (map_in (file_in after p.file_no) p.map_no).unmapped ≡ true
-  marks_cut test p found marked =
-      elim (cases_eq p.file_no q.0) as (λ _. (map_in (file_in after p.file_no) p.map_no).unmapped ≡ true) [
-        | inl same ↦ subst (λ k. (map_in (file_in after k) p.map_no).unmapped ≡ true) (sym same)
-            (ap (λ y. y.unmapped) (map_now p.map_no (within_file p test found same)) ∙ is.marks (map_in q.1 p.map_no)
-            ∙ ap (λ f. (map_in f p.map_no).unmapped) (sym file_was) ∙ subst (λ k. (map_in (file_in m k) p.map_no).unmapped ≡ true) same marked)
-        | inr other ↦ ap (λ f. (map_in f p.map_no).unmapped) (file_other p.file_no other) ∙ marked
-      ]
+  marks_cut test p found marked = grind (arith, cases_eq, map_now, within_file, file_was, file_other)
 
   pub same_keys : keys after ≡ keys m
   same_keys =
@@ -284,11 +205,7 @@ module _ (size : ℕ) (m : Mount) (name : List ℕ) (q : ℕ × File) (named : f
 
   -- another name is not that of the file
   not_named : (other : List ℕ) → bytes_eq name other ≡ false → has_name other q.1 ≡ false
-  not_named other apart = by_name q.1.name (found_place (has_name name) m.files q named).passes
-    where
-      by_name : (o : Option (List ℕ)) → (elim o [ None ↦ false | Some n ↦ bytes_eq n name ]) ≡ true → (elim o [ None ↦ false | Some n ↦ bytes_eq n other ]) ≡ false
-      by_name None e = cc
-      by_name (Some n) e = subst (λ k. bytes_eq k other ≡ false) (sym ((bytes_eq-Decides n name).0 e)) apart
+  not_named other apart = grind (arith, found_place, bytes_eq-Decides)
 
   -- the file that was found, and its maps
   abbrev moved : ℕ × File → ℕ × File

@@ -1,16 +1,16 @@
 -- What a script keeps whose events on slots only end maps of one task: a fork's, or an exit's.
-use Rattle.std.proofs.Common.{false, ◌≡◌, ⊎_elim, inl, inr, subst, ℕ, ◌<◌, ◌≤◌, ◌==◌, Option, None, Some, Ok, Err, List, [], ◌∷◌, ◌++◌, length, refl, sym, ap, ◌∙◌, arith}
+use Rattle.std.proofs.Common.{false, ◌≡◌, inl, inr, subst, ℕ, ◌<◌, ◌≤◌, ◌==◌, None, Some, Ok, Err, List, [], ◌∷◌, ◌++◌, length, refl, sym, ap, ◌∙◌, arith}
 use Rattle.std.specs.List.{range_with_len, slice_index_or, slice_set}
 use Rattle.std.proofs.lemmas.Bool.{cases_eq, ltb-true}
 use Rattle.std.proofs.lemmas.List.{get_or-set_other, get_or-set_same}
 use Rattle.hp_model.specs.declared.answer.Answer.TheVariants.{Done}
 use Rattle.hp_model.specs.declared.event.Event.{Event}
-use Rattle.hp_model.specs.declared.event.Event.TheVariants.{Tasks, Slot as OnSlot, Pool as OnPool}
+use Rattle.hp_model.specs.declared.event.Event.TheVariants.{Tasks, Slot as OnSlot}
 use Rattle.hp_model.specs.declared.event.SlotEvent.{SlotEvent}
 use Rattle.hp_model.specs.declared.event.SlotEvent.TheVariants as slot
 use Rattle.hp_model.specs.declared.refusal.Refusal.{Refusal}
 use Rattle.hp_model.specs.declared.step.Step.TheVariants.{Exit, Fork}
-use Rattle.hp_model.specs.machine.Event.{IsEvent, has_maps_of, with_table}
+use Rattle.hp_model.specs.machine.Event.{IsEvent, has_maps_of}
 use Rattle.hp_model.specs.files.File.{Mount}
 use Rattle.hp_model.specs.files.Fork.{file_forked, forked}
 use Rattle.hp_model.specs.files.GiveBack.{file_without, without_task}
@@ -20,17 +20,16 @@ use Rattle.hp_model.specs.machine.Promises.{SameFiles, SameLimits, spot_on}
 use Rattle.hp_model.specs.machine.SlotEvent.{fork_tests, slot_event}
 use Rattle.hp_model.specs.files.Spot.{Spot}
 use Rattle.hp_model.specs.machine.State.{State, slot_at}
-use Rattle.hp_model.specs.machine.Table.{home_of, removed, when_known}
 use Rattle.hp_model.specs.machine.Step.{Answer_with, Do, IsScripted, IsScript, Script, Where_mapped, exit_slots, fork_slots, or_undone, script, undone, when_done}
 use Rattle.hp_laws.specs.Balance.{Always, left_by}
 use Rattle.hp_laws.proofs.names.Changes.{KeptMap, SlotKeeps}
 use Rattle.hp_laws.proofs.counts.Falls.{forked_falls, without_falls}
-use Rattle.hp_laws.proofs.names.FilesStay.{files_same, files_stay, files_then}
+use Rattle.hp_laws.proofs.names.FilesStay.{files_stay, files_then}
 use Rattle.hp_laws.proofs.names.Follows.{both_same}
 use Rattle.hp_laws.proofs.counts.MountMoves.{files_sweep}
 use Rattle.hp_laws.proofs.steps.Outcomes.{either_way, event_ends}
 use Rattle.hp_laws.proofs.accesses.SlotShows.{always_gives, always_unless}
-use Rattle.hp_laws.proofs.ending.Unmaps.{exit_keeps, exit_whole, fork_keeps, fork_whole, same_keeps}
+use Rattle.hp_laws.proofs.ending.Unmaps.{exit_keeps, exit_whole, fork_keeps, fork_whole}
 
 -- ---- one slot
 
@@ -49,33 +48,13 @@ pub record Fades (size gone : ℕ) (x y : Slot) : Type 0 where
   pub files : KeepsFiles x y
 
 module _ (size gone : ℕ) where
-  none_keeps : SlotKeeps size None (slot.ExitMaps gone) None
-  none_keeps = record {
-    names = λ name i f goes_on named. cc;
-    numbers = λ task number i p goes_on found. cc;
-    together = λ a b p o goes_on stays found there. cc;
-  }
-
   pub stays : (x : Slot) → Fades size gone x x
-  stays None = record { keeps = none_keeps; limits = tt; usage = omega arith; whole = λ task number p other found. (p, found, refl, refl); files = files_same None }
-  stays (Some m) =
-      record {
-        keeps = same_keeps size m (slot.ExitMaps gone) (λ j x old. refl) (λ j l x old. refl);
-        limits = refl;
-        usage = omega arith;
-        whole = λ task number p other found. (p, found, refl, refl);
-        files = files_same (Some m);
-      }
+  stays x = grind arith
 
   -- one after the other
   module _ (x y z : Slot) where
     map_then : (p q r : Spot) (i : ℕ) → KeptMap size x (slot.ExitMaps gone) y p q i → KeptMap size y (slot.ExitMaps gone) z q r i → KeptMap size x (slot.ExitMaps gone) z p r i
-    map_then p q r i first second = record {
-      shape = second.shape ∙ first.shape;
-      file = λ name goes_on named. second.file name goes_on (first.file name goes_on named);
-      marked = λ marked. second.marked (first.marked marked);
-      shows = ⊎_elim (λ a. ⊎_elim (λ b. inl (b ∙ a)) (λ lost. absurd lost) second.shows) (λ lost. absurd lost) first.shows;
-    }
+    map_then p q r i first second = grind arith
 
     keeps_then : SlotKeeps size x (slot.ExitMaps gone) y → SlotKeeps size y (slot.ExitMaps gone) z → SlotKeeps size x (slot.ExitMaps gone) z
     keeps_then first second = record {
@@ -93,16 +72,10 @@ module _ (size gone : ℕ) where
     }
 
   limits_then : (x y z : Slot) → SameLimits x y → SameLimits y z → SameLimits x z
-  limits_then None y z a b = tt
-  limits_then (Some m) None z a b = absurd a
-  limits_then (Some m) (Some n) None a b = absurd b
-  limits_then (Some m) (Some n) (Some o) a b = b ∙ a
+  limits_then x y z a b = grind arith
 
   whole_then : (x y z : Slot) → Whole gone x y → Whole gone y z → Whole gone x z
-  whole_then x y z a b task number p other found =
-      let q = a task number p other found in
-      let r = b task number q.0 other q.1 in
-      (r.0, r.1, r.2 ∙ q.2, r.3 ∙ q.3)
+  whole_then x y z a b task number p other found = grind arith
 
   pub fades_then : (x y z : Slot) → Fades size gone x y → Fades size gone y z → Fades size gone x z
   fades_then x y z a b =
@@ -129,12 +102,7 @@ module _ (size gone : ℕ) where
 
   -- a child's maps end by its fork as by its exit
   fork_map : (x y : Slot) (parent : ℕ) (p q : Spot) (i : ℕ) → KeptMap size x (slot.ForkMaps parent gone) y p q i → KeptMap size x (slot.ExitMaps gone) y p q i
-  fork_map x y parent p q i kept = record {
-    shape = kept.shape;
-    file = kept.file;
-    marked = kept.marked;
-    shows = ⊎_elim (λ same. inl same) (λ lost. absurd lost) kept.shows;
-  }
+  fork_map x y parent p q i kept = grind arith
 
   pub fork_fades : (m : Mount) (parent : ℕ) → Fades size gone (Some m) (Some (forked parent gone m))
   fork_fades m parent =
@@ -156,8 +124,7 @@ module _ (size gone : ℕ) where
   FadesTo old (Answered a new) = Fades size gone old new
 
   exits : (k : ℕ) (c : Choice) (old : Slot) → Always (FadesTo old) (slot_event size k c old (slot.ExitMaps gone))
-  exits k c None = tt
-  exits k c (Some m) = always_gives (FadesTo (Some m)) Done (Some m) (Some (without_task gone m)) (exit_fades m)
+  exits k c old = grind (arith, always_gives, exit_fades)
 
   forks : (k : ℕ) (c : Choice) (old : Slot) (parent : ℕ) → Always (FadesTo old) (slot_event size k c old (slot.ForkMaps parent gone))
   forks k c None parent = tt
@@ -215,8 +182,7 @@ module _ (gone : ℕ) where
       slot_fades s k (slot.ForkMaps parent child) reply t
       (λ c. subst (λ x. Always (FadesTo s.page_size gone (slot_at s k)) (slot_event s.page_size k c (slot_at s k) (slot.ForkMaps parent x))) (sym of)
       (forks s.page_size gone k c (slot_at s k) parent)) is
-  event_fades s (OnSlot k other) reply t of is = absurd of
-  event_fades s (OnPool e) reply t of is = absurd of
+  event_fades s e reply t of is = grind arith
 
   all_then : (s m t : State) → AllFade gone s m → AllFade gone m t → AllFade gone s t
   all_then s m t a b = record {
@@ -249,16 +215,14 @@ module _ (gone : ℕ) where
   undone_of done r = exits_of done _ (tt, λ reply. tt)
 
   or_of : (done : List ℕ) (r : Reply) (next : Script) → AllOf next → AllOf (or_undone done gone r next)
-  or_of done (Err r) next all = undone_of done r
-  or_of done (Ok a) next all = all
+  or_of done r next all = grind (arith, undone_of)
 
   forks_of : (ks done : List ℕ) (parent : ℕ) → AllOf (fork_slots ks done parent gone)
   forks_of [] done parent = tt
   forks_of (k ∷ ks) done parent = ((refl, λ r. or_of done r (fork_slots ks (done ++ k ∷ []) parent gone) (forks_of ks (done ++ k ∷ []) parent)), forks_of ks done parent)
 
   when_of : (r : Reply) (next : Script) → AllOf next → AllOf (when_done r next)
-  when_of (Err r) next all = tt
-  when_of (Ok a) next all = all
+  when_of r next all = grind arith
 
 -- ---- fork and exit
 
@@ -283,15 +247,4 @@ exits_done task r t (k ∷ ks) s is = either_way (has_maps_of task (slot_at s k)
 
 -- what a refused exit left is as it was
 pub exit_refused : (s : State) (task : ℕ) (r : Refusal) (t : State) → IsScripted s (Exit task) (Err r) t → t ≡ s
-exit_refused s task r t is = by_home (home_of s.table task) is.0 is.1 is.2.2 is.3
-  where
-    by_home : (o : Option ℕ) (q : Reply) (mid : State) → with_table s (when_known s.table o (λ home. (Ok Done, removed s.table task))) ≡ (q, mid)
-        → IsScript mid (when_done q (exit_slots (range_with_len 0 (length s.slots)) task (Answer_with (Ok Done)))) (Err r) t → t ≡ s
-    by_home None q mid e go =
-        let first = ap (λ (x : Reply × State). x.0) e in
-        let second : s ≡ mid = ap (λ (x : Reply × State). x.1) e in
-        (subst (λ x. IsScript mid (when_done x (exit_slots (range_with_len 0 (length s.slots)) task (Answer_with (Ok Done)))) (Err r) t) (sym first) go).1 ∙ sym second
-    by_home (Some home) q mid e go =
-        let first = ap (λ (x : Reply × State). x.0) e in
-        absurd (exits_done task r t (range_with_len 0 (length s.slots)) mid
-        (subst (λ x. IsScript mid (when_done x (exit_slots (range_with_len 0 (length s.slots)) task (Answer_with (Ok Done)))) (Err r) t) (sym first) go))
+exit_refused s task r t is = grind (arith, exits_done)

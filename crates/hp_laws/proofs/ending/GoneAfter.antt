@@ -1,5 +1,6 @@
 -- What a step ends is gone: after an umount there is no mount, after an unlink no file of the name, and after an exit no map of the task on any slot.
-use Rattle.std.proofs.Common.{◌≡◌, ⊎_elim, subst, ℕ, ◌<◌, ◌==◌, ◌||◌, Bool, true, false, not, None, Option, Some, Ok, Err, List, [], ◌∷◌, length, map, option_map, refl, sym, ap, ◌∙◌, arith}
+use Rattle.std.proofs.lemmas.Grind.{common_steps}
+use Rattle.std.proofs.Common.{◌≡◌, ⊎_elim, subst, ℕ, ◌<◌, ◌==◌, ◌||◌, Bool, true, false, not, None, Some, Ok, Err, List, [], ◌∷◌, length, map, option_map, refl, sym, ap, ◌∙◌, arith}
 use Rattle.std.specs.List.{filter, list_any, range_with_len, slice_index_or, slice_set}
 use Rattle.std.proofs.lemmas.Bool.{cases_eq, cases_lt, eq-eqb, eqb-true, false_from_ne_true, ltb-true}
 use Rattle.std.proofs.lemmas.List.{get_or-set_other, get_or-set_same, get_or_past}
@@ -7,31 +8,26 @@ use Rattle.std.proofs.lemmas.List.Folds.{list_any_at}
 use Rattle.std.proofs.lemmas.List.FromFn.{get_or-range_with_len, length-range_with_len}
 use Rattle.hp_model.specs.declared.answer.Answer.TheVariants.{Done}
 use Rattle.hp_model.specs.declared.event.Event.{Event}
-use Rattle.hp_model.specs.declared.event.Event.TheVariants.{Tasks, Slot as OnSlot, Pool as OnPool}
-use Rattle.hp_model.specs.declared.event.PoolEvent.TheVariants as pool
+use Rattle.hp_model.specs.declared.event.Event.TheVariants.{Slot as OnSlot}
 use Rattle.hp_model.specs.declared.event.SlotEvent.TheVariants as slot
-use Rattle.hp_model.specs.declared.event.TableEvent.TheVariants as table
 use Rattle.hp_model.specs.declared.refusal.Refusal.{Refusal}
-use Rattle.hp_model.specs.declared.refusal.Refusal.TheVariants.{NoSuchTask}
 use Rattle.hp_model.specs.declared.step.Step.{Step}
 use Rattle.hp_model.specs.declared.step.Step.TheVariants as step
-use Rattle.hp_model.specs.files.File.{File, maps_of}
+use Rattle.hp_model.specs.files.File.{File}
 use Rattle.hp_model.specs.files.GiveBack.{file_without, is_kept, without_task}
 use Rattle.hp_model.specs.files.Mapping.{Map, is_map, is_of}
 use Rattle.hp_model.specs.Lists.{is_among}
-use Rattle.hp_model.specs.machine.Event.{IsEvent, has_maps_of, with_table}
+use Rattle.hp_model.specs.machine.Event.{IsEvent, has_maps_of}
 use Rattle.hp_model.specs.machine.Gone.{IsGone}
-use Rattle.hp_model.specs.machine.Named.{named_on, spot_on}
-use Rattle.hp_model.specs.machine.Plan.{Answered, Choice, Outcome, Refused, Reply, Slot, gives}
-use Rattle.hp_model.specs.machine.SlotEvent.{slot_event, umount_tests}
+use Rattle.hp_model.specs.machine.Named.{spot_on}
+use Rattle.hp_model.specs.machine.Plan.{Answered, Choice, Outcome, Refused, Reply, Slot}
+use Rattle.hp_model.specs.machine.SlotEvent.{slot_event}
 use Rattle.hp_model.specs.machine.State.{State, slot_at}
-use Rattle.hp_model.specs.machine.Step.{Answer_with, IsScript, IsScripted, IsStep, exit_slots, when_done}
-use Rattle.hp_model.specs.machine.Table.{home_of, removed, when_known}
+use Rattle.hp_model.specs.machine.Step.{Answer_with, IsScript, IsScripted, IsStep, exit_slots}
 use Rattle.hp_laws.specs.Balance.{left_by}
 use Rattle.hp_laws.proofs.making.FilesMade.{any_in_files, spot_none}
 use Rattle.hp_laws.proofs.making.NewNumbers.{found_not}
 use Rattle.hp_laws.proofs.steps.Outcomes.{Always, event_ends, reply_of}
-use Rattle.hp_laws.proofs.accesses.SlotShows.{always_gives, always_unless}
 use Rattle.hp_laws.proofs.ending.RefusedForks.{either_with, exit_becomes}
 use Rattle.hp_model.specs.machine.Settled.{IsSettledState}
 use Rattle.hp_laws.proofs.sections.PoolTied.{left_sound}
@@ -74,10 +70,7 @@ none_weaker task number (x ∷ xs) none = by_test (is_of task x) refl none (λ r
     by_test false is none rest = rw is (rest (subst (λ b. (b || list_any (is_of task) xs) ≡ false) is none))
 
 pub no_map_of : (task number : ℕ) (x : Slot) → has_maps_of task x ≡ false → spot_on x task number ≡ None
-no_map_of task number None none = refl
-no_map_of task number (Some m) none =
-    let has = λ (f : File). list_any (is_map task number) f.maps in
-    spot_none m (is_map task number) (found_not has m.files (sym (any_in_files (is_map task number) m.files) ∙ none_weaker task number (maps_of m) none))
+no_map_of task number x none = grind (arith, spot_none, found_not, any_in_files, none_weaker)
 
 -- ---- slot by slot
 
@@ -122,46 +115,25 @@ module _ (task : ℕ) where
 
 module _ (s : State) (st : IsSettledState s) where
   pub exit_gone : (task : ℕ) (reply : Reply) (t : State) → IsScripted s (step.Exit task) reply t → IsGone s (step.Exit task) reply t
-  exit_gone task (Err r) t is = tt
-  exit_gone task (Ok a) t is = by_home (home_of s.table task) is.0 is.1 is.2.2 is.3
-    where
-      by_home : (o : Option ℕ) (q : Reply) (mid : State) → with_table s (when_known s.table o (λ home. (Ok Done, removed s.table task))) ≡ (q, mid)
-          → IsScript mid (when_done q (exit_slots (range_with_len 0 (length s.slots)) task (Answer_with (Ok Done)))) (Ok a) t → IsGone s (step.Exit task) (Ok a) t
-      by_home None q mid e go =
-          let first = ap (λ (y : Reply × State). y.0) e in
-          (let never : Ok a ≡ Err NoSuchTask =
-          (subst (λ y. IsScript mid (when_done y (exit_slots (range_with_len 0 (length s.slots)) task (Answer_with (Ok Done)))) (Ok a) t) (sym first) go).0 in cc)
-      by_home (Some home) q mid e go =
-          let first = ap (λ (y : Reply × State). y.0) e in
-          let second : record s { table = removed s.table task } ≡ mid = ap (λ (y : Reply × State). y.1) e in
-          let rest = subst (λ y. IsScript mid (when_done y (exit_slots (range_with_len 0 (length s.slots)) task (Answer_with (Ok Done)))) (Ok a) t) (sym first) go in
-          let u : State = record s { table = removed s.table task } in
-          let all : Clear task mid (range_with_len 0 (length s.slots)) = subst (λ x. Clear task x (range_with_len 0 (length s.slots))) second (all_slots task u) in
-          (λ o number. no_map_of task number (slot_at t o) (exits_clear task (range_with_len 0 (length s.slots)) mid t (Ok a) all rest o))
+  exit_gone task reply t is = grind (arith, all_slots, no_map_of, exits_clear)
 
   abbrev NoMount : Outcome → Type 0
   NoMount (Refused r) = Unit {0}
   NoMount (Answered a new) = new ≡ None
 
   umount_none : (size k : ℕ) (c : Choice) (old : Slot) → Always NoMount (slot_event size k c old slot.Umount)
-  umount_none size k c None = tt
-  umount_none size k c (Some m) = always_unless NoMount (λ r. tt) (umount_tests k m) (gives Done (Some m) None) (always_gives NoMount Done (Some m) None refl)
+  umount_none size k c old = grind arith
 
   umount_gone : (t : State) (k : ℕ) → k < length s.slots → (o : Outcome) → NoMount o → t.slots ≡ slice_set s.slots k (left_by (slot_at s k) o) → IsGone s (step.Umount k) (reply_of o) t
-  umount_gone t k l (Refused r) none slots = tt
-  umount_gone t k l (Answered a new) none slots = ap (λ (xs : List Slot). slice_index_or xs k None) slots ∙ get_or-set_same s.slots k new None l ∙ none
+  umount_gone t k l o none slots = grind (arith, common_steps)
 
   number_gone : (t : State) (k task number a b : ℕ) → k < length s.slots → (o : Outcome) → Ends task number a b (slot_at s k) o → t.slots ≡ slice_set s.slots k (left_by (slot_at s k) o)
       → IsGone s (step.Unmap task k number a b) (reply_of o) t
-  number_gone t k task number a b l (Refused r) ends slots = tt
-  number_gone t k task number a b l (Answered x new) ends slots = λ none.
-      subst (λ y. spot_on y task number ≡ None) (sym (ap (λ (xs : List Slot). slice_index_or xs k None) slots ∙ get_or-set_same s.slots k new None l)) (ends none)
+  number_gone t k task number a b l o ends slots = grind (arith, common_steps)
 
   name_gone : (t : State) (k : ℕ) (name : List ℕ) → k < length s.slots → (o : Outcome) → Nameless name o → t.slots ≡ slice_set s.slots k (left_by (slot_at s k) o)
       → IsGone s (step.Unlink k name) (reply_of o) t
-  name_gone t k name l (Refused r) none slots = tt
-  name_gone t k name l (Answered a new) none slots =
-      ap (λ (xs : List Slot). named_on (slice_index_or xs k None) name) slots ∙ ap (λ x. named_on x name) (get_or-set_same s.slots k new None l) ∙ none
+  name_gone t k name l o none slots = grind (arith, common_steps)
 
   event_gone : (e : Event) (reply : Reply) (t : State) → is_whole e ≡ true → IsEvent s e reply t → IsGone s (step_of e) reply t
   event_gone (OnSlot k slot.Umount) reply t whole is =
@@ -177,20 +149,10 @@ module _ (s : State) (st : IsSettledState s) where
       let old = slot_at s k in
       let ends = event_ends (Ends task number a b old) s k (slot.Unmap task number a b) reply t (λ c. unmap_ends task number a b s.page_size k c old (left_sound s k l st)) is in
       subst (λ r. IsGone s (step.Unmap task k number a b) r t) (sym ends.replied) (number_gone t k task number a b l ends.outcome ends.holds ends.slots)
-  event_gone (OnSlot k (slot.ExitMaps task)) reply t whole is = cc
-  event_gone (OnSlot k (slot.ForkMaps parent child)) reply t whole is = cc
-  event_gone (OnSlot k other) reply t whole is = tt
-  event_gone (Tasks (table.Remove task)) reply t whole is = cc
-  event_gone (Tasks other) reply t whole is = tt
-  event_gone (OnPool pool.Meminfo) reply t whole is = tt
-  event_gone (OnPool other) reply t whole is = tt
+  event_gone e reply t whole is = grind arith
 
   early_gone : (x : Step) (r : Refusal) → IsGone s x (Err r) s
-  early_gone (step.Umount k) r = tt
-  early_gone (step.Exit task) r = tt
-  early_gone (step.Unlink k name) r = tt
-  early_gone (step.Unmap task k number a b) r = tt
-  early_gone other r = tt
+  early_gone x r = grind arith
 
   pub step_gone : (reply : Reply) (t : State) (x : Step) → IsStep s x reply t → IsGone s x reply t
   step_gone reply t x is = by_event s (λ x reply t. IsGone s x reply t) (λ x r early. early_gone x r) event_gone (λ parent child reply t it. tt) exit_gone reply t x is

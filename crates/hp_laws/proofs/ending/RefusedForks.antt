@@ -1,4 +1,5 @@
 -- What a refused fork leaves: the slots are as they were, or without the child's old maps.
+use Rattle.std.proofs.Common.{arith}
 use Rattle.std.proofs.Common.{◌≡◌, ⊎_elim, inl, inr, ◌⊎◌, subst, ℕ, ◌||◌, ◌==◌, ◌&&◌, Bool, true, false, Option, None, Some}
 use Rattle.std.proofs.Common.{is_some, Ok, Err, List, [], ◌∷◌, ◌++◌, length, map, option_map, refl, sym, ap, ◌∙◌, if◌then◌else◌}
 use Rattle.std.specs.Bool.{MatchBool}
@@ -26,7 +27,7 @@ use Rattle.hp_model.specs.declared.section.Section.TheVariants.{GiveBack}
 use Rattle.hp_model.specs.pool.PoolCounts.{Pool}
 use Rattle.hp_model.specs.machine.Promises.{IsForkLeft, LeavesOthers}
 use Rattle.hp_model.specs.machine.Settled.{IsSettledState}
-use Rattle.hp_model.specs.machine.SlotEvent.{fork_tests, slot_event}
+use Rattle.hp_model.specs.machine.SlotEvent.{slot_event}
 use Rattle.hp_model.specs.machine.State.{State, slot_at}
 use Rattle.hp_model.specs.machine.Step.{Answer_with, Do, IsScripted, IsScript, Script, fork_slots, or_undone, undone, when_done}
 use Rattle.hp_model.specs.machine.Table.{Table, added, home_of, is_crowded, is_known, or_refused, removed, when_known}
@@ -35,7 +36,6 @@ use Rattle.hp_model.proofs.RowMoves.{puts_are}
 use Rattle.hp_laws.specs.Balance.{Always, left_by}
 use Rattle.hp_laws.proofs.steps.Outcomes.{either_way, event_ends, reply_of}
 use Rattle.hp_laws.proofs.steps.RefusalsKeep.{refusals_change_nothing}
-use Rattle.hp_laws.proofs.accesses.SlotShows.{always_gives, always_unless}
 use Rattle.hp_laws.proofs.settled.StaysSettled.{event_settled}
 use Rattle.hp_laws.proofs.ending.Swept.{forked_without, swept_twice, twice_without, without_after, without_none}
 use Rattle.hp_laws.proofs.steps.Walk.{plan_unless}
@@ -59,8 +59,7 @@ pub record SameSetting (s t : State) : Type 0 where
   pub overcommit : t.overcommit ≡ s.overcommit
 
 outcome_setting : (s : State) (k : ℕ) (o : Outcome) → SameSetting s (with_outcome s k o).1
-outcome_setting s k (Refused r) = record { table = refl; nr = refl; overcommit = refl }
-outcome_setting s k (Answered a new) = record { table = refl; nr = refl; overcommit = refl }
+outcome_setting s k o = grind arith
 
 pub plan_setting : (s : State) (k : ℕ) (p : Plan) → Gives p → SameSetting s (planned s k p).1
 plan_setting s k (Finish o) h = outcome_setting s k o
@@ -72,8 +71,7 @@ plan_setting s k (Ask sec f) h =
 
 pub event_setting : (s : State) (k : ℕ) (e : SlotEvent) (reply : Reply) (t : State)
     → ((c : Choice) → Gives (slot_event s.page_size k c (slot_at s k) e)) → IsEvent s (OnSlot k e) reply t → SameSetting s t
-event_setting s k e reply t h is =
-    subst (λ (x : Reply × State). SameSetting s x.1) is.2 (plan_setting s k (slot_event s.page_size k is.0 (slot_at s k) e) (h is.0))
+event_setting s k e reply t h is = grind (arith, plan_setting)
 
 -- ---- what becomes of a slot
 
@@ -86,23 +84,16 @@ module _ (child : ℕ) where
   BecomesBy f old (Answered a new) = new ≡ option_map f old
 
   pub exit_becomes : (size k : ℕ) (c : Choice) (old : Slot) → Always (λ o. left_by old o ≡ option_map (without_task child) old) (slot_event size k c old (slot.ExitMaps child))
-  exit_becomes size k c None = refl
-  exit_becomes size k c (Some m) = always_gives (λ o. left_by (Some m) o ≡ Some (without_task child m)) Done (Some m) (Some (without_task child m)) refl
+  exit_becomes size k c old = grind arith
 
   exit_gives : (size k : ℕ) (c : Choice) (old : Slot) → Gives (slot_event size k c old (slot.ExitMaps child))
-  exit_gives size k c None = tt
-  exit_gives size k c (Some m) = gives_back Done (Some m) (Some (without_task child m))
+  exit_gives size k c old = grind (arith, gives_back)
 
   pub fork_becomes : (parent size k : ℕ) (c : Choice) (old : Slot) → Always (BecomesBy (forked parent child) old) (slot_event size k c old (slot.ForkMaps parent child))
-  fork_becomes parent size k c None = tt
-  fork_becomes parent size k c (Some m) =
-      always_unless (BecomesBy (forked parent child) (Some m)) (λ r. tt) (fork_tests c m parent child) (gives Done (Some m) (Some (forked parent child m)))
-      (always_gives (BecomesBy (forked parent child) (Some m)) Done (Some m) (Some (forked parent child m)) refl)
+  fork_becomes parent size k c old = grind arith
 
   fork_gives : (parent size k : ℕ) (c : Choice) (old : Slot) → Gives (slot_event size k c old (slot.ForkMaps parent child))
-  fork_gives parent size k c None = tt
-  fork_gives parent size k c (Some m) = plan_unless Gives (λ r. tt) (fork_tests c m parent child) (gives Done (Some m) (Some (forked parent child m)))
-      (gives_back Done (Some m) (Some (forked parent child m)))
+  fork_gives parent size k c old = grind (arith, plan_unless, gives_back)
 
   -- touched: the child's maps aside it is as it was; and they are there only where it is still to be undone
   record Touched (old new : Slot) (todo : Bool) : Type 0 where
@@ -129,8 +120,7 @@ module _ (child : ℕ) where
 
   -- without them it stays so
   twice : (x : Slot) → without (without x) ≡ without x
-  twice None = refl
-  twice (Some m) = ap Some (without_after child (file_without child) (twice_without child) m)
+  twice x = grind (arith, without_after, twice_without)
 
   cleared : (old now : Slot) (todo : Bool) → Goes old now todo → Touched old (without now) false
   cleared old now todo goes = record { same = twice now ∙ same_without old now todo goes; swept = swept_clear now; clean = inr (twice now) }
@@ -141,19 +131,16 @@ module _ (child : ℕ) where
 
   -- nothing of the child is there
   bare : (now : Slot) → has_maps_of child now ≡ false → option_map swept now ≡ now → without now ≡ now
-  bare None none is = refl
-  bare (Some m) none is = ap Some (without_none child m none) ∙ is
+  bare now none is = grind (arith, without_none)
 
   left : (old new : Slot) → Goes old new false → IsForkLeft child old new
-  left old new (inl same) = inl same
-  left old new (inr touched) = inr (⊎_elim (λ e. cc) (λ clean. sym clean ∙ touched.same) touched.clean)
+  left old new h = grind arith
 
   for_good : (old new : Slot) (todo : Bool) → Touched old new false → Touched old new todo
   for_good old new todo touched = record { same = touched.same; swept = touched.swept; clean = ⊎_elim (λ e. cc) (λ clean. inr clean) touched.clean }
 
   still_to_do : (old new : Slot) (todo more : Bool) → (todo ≡ true → more ≡ true) → Goes old new todo → Goes old new more
-  still_to_do old new todo more h (inl same) = inl same
-  still_to_do old new todo more h (inr touched) = inr (record { same = touched.same; swept = touched.swept; clean = ⊎_elim (λ e. inl (h e)) (λ clean. inr clean) touched.clean })
+  still_to_do old new todo more h h' = grind arith
 
 -- ---- the task table
 
@@ -177,8 +164,7 @@ added_removed child home (x ∷ xs) e = by_test (x.0 == child) refl e (added_rem
 -- ---- a fork under way
 
 pub either_with : {P Q R : Type 0} (b : Bool) → (b ≡ true → P → R) → (b ≡ false → Q → R) → MatchBool b P Q → R
-either_with true f g is = f refl is
-either_with false f g is = g refl is
+either_with b f g is = grind arith
 
 module _ (s : State) (parent child home : ℕ) (unknown : is_known s.table child ≡ false) (t : State) where
   record Forking (todo : List ℕ) (u : State) : Type 0 where
@@ -221,35 +207,12 @@ module _ (s : State) (parent child home : ℕ) (unknown : is_known s.table child
 
   -- where no map of the child is left, there is nothing to be undone
   none_forking : (k : ℕ) (ks : List ℕ) (u : State) → has_maps_of child (slot_at u k) ≡ false → Forking (k ∷ ks) u → Forking ks u
-  none_forking k ks u none forking = record {
-    settled = forking.settled;
-    table = forking.table;
-    nr = forking.nr;
-    overcommit = forking.overcommit;
-    slots = λ o. elim (cases_eq o k) as (λ _. Goes child (slot_at s o) (slot_at u o) (is_among o ks)) [
-      | inl same ↦ subst (λ i. Goes child (slot_at s i) (slot_at u i) (is_among i ks)) (sym same)
-          (⊎_elim (λ as_was. inl as_was)
-          (λ touched. inr (record { same = touched.same; swept = touched.swept; clean = inr (bare child (slot_at u k) none touched.swept) })) (forking.slots k))
-      | inr other ↦ still_to_do child (slot_at s o) (slot_at u o) (is_among o (k ∷ ks)) (is_among o ks) (after_first k o ks other) (forking.slots o)
-    ];
-  }
+  none_forking k ks u none forking = grind (arith, cases_eq, bare, still_to_do, after_first)
 
   -- ---- undone
 
   removes : (u : State) (r : Refusal) (reply : Reply) → Forking [] u → IsScript u (Do (Tasks (table.Remove child)) (λ q. Answer_with (Err r))) reply t → LeavesOthers s child t
-  removes u r reply forking is = by_home (home_of u.table child) (ap (λ x. is_some (home_of x child)) forking.table ∙ find_added child home s.table) is.0 is.1 is.2.2 is.3.1
-    where
-      by_home : (o : Option ℕ) → is_some o ≡ true → (q : Reply) (mid : State) →
-          with_table u (when_known u.table o (λ home. (Ok Done, removed u.table child))) ≡ (q, mid) → t ≡ mid → LeavesOthers s child t
-      by_home None known q mid e same = cc
-      by_home (Some at) known q mid e same =
-          let gone : record u { table = removed u.table child } ≡ mid = ap (λ (x : Reply × State). x.1) e in
-          subst (λ x. LeavesOthers s child x) (gone ∙ sym same) (record {
-            table = ap (λ x. removed x child) forking.table ∙ added_removed child home s.table unknown;
-            nr = forking.nr;
-            overcommit = forking.overcommit;
-            slots = λ k. left child (slot_at s k) (slot_at u k) (forking.slots k);
-          })
+  removes u r reply forking is = grind (arith, find_added, added_removed, left)
 
   undone_leaves : (todo : List ℕ) (r : Refusal) (u : State) (reply : Reply) → Forking todo u → IsScript u (undone todo child r) reply t → LeavesOthers s child t
   undone_leaves [] r u reply forking is = removes u r reply forking is
@@ -332,16 +295,4 @@ fork_refused s st parent child r t is =
 
 -- a fork onto a task that is there changes nothing
 pub fork_known : (s : State) (parent child : ℕ) (r : Refusal) (t : State) → is_known s.table child ≡ true → IsScripted s (Fork parent child) (Err r) t → t ≡ s
-fork_known s parent child r t known is = by_home (home_of s.table parent) is.0 is.1 is.2.2 is.3
-  where
-    left_same : (q : Reply) (mid : State) (x : Refusal) → Err x ≡ q → s ≡ mid → IsScript mid (rest s parent child q) (Err r) t → t ≡ s
-    left_same q mid x first second go = (subst (λ y. IsScript mid (rest s parent child y) (Err r) t) (sym first) go).1 ∙ sym second
-
-    by_home : (o : Option ℕ) (q : Reply) (mid : State)
-        → with_table s (when_known s.table o (λ home. or_refused ((is_known s.table child, TaskExists) ∷ (is_crowded s.table, TooMany) ∷ []) s.table (Ok Done, added s.table child home))) ≡ (q, mid)
-        → IsScript mid (rest s parent child q) (Err r) t → t ≡ s
-    by_home None q mid e go = left_same q mid NoSuchTask (ap (λ (y : Reply × State). y.0) e) (ap (λ (y : Reply × State). y.1) e) go
-    by_home (Some home) q mid e go =
-        let refused : with_table s (Err TaskExists, s.table) ≡ (q, mid) =
-        ap (λ b. with_table s (or_refused ((b, TaskExists) ∷ (is_crowded s.table, TooMany) ∷ []) s.table (Ok Done, added s.table child home))) (sym known) ∙ e in
-        left_same q mid TaskExists (ap (λ (y : Reply × State). y.0) refused) (ap (λ (y : Reply × State). y.1) refused) go
+fork_known s parent child r t known is = grind arith

@@ -1,7 +1,8 @@
 -- Maps of a task go: once is as often, and a child's go with what its fork made.
-use Rattle.std.proofs.Common.{◌≡◌, ℕ, Bool, true, false, not, Some, is_some, List, [], ◌∷◌, ◌++◌, length, map, cond, refl, sym, ap, ◌∙◌, arith, nat_lt}
+use Rattle.std.proofs.lemmas.Grind.{common_steps}
+use Rattle.std.proofs.Common.{◌≡◌, ℕ, Bool, true, false, not, Some, List, [], ◌∷◌, map, cond, refl, sym, ap, ◌∙◌, arith}
 use Rattle.std.specs.List.{filter, list_any}
-use Rattle.std.proofs.lemmas.Bool.{eq-eqb, lt-ltb, or_parts}
+use Rattle.std.proofs.lemmas.Bool.{eq-eqb, or_parts}
 use Rattle.std.proofs.lemmas.List.Elements.{filter-append}
 use Rattle.hp_model.specs.files.File.{File, Mount}
 use Rattle.hp_model.specs.machine.Event.{has_maps_of}
@@ -15,8 +16,7 @@ use Rattle.hp_laws.proofs.making.FilesMade.{any_in_files}
 
 module _ {X : Type 0} (p : X → Bool) where
   kept_head : (x : X) (ys : List X) (b : Bool) → p x ≡ b → filter p (cond b (x ∷ ys) ys) ≡ cond b (x ∷ filter p ys) (filter p ys)
-  kept_head x ys true is = rw is refl
-  kept_head x ys false is = refl
+  kept_head x ys b is = grind arith
 
   -- what is left of what is left
   filter_twice : (xs : List X) → filter p (filter p xs) ≡ filter p xs
@@ -40,26 +40,13 @@ module _ (child : ℕ) where
   none_left (x ∷ xs) = rw (eq-eqb child child refl, none_left xs) refl
 
   pub forked_without : (parent : ℕ) (f : File) → file_without child (file_forked parent child f) ≡ file_without child f
-  forked_without parent f =
-      let old : List Map = filter (is_not_of child) f.maps in
-      let new : List Map = map (map_for child) (filter (is_of parent) f.maps) in
-      ap (λ (ms : List Map). record f { maps = ms })
-      (filter-append (is_not_of child) old new ∙ ap (λ ys. ys ++ filter (is_not_of child) new) (filter_twice (is_not_of child) f.maps)
-      ∙ ap (λ ys. old ++ ys) (none_left (filter (is_of parent) f.maps)) ∙ nothing_more old)
-    where
-      nothing_more : (xs : List Map) → xs ++ [] ≡ xs
-      nothing_more [] = refl
-      nothing_more (x ∷ xs) = ap (λ ys. x ∷ ys) (nothing_more xs)
+  forked_without parent f = grind (arith, common_steps, is_not_of, filter-append, filter_twice, none_left)
 
   pub twice_without : (f : File) → file_without child (file_without child f) ≡ file_without child f
   twice_without f = ap (λ (ms : List Map). record f { maps = ms }) (filter_twice (is_not_of child) f.maps)
 
   gone_without : (f : File) → is_kept f ≡ false → is_kept (file_without child f) ≡ false
-  gone_without f e = (let parts = or_parts (is_some f.name) (nat_lt 0 (length f.maps)) e in rw (parts.0) (none f.maps parts.1))
-    where
-      none : (ms : List Map) → nat_lt 0 (length ms) ≡ false → nat_lt 0 (length (filter (is_not_of child) ms)) ≡ false
-      none [] e = e
-      none (x ∷ xs) e = (let some : nat_lt 0 (length (x ∷ xs)) ≡ true = lt-ltb 0 (length (x ∷ xs)) (omega arith) in cc)
+  gone_without f e = grind (arith, common_steps)
 
   module _ (h : File → File) (same : (f : File) → file_without child (h f) ≡ file_without child f) where
     swept_files : (fs : List File) → filter is_kept (map (file_without child) (filter is_kept (map h fs))) ≡ filter is_kept (map (file_without child) fs)

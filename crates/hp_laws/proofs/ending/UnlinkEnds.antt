@@ -3,14 +3,12 @@ use Rattle.std.proofs.Common.{◌≡◌, ℕ, ◌≤◌, false, None, Some, List
 use Rattle.std.specs.List.{count_by, list_any}
 use Rattle.std.proofs.lemmas.Bool.{false_from_ne_true}
 use Rattle.std.proofs.lemmas.List.Sums.{sum_by-set}
-use Rattle.hp_model.specs.declared.answer.Answer.TheVariants.{Done}
 use Rattle.hp_model.specs.declared.event.SlotEvent.TheVariants as slot
-use Rattle.hp_model.specs.declared.refusal.Refusal.TheVariants.{NoSuchFile}
 use Rattle.hp_model.specs.files.File.{File, Mount, new_file, with_file}
 use Rattle.hp_model.specs.files.GiveBack.{is_kept, swept, unlinked}
 use Rattle.hp_model.specs.machine.Named.{named_on}
 use Rattle.hp_model.specs.machine.Plan.{Answered, Choice, Outcome, Refused, Slot}
-use Rattle.hp_model.specs.machine.SlotEvent.{edited, file_named, has_name, slot_event, unlink}
+use Rattle.hp_model.specs.machine.SlotEvent.{file_named, has_name, slot_event}
 use Rattle.hp_model.specs.machine.Sound.{IsSound, IsSoundMount}
 use Rattle.hp_laws.specs.Balance.{Always}
 use Rattle.hp_laws.proofs.accesses.KeptPlaces.{any_there}
@@ -44,7 +42,4 @@ module _ (name : List ℕ) where
   Nameless (Answered x new) = named_on new name ≡ None
 
   pub unlink_ends : (size k : ℕ) (c : Choice) (old : Slot) → IsSound old → Always Nameless (slot_event size k c old (slot.Unlink name))
-  unlink_ends size k c None sound = tt
-  unlink_ends size k c (Some m) sound =
-      always_value Nameless (λ r. tt) (file_named m name) NoSuchFile (unlink m)
-      (λ q found. always_gives Nameless Done (Some m) (edited m q.0 (unlinked q.1)) (name_ends m sound q found))
+  unlink_ends size k c old sound = grind (arith, always_value, always_gives, name_ends)

@@ -28,21 +28,11 @@ use Rattle.hp_laws.proofs.lists.AtMostOne.{bit, some_counted}
 use Rattle.hp_laws.proofs.accesses.SlotShows.{always_gives, always_unless, always_value}
 
 module _ (task number a b : ℕ) where
-  abbrev test : Map → Bool
-  test y = is_map task number y
-
-  abbrev cut : Map → Map
-  cut y = map_unmapped (is_map task number) a b y
-
   abbrev left : List Map → List Map
   left ms = filter (is_left (is_map task number)) (map (map_unmapped (is_map task number) a b) ms)
 
   same_test : (y : Map) → is_map task number (map_unmapped (is_map task number) a b y) ≡ is_map task number y
-  same_test y = by_test (is_map task number y)
-    where
-      by_test : (c : Bool) → is_map task number (if c then without_range a b y else y) ≡ is_map task number y
-      by_test true = refl
-      by_test false = refl
+  same_test y = grind arith
 
   any_cut : (ms : List Map) → list_any (is_map task number) (map (map_unmapped (is_map task number) a b) ms) ≡ list_any (is_map task number) ms
   any_cut [] = refl
@@ -50,10 +40,7 @@ module _ (task number a b : ℕ) where
       ap (λ c. c || list_any (is_map task number) (map (map_unmapped (is_map task number) a b) xs)) (same_test x) ∙ ap (λ c. is_map task number x || c) (any_cut xs)
 
   none_left : (ms : List Map) → list_any (is_map task number) ms ≡ false → list_any (is_map task number) (left ms) ≡ false
-  none_left ms none =
-      false_from_ne_true (list_any (is_map task number) (left ms))
-      (λ some. (let before = any_filter (is_map task number) (is_left (is_map task number)) (map (map_unmapped (is_map task number) a b) ms) some in
-      let after = sym (any_cut ms) ∙ before in cc))
+  none_left ms none = grind (arith, false_from_ne_true, any_filter, any_cut)
 
   counted : (ms : List Map) → list_any (is_map task number) ms ≡ true → 1 ≤ count_by (is_map task number) ms
   counted ms some = (let there = any_there (is_map task number) no_map ms some in some_counted (is_map task number) no_map ms there.0 there.1 there.2)
@@ -93,9 +80,6 @@ module _ (task number a b : ℕ) where
           by_keep false some = some
 
   -- ---- files
-
-  abbrev has : File → Bool
-  has f = list_any (is_map task number) f.maps
 
   abbrev cut_file : File → File
   cut_file f = file_unmapped (is_map task number) a b f

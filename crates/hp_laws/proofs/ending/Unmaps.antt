@@ -1,7 +1,8 @@
 -- What names and numbers mean after a range of a map is unmapped, and where maps of a task go or are made for a child.
-use Rattle.std.proofs.Common.{◌≡◌, inl, subst, ℕ, ◌-◌, ◌&&◌, ◌==◌, Bool, true, false, not, Option, None, Some, List, [], ◌∷◌, map, refl, sym, ap, ◌∙◌, if◌then◌else◌}
-use Rattle.std.specs.List.{list_any}
-use Rattle.std.proofs.lemmas.Bool.{and_parts, cond_both, eq-eqb, eqb-false, eqb-true, false_from_ne_true, or_left, or_right}
+use Rattle.std.proofs.Common.{arith}
+use Rattle.std.proofs.lemmas.Grind.{common_steps}
+use Rattle.std.proofs.Common.{◌≡◌, inl, subst, ℕ, ◌&&◌, ◌==◌, Bool, true, false, not, Option, None, Some, List, [], ◌∷◌, map, refl, sym, ap, ◌∙◌, if◌then◌else◌}
+use Rattle.std.proofs.lemmas.Bool.{and_parts, eq-eqb, eqb-false, eqb-true, false_from_ne_true, or_left, or_right}
 use Rattle.hp_model.specs.declared.event.SlotEvent.{SlotEvent}
 use Rattle.hp_model.specs.declared.event.SlotEvent.TheVariants as slot
 use Rattle.hp_model.specs.declared.place.Place.TheVariants.{Gone}
@@ -13,8 +14,7 @@ use Rattle.hp_model.specs.files.Mapping.{Map, is_map, is_mapped, no_map, place_a
 use Rattle.hp_model.specs.machine.Promises.{file_in, is_at, is_in, map_in, map_on, seen_on, shape_of, shown_on, stays_mapped}
 use Rattle.hp_model.specs.files.Spot.{Spot, spot}
 use Rattle.hp_model.specs.files.Value.{value}
-use Rattle.hp_model.proofs.Editing.{length-edit_range}
-use Rattle.hp_laws.proofs.names.Accessed.{get_mapped, key_map, pages_same}
+use Rattle.hp_laws.proofs.names.Accessed.{get_mapped, key_map}
 use Rattle.hp_laws.proofs.names.ByPlace.{PlaceKeeps, by_place}
 use Rattle.hp_laws.proofs.names.Changes.{LosesBy, SlotKeeps, ends_number, seen_by, stored_by}
 use Rattle.hp_laws.proofs.ending.Cuts.{place_ranged}
@@ -30,13 +30,10 @@ use Rattle.hp_laws.proofs.accesses.Shown as shows
 
 -- a map that is found passes
 pub spot_passes : (m : Mount) (test : Map → Bool) (s : Spot) → spot m test ≡ Some s → test s.map ≡ true
-spot_passes m test s e =
-    let there = some_file m test (found (λ (f : File). list_any test f.maps) m.files) s (sym (spot_in_file m test) ∙ e) in
-    ap (λ (y : Spot). test y.map) (sym there.2.2) ∙ (found_place test there.0.1.maps there.2.0 there.2.1).passes
+spot_passes m test s e = grind (arith, some_file, spot_in_file, found_place)
 
 not_not : (c : Bool) → not c ≡ false → c ≡ true
-not_not true e = refl
-not_not false e = cc
+not_not c e = grind arith
 
 twice : {X : Type 0} (f g : X → X) (xs : List X) → map g (map f xs) ≡ map (λ x. g (f x)) xs
 twice f g [] = refl
@@ -57,9 +54,7 @@ module _ (size : ℕ) (m : Mount) (task number a b : ℕ) where
   middle = record m { files = map cut_file m.files }
 
   cut_shape : (y : Map) → shape_of (cut y) ≡ shape_of y
-  cut_shape y =
-      cond_both (test y) (without_range a b y) y (λ z. shape_of z ≡ shape_of y)
-      (λ e. pages_same y y.unmapped (without_range a b y).places (length-edit_range (λ p. Gone) (a - y.start) (b - y.start) y.places)) (λ e. refl)
+  cut_shape y = grind (arith, common_steps)
 
   same_keys : keys middle ≡ keys m
   same_keys = key_map file_key cut_file (λ f. ap (λ ks. (f.name, ks)) (key_map shape_of cut cut_shape f.maps)) m.files
@@ -76,11 +71,7 @@ module _ (size : ℕ) (m : Mount) (task number a b : ℕ) where
 
     -- it is the one of the event's number where it passes the event's test
     same_number : test p.map ≡ true → spot m (is_map task number) ≡ Some p
-    same_number on =
-        let here = and_parts (p.map.task == task) (p.map.number == number) on in
-        let mine = and_parts (p.map.task == t) (p.map.number == u) (spot_passes m (is_map t u) p e) in
-        subst (λ x. spot m (is_map x number) ≡ Some p) (sym (eqb-true p.map.task t mine.0) ∙ eqb-true p.map.task task here.0)
-        (subst (λ x. spot m (is_map t x) ≡ Some p) (sym (eqb-true p.map.number u mine.1) ∙ eqb-true p.map.number number here.1) e)
+    same_number on = grind (arith, and_parts, spot_passes, eqb-true)
 
     agrees : is_at (spot m (is_map task number)) p.file_no p.map_no ≡ test p.map
     agrees = by_test (test p.map) refl
@@ -198,14 +189,7 @@ module _ (size : ℕ) (m : Mount) (task number a b : ℕ) where
 module _ (size : ℕ) (m : Mount) (e : SlotEvent) (stores : (j x : ℕ) (old : List ℕ) → old ≡ stored_by size (Some m) e j x old)
     (sees : (j l x : ℕ) (old : List ℕ) → old ≡ seen_by size (Some m) e j l x old) where
   pub same_keeps : SlotKeeps size (Some m) e (Some m)
-  same_keeps =
-      by_place size m m e (record {
-        names = λ name f goes_on named. (f, named, refl);
-        numbers = λ task number p goes_on found. (p, found, refl);
-        cells = λ j x. stores j x (shown_on size (Some m) j x);
-        maps = λ task number x p found. inl (sees p.file_no p.map_no x (seen_on size (Some m) p.file_no p.map_no x));
-        marks = λ task number p found marked. marked;
-      })
+  same_keeps = grind arith
 
   -- but for the maps of a task, of which the numbers end
   module _ (gone : ℕ) (h : File → File) (each : FilesFollow h (is_not_of gone)) (ends : (t u : ℕ) → ends_number (Some m) e t u ≡ (gone == t))
@@ -214,10 +198,7 @@ module _ (size : ℕ) (m : Mount) (e : SlotEvent) (stores : (j x : ℕ) (old : L
     others = record m { files = map h m.files }
 
     not_gone : (t u : ℕ) (q : Spot) → ends_number (Some m) e t u ≡ false → spot m (is_map t u) ≡ Some q → is_not_of gone q.map ≡ true
-    not_gone t u q goes_on found =
-        let mine = eqb-true q.map.task t (and_parts (q.map.task == t) (q.map.number == u) (spot_passes m (is_map t u) q found)).0 in
-        let apart : (gone == t) ≡ false = sym (ends t u) ∙ goes_on in
-        ap not (false_from_ne_true (q.map.task == gone) (λ same. eqb-false gone t apart (sym (eqb-true q.map.task gone same) ∙ mine)))
+    not_gone t u q goes_on found = grind (arith, eqb-true, and_parts, spot_passes, false_from_ne_true, eqb-false)
 
     pub task_keeps : SlotKeeps size (Some m) e (Some (swept others))
     task_keeps =

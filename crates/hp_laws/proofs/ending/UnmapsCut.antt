@@ -1,14 +1,13 @@
 -- An unmap takes its range from the map that it names, and leaves the places of all other maps and the cells of all files.
-use Rattle.std.proofs.Common.{◌≡◌, subst, ℕ, ◌<◌, ◌&&◌, ◌==◌, Bool, true, false, None, Some, Err, List, [], ◌∷◌, length, refl, sym, ap, ◌∙◌, if◌then◌else◌}
-use Rattle.std.specs.List.{slice_index_or, slice_set}
+use Rattle.std.proofs.Common.{arith}
+use Rattle.std.proofs.Common.{◌≡◌, subst, ℕ, ◌<◌, ◌&&◌, ◌==◌, Bool, true, false, None, Some, Err, [], ◌∷◌, length, sym, ap, ◌∙◌, if◌then◌else◌}
+use Rattle.std.specs.List.{slice_set}
 use Rattle.std.proofs.lemmas.Bool.{and_parts, eq-eqb, eqb-true, ltb-true}
 use Rattle.std.proofs.lemmas.List.{get_or-set_same}
 use Rattle.hp_model.specs.declared.answer.Answer.TheVariants.{Done}
 use Rattle.hp_model.specs.declared.event.Event.{Event}
-use Rattle.hp_model.specs.declared.event.Event.TheVariants.{Tasks, Slot as OnSlot, Pool as OnPool}
-use Rattle.hp_model.specs.declared.event.PoolEvent.TheVariants as pool
+use Rattle.hp_model.specs.declared.event.Event.TheVariants.{Slot as OnSlot}
 use Rattle.hp_model.specs.declared.event.SlotEvent.TheVariants as slot
-use Rattle.hp_model.specs.declared.event.TableEvent.TheVariants as table
 use Rattle.hp_model.specs.declared.place.Place.TheVariants.{Gone}
 use Rattle.hp_model.specs.declared.refusal.Refusal.{Refusal}
 use Rattle.hp_model.specs.declared.refusal.Refusal.TheVariants.{NoSuchMap, OutOfRange}
@@ -43,12 +42,10 @@ module _ (owner gone a b : ℕ) where
   CutsTo old (Answered x new) = Cuts old new
 
   cut_places : (c : Bool) (y : Map) (i : ℕ) → place_at (if c then without_range a b y else y) i ≡ (if c && is_in a b i then Gone else place_at y i)
-  cut_places true y i = place_ranged (λ p. Gone) refl a b y i
-  cut_places false y i = refl
+  cut_places c y i = grind (arith, place_ranged)
 
   same_mark : (c : Bool) (y : Map) → (if c then without_range a b y else y).unmapped ≡ y.unmapped
-  same_mark true y = refl
-  same_mark false y = refl
+  same_mark c y = grind arith
 
   unmap_leaves : (size k : ℕ) (c : Choice) (old : Slot) → Always (CutsTo old) (slot_event size k c old (slot.Unmap owner gone a b))
   unmap_leaves size k c None = tt
@@ -76,27 +73,16 @@ module _ (s : State) where
   step_cuts : (t : State) (k owner gone a b : ℕ) → k < length s.slots → (o : Outcome) → CutsTo owner gone a b (slot_at s k) o → t.slots ≡ slice_set s.slots k (left_by (slot_at s k) o)
       → Unmaps s (step.Unmap owner k gone a b) (reply_of o) t
   step_cuts t k owner gone a b l (Refused r) h slots = tt
-  step_cuts t k owner gone a b l (Answered x new) h slots = λ task number p stays found.
-      (let there : slot_at t k ≡ new = ap (λ (xs : List Slot). slice_index_or xs k None) slots ∙ get_or-set_same s.slots k new None l in
-      let here : ends_number (slot_at s k) (slot.Unmap owner gone a b) task number ≡ false =
-      ap (λ c. c && ends_number (slot_at s k) (slot.Unmap owner gone a b) task number) (sym (eq-eqb k k refl)) ∙ stays in
-      subst (λ (y : Slot). (q : Spot) × (spot_on y task number ≡ Some q) × IsCutTo ((task == owner) && (number == gone)) a b p q) (sym there) (h task number p here found))
+  step_cuts t k owner gone a b l (Answered x new) h slots = grind (arith, get_or-set_same, ends_number, eq-eqb)
 
   event_cuts : (e : Event) (reply : Reply) (t : State) → is_whole e ≡ true → IsEvent s e reply t → Unmaps s (step_of e) reply t
   event_cuts (OnSlot k (slot.Unmap owner gone a b)) reply t whole is =
       let ends = event_ends (CutsTo owner gone a b (slot_at s k)) s k (slot.Unmap owner gone a b) reply t (λ c. unmap_leaves owner gone a b s.page_size k c (slot_at s k)) is in
       subst (λ r. Unmaps s (step.Unmap owner k gone a b) r t) (sym ends.replied) (step_cuts t k owner gone a b (ltb-true k (length s.slots) is.1.0) ends.outcome ends.holds ends.slots)
-  event_cuts (OnSlot k (slot.ForkMaps parent child)) reply t whole is = cc
-  event_cuts (OnSlot k (slot.ExitMaps task)) reply t whole is = cc
-  event_cuts (OnSlot k other) reply t whole is = tt
-  event_cuts (Tasks (table.Add task home)) reply t whole is = tt
-  event_cuts (Tasks other) reply t whole is = tt
-  event_cuts (OnPool pool.Meminfo) reply t whole is = tt
-  event_cuts (OnPool other) reply t whole is = tt
+  event_cuts e reply t whole is = grind arith
 
   early_cuts : (x : Step) (r : Refusal) → Unmaps s x (Err r) s
-  early_cuts (step.Unmap owner k gone a b) r = tt
-  early_cuts other r = tt
+  early_cuts x r = grind arith
 
   pub step_unmaps : (reply : Reply) (t : State) (x : Step) → IsStep s x reply t → Unmaps s x reply t
   step_unmaps reply t x is =

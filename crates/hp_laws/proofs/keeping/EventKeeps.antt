@@ -1,22 +1,20 @@
 -- A step leaves on its own slot the places of maps and the cells of files as they were, but for what it reaches.
-use Rattle.std.proofs.Common.{◌≡◌, ⊎_elim, inl, inr, ◌⊎◌, ℕ, ◌+◌, ◌-◌, ◌<◌, Bool, true, false, ◌&&◌, ◌==◌, not, replicate, take, ◌≤◌}
-use Rattle.std.proofs.Common.{Option, None, Some, is_some, Ok, Err, List, [], ◌∷◌, length, get_or, refl, sym, ap, ◌∙◌, subst, arith, if◌then◌else◌, nat_le, nat_lt}
-use Rattle.std.specs.List.{slice_index_or, slice_set}
+use Rattle.std.proofs.lemmas.Grind.{common_steps}
+use Rattle.std.proofs.Common.{◌≡◌, ⊎_elim, inl, inr, ◌⊎◌, ℕ, ◌+◌, ◌-◌, ◌<◌, Bool, true, false, ◌&&◌, ◌==◌, not, replicate, ◌≤◌}
+use Rattle.std.proofs.Common.{Option, None, Some, is_some, Err, List, [], ◌∷◌, length, get_or, refl, sym, ap, ◌∙◌, subst, arith, if◌then◌else◌, nat_le, nat_lt}
+use Rattle.std.specs.List.{slice_set}
 use Rattle.std.specs.Str.{bytes_eq}
 use Rattle.std.proofs.lemmas.Bool.{cases_eq, cases_lt, eqb-true, leb-false, leb-true, ltb-false, ltb-true}
 use Rattle.std.proofs.lemmas.List.{get_or-set_other, get_or-set_same, get_or-take, get_or_append_left, get_or_past, length-append, length-replicate, length-take}
 use Rattle.std.proofs.lemmas.List.Elements.{All-get_or}
 use Rattle.hp_model.specs.declared.answer.Answer.{Answer}
-use Rattle.hp_model.specs.declared.event.PoolEvent.{PoolEvent}
 use Rattle.hp_model.specs.declared.answer.Answer.TheVariants.{Done, MapNo}
 use Rattle.hp_model.specs.declared.cell.Cell.{Cell}
 use Rattle.hp_model.specs.declared.cell.Cell.TheVariants.{Hole}
 use Rattle.hp_model.specs.declared.event.Event.{Event}
-use Rattle.hp_model.specs.declared.event.Event.TheVariants.{Tasks, Slot as OnSlot, Pool as OnPool}
-use Rattle.hp_model.specs.declared.event.PoolEvent.TheVariants as pool
+use Rattle.hp_model.specs.declared.event.Event.TheVariants.{Slot as OnSlot}
 use Rattle.hp_model.specs.declared.event.SlotEvent.{SlotEvent}
 use Rattle.hp_model.specs.declared.event.SlotEvent.TheVariants as slot
-use Rattle.hp_model.specs.declared.event.TableEvent.TheVariants as table
 use Rattle.hp_model.specs.declared.refusal.Refusal.{Refusal}
 use Rattle.hp_model.specs.declared.refusal.Refusal.TheVariants.{BeyondEnd, OutOfMemory, OutOfRange, MountFull}
 use Rattle.hp_model.specs.declared.step.Intent.{Intent}
@@ -25,8 +23,8 @@ use Rattle.hp_model.specs.declared.step.Reserving.{Reserving}
 use Rattle.hp_model.specs.declared.step.Sharing.{Sharing}
 use Rattle.hp_model.specs.declared.step.Step.{Step}
 use Rattle.hp_model.specs.declared.step.Step.TheVariants as step
-use Rattle.hp_model.specs.declared.step.Reserving.TheVariants.{NoReserve, Reserve}
-use Rattle.hp_model.specs.declared.step.Sharing.TheVariants.{Private, Shared}
+use Rattle.hp_model.specs.declared.step.Reserving.TheVariants.{Reserve}
+use Rattle.hp_model.specs.declared.step.Sharing.TheVariants.{Shared}
 use Rattle.hp_model.specs.files.Access.{access}
 use Rattle.hp_model.specs.files.File.{File, Mount, at_least, cell_at, cell_punched, entered, has_page, new_file, with_file}
 use Rattle.hp_model.specs.Lists.{edit_range}
@@ -88,8 +86,7 @@ module _ (m : Mount) (sound : IsSoundMount m) (k : ℕ) (name : List ℕ) (q : �
   bare = with_file m q.0 (unlinked q.1)
 
   no_not : (b : Bool) → not b ≡ true → b ≡ false
-  no_not true e = cc
-  no_not false e = refl
+  no_not b e = grind arith
 
   unlink_kept : Keeps (Some m) (step.Unlink k name) (Some (swept bare))
   unlink_kept =
@@ -106,21 +103,11 @@ module _ (m : Mount) (sound : IsSoundMount m) (k : ℕ) (name : List ℕ) (q : �
     cut_file = truncated n q.1
 
     past_cell : (i : ℕ) (c : Bool) → nat_le n i ≡ c → (cell_at cut_file i ≡ cell_at q.1 i) ⊎ ((nat_le n i ≡ true) × (cell_at cut_file i ≡ Hole))
-    past_cell i true past =
-        let long = length-take n q.1.cells in
-        let from = leb-true n i past in
-        inr (past, cell_kept 0 n q.1 i ∙ get_or_past (take n q.1.cells) i Hole (omega (arith, long, from)))
-    past_cell i false below = inl (cell_kept 0 n q.1 i ∙ get_or-take n q.1.cells i Hole (leb-false n i below))
+    past_cell i c past = grind (arith, length-take, leb-true, cell_kept, get_or_past, get_or-take, leb-false)
 
     past_place : (y : Map) (i : ℕ) → (place_at (map_punched n (n + length q.1.cells) y) i ≡ place_at y i)
         ⊎ ((nat_le n i ≡ true) × (place_at (map_punched n (n + length q.1.cells) y) i ≡ without_copy (place_at y i)))
-    past_place y i = by_tests (nat_le n i) (nat_lt i (n + length q.1.cells)) (place_ranged without_copy refl n (n + length q.1.cells) y i)
-      where
-        by_tests : (c d : Bool) → place_at (map_punched n (n + length q.1.cells) y) i ≡ (if c && d then without_copy (place_at y i) else place_at y i)
-            → (place_at (map_punched n (n + length q.1.cells) y) i ≡ place_at y i) ⊎ ((c ≡ true) × (place_at (map_punched n (n + length q.1.cells) y) i ≡ without_copy (place_at y i)))
-        by_tests true true e = inr (refl, e)
-        by_tests true false e = inl e
-        by_tests false d e = inl e
+    past_place y i = grind (arith, place_ranged)
 
     truncate_kept : Keeps (Some m) (step.Truncate k name n) (Some (swept (with_file m q.0 cut_file)))
     truncate_kept =
@@ -134,8 +121,7 @@ module _ (m : Mount) (sound : IsSoundMount m) (k : ℕ) (name : List ℕ) (q : �
     holed = punched a b q.1
 
     in_range : {X : Type 0} (c : Bool) (new old cut : X) → new ≡ (if c then cut else old) → (new ≡ old) ⊎ ((c ≡ true) × (new ≡ cut))
-    in_range true new old cut e = inr (refl, e)
-    in_range false new old cut e = inl e
+    in_range c new old cut e = grind arith
 
     punch_kept : Keeps (Some m) (step.Punch k name a b) (Some (swept (with_file m q.0 holed)))
     punch_kept =
@@ -157,11 +143,7 @@ module _ (m : Mount) (task k : ℕ) (name : List ℕ) (a n : ℕ) (q : ℕ × Fi
 
   entered_cell : (i : ℕ) (c d : Bool) → nat_le a i ≡ c → nat_lt i (a + n) ≡ d
       → (get_or (edit_range entered a (a + n) long) i Hole ≡ cell_at q.1 i) ⊎ ((is_in a (a + n) i ≡ true) × (get_or (edit_range entered a (a + n) long) i Hole ≡ entered (cell_at q.1 i)))
-  entered_cell i true true from to =
-      let low = leb-true a i from in
-      let high = ltb-true i (a + n) to in
-      let pages : i < length long = omega (arith, high, length-append q.1.cells (replicate (a + n - length q.1.cells) Hole), length-replicate {A = Cell Page} (a + n - length q.1.cells) Hole) in
-      inr (ap (λ b. b && nat_lt i (a + n)) from ∙ to, get_or-edit_in entered a (a + n) long i Hole low high pages ∙ ap entered (long_cell i))
+  entered_cell i true true from to = grind (arith, leb-true, ltb-true, length-append, length-replicate, get_or-edit_in, long_cell)
   entered_cell i true false from to = inl (ranged_out entered a (a + n) long i Hole (inr (ltb-false i (a + n) to)) ∙ long_cell i)
   entered_cell i false d from to = inl (ranged_out entered a (a + n) long i Hole (inl (leb-false a i from)) ∙ long_cell i)
 
@@ -170,10 +152,8 @@ module _ (m : Mount) (task k : ℕ) (name : List ℕ) (a n : ℕ) (q : ℕ × Fi
 
   map_cell : (number : ℕ) (sharing : Sharing) (reserving : Reserving) (i : ℕ)
       → (cell_at (mapped task number a n sharing reserving q.1) i ≡ cell_at q.1 i) ⊎ MapCell sharing reserving q.0 i (cell_at q.1 i) (cell_at (mapped task number a n sharing reserving q.1) i)
-  map_cell number Shared Reserve i =
-      ⊎_elim (λ same. inl same) (λ on. inr (ap (λ b. b && is_in a (a + n) i) (means_it m name q named q.1) ∙ on.0, on.1)) (entered_cell i (nat_le a i) (nat_lt i (a + n)) refl refl)
-  map_cell number Shared NoReserve i = inl (long_cell i)
-  map_cell number Private reserving i = inl (long_cell i)
+  map_cell number Shared Reserve i = grind (arith, means_it, entered_cell)
+  map_cell number sharing reserving i = grind (arith, long_cell)
 
   map_kept : (sharing : Sharing) (reserving : Reserving)
       → Keeps (Some m) (step.Map task k name a n sharing reserving) (Some (with_file m q.0 (mapped task (next_number task m) a n sharing reserving q.1)))
@@ -212,8 +192,7 @@ module _ (m : Mount) (k size : ℕ) (name : List ℕ) (a b : ℕ) (pages : List 
 -- ---- accesses
 
 some_copy : (o : Option Copy) → is_some o ≡ true → (copy : Copy) × (o ≡ Some copy)
-some_copy None e = cc
-some_copy (Some copy) e = (copy, refl)
+some_copy o e = grind arith
 
 spot_sound : (n : Mount) (sound : IsSoundMount n) (q : Spot) → IsSpot n q → IsSoundMap (length q.file.cells) q.map
 spot_sound n sound q at =
@@ -223,9 +202,6 @@ spot_sound n sound q at =
 module _ (size : ℕ) (m : Mount) (sound : IsSoundMount m) (task number i : ℕ) (intent : Intent) (s : Spot) (found : spot m (is_map task number) ≡ Some s) where
   abbrev at : IsSpot m s
   at = spot_is m (is_map task number) s found
-
-  abbrev Holds : Mount → Type 0
-  Holds n = Held size m sound s at i intent n
 
   module _ (n : Mount) (held : Held size m sound s (spot_is m (is_map task number) s found) i intent n) (stays : Placed m n) (whole : IsSoundMount n) (x : Step)
       (as_spent : (p q : Spot) (j : ℕ) → IsSpent (spot m (is_map task number)) i p q j → ChangesPlace (Some m) x (Some n) p q j)
@@ -306,24 +282,16 @@ module _ (size k : ℕ) (c : Choice) (m : Mount) (sound : IsSoundMount m) where
   KeptIf x n = keys n ≡ keys m → IsSoundMount n → Keeps (Some m) x (Some n)
 
   joined : (x : Step) (o : Outcome) → On (KeptIf x) o → On Stays o → KeepsTo (Some m) x o
-  joined x (Refused r) h stays = tt
-  joined x (Answered a None) h stays = absurd h
-  joined x (Answered a (Some n)) h stays = λ whole. h stays whole
+  joined x o h stays = grind arith
 
   both_on : (P Q : Mount → Type 0) (o : Outcome) → On P o → On Q o → On (λ n. P n × Q n) o
-  both_on P Q (Refused r) p q = tt
-  both_on P Q (Answered a None) p q = absurd p
-  both_on P Q (Answered a (Some n)) p q = (p, q)
+  both_on P Q o p q = grind arith
 
   module _ (task home number i : ℕ) where
     fault_kept : (intent : Intent) (s : Spot) (found : spot m (is_map task number) ≡ Some s) (n : Mount) → Held size m sound s (spot_is m (is_map task number) s found) i intent n
         → KeptIf (step.Fault task k number i intent) n
-    fault_kept Read s found n held same whole =
-        access_kept size m sound task number i Read s found n held (placed_same m n same) whole (step.Fault task k number i Read)
-        (λ p q j own. own) (λ p q j writes taken. (let never : Read ≡ Write = writes in cc)) (λ file j old new to. to) (λ p q writes lost. (let never : Read ≡ Write = writes in cc))
-    fault_kept Write s found n held same whole =
-        access_kept size m sound task number i Write s found n held (placed_same m n same) whole (step.Fault task k number i Write)
-        (λ p q j own. inl own) (λ p q j writes taken. inr taken) (λ file j old new to. to) (λ p q writes lost. lost)
+    fault_kept Read s found n held same whole = grind (arith, access_kept, placed_same)
+    fault_kept Write s found n held same whole = grind (arith, access_kept, placed_same)
 
     module _ (s : Spot) (found : spot m (is_map task number) ≡ Some s) where
       abbrev there : IsSpot m s
@@ -372,14 +340,10 @@ module _ (size k : ℕ) (c : Choice) (m : Mount) (sound : IsSoundMount m) where
   given x n h = always_gives (KeepsTo (Some m) x) Done (Some m) (Some n) (λ whole. h)
 
   refused_kept : (e : SlotEvent) (r : Refusal) → KeepsOn (Some m) k e (Refused r)
-  refused_kept (slot.Unmap task number a b) r = files_same (Some m)
-  refused_kept other r = tt
+  refused_kept e r = grind (arith, files_same)
 
   told_kept : (e : SlotEvent) (a : Answer) → tells_all e ≡ true → KeepsOn (Some m) k e (Answered a (Some m))
-  told_kept slot.Df a told = λ whole. same_keeps (Some m) (step.Df k)
-  told_kept slot.Ls a told = λ whole. same_keeps (Some m) (step.Ls k)
-  told_kept (slot.Stat name) a told = λ whole. same_keeps (Some m) (step.Stat k name)
-  told_kept other a told = cc
+  told_kept e a told = grind (arith, same_keeps)
 
   kept_walks : Walks size k c m (λ e. Always (KeepsOn (Some m) k e))
   kept_walks = record {
@@ -439,55 +403,22 @@ slot_kept size k c (Some m) e sound =
 module _ (s : State) (st : IsSettledState s) (t : State) (tt_sound : (k : ℕ) → IsSound (slot_at t k)) where
   own_slot : (x : Step) (k : ℕ) (a : Answer) (y : Slot) → k < length s.slots → t.slots ≡ slice_set s.slots k y → KeepsTo (slot_at s k) x (Answered a y)
       → (o : ℕ) → (k == o) ≡ true → Keeps (slot_at s o) x (slot_at t o)
-  own_slot x k a y l slots keeps o on =
-      let there : slot_at t k ≡ y = ap (λ (xs : List Slot). slice_index_or xs k None) slots ∙ get_or-set_same s.slots k y None l in
-      subst (λ z. Keeps (slot_at s z) x (slot_at t z)) (eqb-true k o on)
-      (subst (λ z. Keeps (slot_at s k) x z) (sym there) (keeps (subst IsSound there (tt_sound k))))
+  own_slot x k a y l slots keeps o on = grind (arith, get_or-set_same, eqb-true)
 
   outcome_kept : (k : ℕ) (e : SlotEvent) (o : Outcome) → is_whole (OnSlot k e) ≡ true → k < length s.slots → t.slots ≡ slice_set s.slots k (left_by (slot_at s k) o)
       → KeepsOn (slot_at s k) k e o → KeepsOwn s (slot_step k e) (reply_of o) t
-  outcome_kept k (slot.Unmap task number a b) o whole l slots keeps = λ z.
-      subst (λ (xs : List Slot). KeepsFiles (slot_at s z) (slice_index_or xs z None)) (sym slots)
-      (⊎_elim
-      (λ same. subst (λ i. KeepsFiles (slot_at s i) (slice_index_or (slice_set s.slots k (left_by (slot_at s k) o)) i None)) (sym same)
-      (subst (λ x. KeepsFiles (slot_at s k) x) (sym (get_or-set_same s.slots k (left_by (slot_at s k) o) None l)) keeps))
-      (λ other. subst (λ x. KeepsFiles (slot_at s z) x) (sym (get_or-set_other s.slots k z (left_by (slot_at s k) o) None other)) (files_same (slot_at s z)))
-      (cases_eq z k))
-  outcome_kept k (slot.ForkMaps parent child) o whole l slots keeps = cc
-  outcome_kept k (slot.ExitMaps task) o whole l slots keeps = cc
-  outcome_kept k e (Refused r) whole l slots keeps = tt
-  outcome_kept k (slot.Anon task home n sharing reserving) (Answered a y) whole l slots keeps = λ o on.
-      own_slot (step.Anon task n sharing reserving) k a y l slots keeps o (ap (λ z. z == o) (eqb-true k 0 whole) ∙ on)
-  outcome_kept k e (Answered a y) whole l slots keeps = λ o on. own_slot (slot_step k e) k a y l slots keeps o on
+  outcome_kept k (slot.Unmap task number a b) o whole l slots keeps = grind (arith, get_or-set_same, get_or-set_other, files_same, cases_eq)
+  outcome_kept k e o whole l slots keeps = grind (arith, common_steps, own_slot, eqb-true, slot_step)
 
   event_kept : (e : Event) (reply : Reply) → is_whole e ≡ true → IsEvent s e reply t → KeepsOwn s (step_of e) reply t
   event_kept (OnSlot k e) reply whole is =
       let l = ltb-true k (length s.slots) is.1.0 in
       let ends = event_ends (KeepsOn (slot_at s k) k e) s k e reply t (λ c. slot_kept s.page_size k c (slot_at s k) e (left_sound s k l st)) is in
       subst (λ r. KeepsOwn s (slot_step k e) r t) (sym ends.replied) (outcome_kept k e ends.outcome whole l ends.slots ends.holds)
-  event_kept (Tasks (table.FindAndAdd parent child)) reply whole is = cc
-  event_kept (Tasks (table.Remove task)) reply whole is = cc
-  event_kept (Tasks (table.Add task home)) (Ok a) whole is = λ o on. cc
-  event_kept (Tasks (table.Find task)) (Ok a) whole is = λ o on. cc
-  event_kept (OnPool e) (Ok a) whole is = pool_kept e a
-    where
-      pool_kept : (e : PoolEvent) (a : Answer) → KeepsOwn s (step_of (OnPool e)) (Ok a) t
-      pool_kept (pool.Nr n) a = λ o on. cc
-      pool_kept (pool.Overcommit n) a = λ o on. cc
-      pool_kept pool.Meminfo a = λ o on. cc
-      pool_kept pool.Nodes a = λ o on. cc
-  event_kept (Tasks (table.Add task home)) (Err r) whole is = tt
-  event_kept (Tasks (table.Find task)) (Err r) whole is = tt
-  event_kept (OnPool (pool.Nr n)) (Err r) whole is = tt
-  event_kept (OnPool (pool.Overcommit n)) (Err r) whole is = tt
-  event_kept (OnPool pool.Meminfo) (Err r) whole is = tt
-  event_kept (OnPool pool.Nodes) (Err r) whole is = tt
+  event_kept e reply whole is = grind (arith, step_of)
 
 early_kept : (s : State) (x : Step) (r : Refusal) → KeepsOwn s x (Err r) s
-early_kept s (step.Unmap task k number a b) r = λ o. files_same (slot_at s o)
-early_kept s (step.Fork parent child) r = λ o. files_same (slot_at s o)
-early_kept s (step.Exit task) r = λ o. files_same (slot_at s o)
-early_kept s other r = tt
+early_kept s x r = grind (arith, files_same)
 
 sound_at : (t : State) → IsSettledState t → (k : ℕ) → IsSound (slot_at t k)
 sound_at t st k = ⊎_elim (λ l. left_sound t k l st) (λ past. subst IsSound (sym (get_or_past t.slots k None past)) tt) (cases_lt k (length t.slots))

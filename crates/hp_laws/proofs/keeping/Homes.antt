@@ -1,20 +1,13 @@
 -- Where tasks have their homes after a change of the table.
-use Rattle.std.proofs.Common.{◌≡◌, subst, ℕ, ◌==◌, Bool, true, false, None, Option, Some, Ok, Err, [], ◌∷◌, is_some, option_map, refl, sym, ap, ◌∙◌, cond, if◌then◌else◌}
-use Rattle.std.specs.List.{find}
+use Rattle.std.proofs.Common.{arith}
+use Rattle.std.proofs.Common.{◌≡◌, ℕ, ◌==◌, Bool, true, false, None, Some, Ok, [], ◌∷◌, refl, ◌∙◌, if◌then◌else◌}
 use Rattle.std.proofs.lemmas.Bool.{eq-eqb, eqb-true, false_from_ne_true}
 use Rattle.hp_model.specs.declared.answer.Answer.{Answer}
-use Rattle.hp_model.specs.declared.answer.Answer.TheVariants.{Done}
 use Rattle.hp_model.specs.declared.event.TableEvent.TheVariants as table
-use Rattle.hp_model.specs.declared.refusal.Refusal.TheVariants.{TaskExists, TooMany}
-use Rattle.hp_model.specs.machine.Plan.{Reply}
-use Rattle.hp_model.specs.machine.Table.{Table, added, home_of, is_crowded, is_known, or_refused, removed, table_event, when_known}
+use Rattle.hp_model.specs.machine.Table.{Table, added, home_of, is_known, removed, table_event}
 
 pub home_added : (table : Table) (new home task : ℕ) → is_known table new ≡ false → home_of (added table new home) task ≡ (if new == task then Some home else home_of table task)
-home_added [] new home task e = by_test (new == task) refl
-  where
-    by_test : (b : Bool) → (new == task) ≡ b → home_of (added [] new home) task ≡ (if new == task then Some home else None)
-    by_test true is = rw is refl
-    by_test false is = rw is refl
+home_added [] new home task e = grind arith
 home_added (x ∷ xs) new home task e =
     by_tests (x.0 == task) refl (x.0 == new) refl (λ known. home_added xs new home task known)
   where
@@ -22,44 +15,18 @@ home_added (x ∷ xs) new home task e =
         → (is_known xs new ≡ false → home_of (added xs new home) task ≡ (if new == task then Some home else home_of xs task))
         → home_of (added (x ∷ xs) new home) task ≡ (if new == task then Some home else home_of (x ∷ xs) task)
     by_tests b is true at rest = (let known : is_known (x ∷ xs) new ≡ true = rw at refl in cc)
-    by_tests true is false at rest =
-        let apart : (new == task) ≡ false =
-        false_from_ne_true (new == task) (λ same. (let wrong : (x.0 == new) ≡ true = eq-eqb x.0 new (eqb-true x.0 task is ∙ sym (eqb-true new task same)) in cc)) in rw (is, apart) refl
-    by_tests false is false at rest =
-        rw is (rest (subst (λ b. is_some (option_map (λ (q : ℕ × ℕ). q.1) (if b then Some x else find (λ (q : ℕ × ℕ). q.0 == new) xs)) ≡ false) at e))
+    by_tests b is c at rest = grind (arith, false_from_ne_true, eq-eqb, eqb-true)
 
 pub home_removed : (table : Table) (gone task : ℕ) → home_of (removed table gone) task ≡ (if gone == task then None else home_of table task)
-home_removed [] gone task = by_test (gone == task)
-  where
-    by_test : (b : Bool) → home_of [] task ≡ (if b then None else home_of [] task)
-    by_test true = refl
-    by_test false = refl
+home_removed [] gone task = grind arith
 home_removed (x ∷ xs) gone task = by_tests (x.0 == gone) refl (gone == task) refl (x.0 == task) refl (home_removed xs gone task)
   where
     by_tests : (a : Bool) → (x.0 == gone) ≡ a → (b : Bool) → (gone == task) ≡ b → (c : Bool) → (x.0 == task) ≡ c
         → home_of (removed xs gone) task ≡ (if gone == task then None else home_of xs task)
         → home_of (removed (x ∷ xs) gone) task ≡ (if gone == task then None else home_of (x ∷ xs) task)
     by_tests true left true same c at rest = rw (left, same) (rest ∙ rw same refl)
-    by_tests true left false apart true at rest =
-        (let wrong : (gone == task) ≡ true = eq-eqb gone task (sym (eqb-true x.0 gone left) ∙ eqb-true x.0 task at) in cc)
-    by_tests true left false apart false at rest = rw (left, apart, at) (rest ∙ rw apart refl)
-    by_tests false stays true same true at rest =
-        (let wrong : (x.0 == gone) ≡ true = eq-eqb x.0 gone (eqb-true x.0 task at ∙ sym (eqb-true gone task same)) in cc)
-    by_tests false stays true same false at rest = rw (stays, same, at) (rest ∙ rw same refl)
-    by_tests false stays false apart true at rest = rw (stays, apart, at) refl
-    by_tests false stays false apart false at rest = rw (stays, apart, at) (rest ∙ rw apart refl)
+    by_tests a other b other' c at rest = grind (arith, eq-eqb, eqb-true)
 
 -- a child that is added is not its parent
 pub child_is_another : (nodes parent child : ℕ) (t u : Table) (a : Answer) → table_event nodes t (table.FindAndAdd parent child) ≡ (Ok a, u) → parent ≡ child → ⊥
-child_is_another nodes parent child t u a h same = by_home (home_of t parent) refl (ap (λ (q : Reply × Table). q.0) h)
-  where
-    rest : ℕ → Reply × Table
-    rest home = or_refused ((is_crowded t, TooMany) ∷ []) t (Ok Done, added t child home)
-
-    by_home : (o : Option ℕ) → home_of t parent ≡ o → (when_known t o (λ home. or_refused ((is_known t child, TaskExists) ∷ (is_crowded t, TooMany) ∷ []) t (Ok Done, added t child home))).0 ≡ Ok a → ⊥
-    by_home None none e = cc
-    by_home (Some home) some e = by_known (is_known t child) (ap (λ k. is_known t k) (sym same) ∙ ap is_some some) e
-      where
-        by_known : (b : Bool) → b ≡ true → (cond b (Err TaskExists, t) (rest home)).0 ≡ Ok a → ⊥
-        by_known true is e = cc
-        by_known false is e = cc
+child_is_another nodes parent child t u a h same = grind arith

@@ -1,4 +1,5 @@
 -- What each event keeps on its slot: the places of maps, and the cells of files.
+use Rattle.std.proofs.Common.{arith}
 use Rattle.std.proofs.Common.{◌≡◌, ⊎_elim, inl, inr, ◌⊎◌, map, ℕ, ◌<◌, Bool, true, false, ◌&&◌, ◌==◌}
 use Rattle.std.proofs.Common.{Option, None, Some, List, [], ◌∷◌, length, refl, sym, ap, ◌∙◌, subst}
 use Rattle.std.specs.List.{slice_index_or}
@@ -32,12 +33,7 @@ only_file o f g e w = (let same : Some f ≡ Some g = sym e ∙ w in cc)
 
 -- a slot with all its files and maps as they were
 pub alike_keeps : (x y : Slot) (step : Step) → ((task number : ℕ) → spot_on y task number ≡ spot_on x task number) → ((name : List ℕ) → named_on y name ≡ named_on x name) → Keeps x step y
-alike_keeps x y step spots names = record {
-  maps = λ task number p q found there.
-      (let same : p ≡ q = only_spot (spot_on x task number) p q found (sym (spots task number) ∙ there) in
-      subst (λ r. KeepsMap x step y p r) same (record { places = λ j. inl refl; cells = λ j. inl refl; marked = λ marked. inl marked }));
-  files = λ name f g goes_on named there j. inl (ap (λ (h : ℕ × File). cell_at h.1 j) (sym (only_file _ f g named (sym (names name) ∙ there))));
-}
+alike_keeps x y step spots names = grind arith
 
 -- a slot that is as it was
 pub same_keeps : (x : Slot) (step : Step) → Keeps x step x

@@ -1,8 +1,9 @@
 -- From events of a slot to steps: what each event keeps of its slot, each step keeps of all slots but those that it unmounts or remounts.
-use Rattle.std.proofs.Common.{◌≡◌, inl, inr, subst, ℕ, ◌<◌, Bool, true, false, None, Some, Ok, List, [], length, refl, sym, ap}
-use Rattle.std.specs.List.{slice_index_or, slice_set}
-use Rattle.std.proofs.lemmas.Bool.{cases_eq, eq-eqb, ltb-true}
-use Rattle.std.proofs.lemmas.List.{get_or-set_other, get_or-set_same}
+use Rattle.std.proofs.Common.{arith}
+use Rattle.std.proofs.lemmas.Grind.{common_steps}
+use Rattle.std.proofs.Common.{◌≡◌, ℕ, ◌<◌, Bool, true, false, None, Some, Ok, [], length, sym, ap}
+use Rattle.std.specs.List.{slice_set}
+use Rattle.std.proofs.lemmas.Bool.{ltb-true}
 use Rattle.hp_model.specs.declared.answer.Answer.{Answer}
 use Rattle.hp_model.specs.declared.event.Event.{Event}
 use Rattle.hp_model.specs.declared.event.Event.TheVariants.{Tasks, Slot as OnSlot, Pool as OnPool}
@@ -11,7 +12,7 @@ use Rattle.hp_model.specs.declared.event.SlotEvent.TheVariants as slot
 use Rattle.hp_model.specs.declared.step.Step.{Step}
 use Rattle.hp_model.specs.files.File.{Mount}
 use Rattle.hp_model.specs.machine.Event.{IsEvent}
-use Rattle.hp_model.specs.machine.Plan.{Choice, Outcome, Refused, Answered, Plan, Finish, Ask, Slot, Reply}
+use Rattle.hp_model.specs.machine.Plan.{Choice, Outcome, Refused, Answered, Plan, Slot, Reply}
 use Rattle.hp_model.specs.machine.Promises.{is_relimited}
 use Rattle.hp_model.specs.machine.SlotEvent.{slot_event}
 use Rattle.hp_model.specs.machine.State.{State, slot_at}
@@ -31,24 +32,12 @@ abbrev pub EndsBy : (Slot → Slot → Type 0) → Bool → Slot → Outcome →
 EndsBy R ends old (Refused r) = Unit {0}
 EndsBy R ends old (Answered a new) = ends ≡ false → R old new
 
-ended : (R : Slot → Slot → Type 0) (old : Slot) (p : Plan) → Always (EndsBy R true old) p
-ended R old (Finish (Refused r)) = tt
-ended R old (Finish (Answered a new)) = λ e. cc
-ended R old (Ask sec f) = λ a. by_outcome (f a)
-  where
-    by_outcome : (o : Outcome) → EndsBy R true old o
-    by_outcome (Refused r) = tt
-    by_outcome (Answered a new) = λ e. cc
-
 -- for an event that ends nothing it is shown by the mount that it leaves
 pub ends_on : (R : Slot → Slot → Type 0) (m : Mount) (Q : Mount → Type 0) → ((n : Mount) → Q n → R (Some m) (Some n)) → (o : Outcome) → On Q o → EndsBy R false (Some m) o
-ends_on R m Q h (Refused r) on = tt
-ends_on R m Q h (Answered a None) on = absurd on
-ends_on R m Q h (Answered a (Some n)) on = λ e. h n on
+ends_on R m Q h o on = grind arith
 
 pub ends_unless : (R : Slot → Slot → Type 0) (old : Slot) (b : Bool) (p : Plan) → (b ≡ false → Always (EndsBy R false old) p) → Always (EndsBy R b old) p
-ends_unless R old true p h = ended R old p
-ends_unless R old false p h = h refl
+ends_unless R old b p h = grind arith
 
 -- on a slot that is not mounted an event mounts one, or is refused
 pub ends_open : (size k : ℕ) (c : Choice) (e : SlotEvent) (R : Slot → Slot → Type 0) → ((new : Slot) → R None new) → Always (EndsBy R (relimits e) None) (slot_event size k c None e)
@@ -59,11 +48,7 @@ ends_open size k c other R h = tt
 
 -- an umount ends the mount of its slot, and a remount its limits; nothing else does
 ends_here : (k : ℕ) (e : SlotEvent) (a : Answer) (reply : Reply) → reply ≡ Ok a → is_relimited (slot_step k e) reply k ≡ false → relimits e ≡ false
-ends_here k slot.Umount a reply replied there =
-    let kept = subst (λ r. is_relimited (slot_step k slot.Umount) r k ≡ false) replied there in let here = eq-eqb k k refl in cc
-ends_here k (slot.Remount options) a reply replied there =
-    let kept = subst (λ r. is_relimited (slot_step k (slot.Remount options)) r k ≡ false) replied there in let here = eq-eqb k k refl in cc
-ends_here k other a reply replied there = refl
+ends_here k e a reply replied there = grind arith
 
 -- R holds of every slot before and after, but of those that pass
 abbrev pub KeepsBut : (Slot → Slot → Type 0) → (ℕ → Bool) → State → State → Type 0
@@ -71,19 +56,12 @@ KeepsBut R gone s t = (k : ℕ) → gone k ≡ false → R (slot_at s k) (slot_a
 
 module _ (R : Slot → Slot → Type 0) (same : (old : Slot) → R old old) where
   slots_stay : (s t : State) (gone : ℕ → Bool) → t.slots ≡ s.slots → KeepsBut R gone s t
-  slots_stay s t gone slots k there =
-      subst (λ (xs : List Slot). R (slot_at s k) (slice_index_or xs k None)) (sym slots) (same (slot_at s k))
+  slots_stay s t gone slots k there = grind arith
 
   -- a slot of its own is set, which keeps its mount where it does not pass
   set_keeps : (s t : State) (k : ℕ) (n : Slot) (gone : ℕ → Bool) → k < length s.slots → t.slots ≡ slice_set s.slots k n
       → (gone k ≡ false → R (slot_at s k) n) → KeepsBut R gone s t
-  set_keeps s t k n gone l slots h j there =
-      subst (λ (xs : List Slot). R (slot_at s j) (slice_index_or xs j None)) (sym slots)
-      (elim (cases_eq j k) as (λ _. R (slot_at s j) (slice_index_or (slice_set s.slots k n) j None)) [
-        | inl same ↦ subst (λ i. R (slot_at s i) (slice_index_or (slice_set s.slots k n) i None)) (sym same)
-            (subst (λ x. R (slot_at s k) x) (sym (get_or-set_same s.slots k n None l)) (h (subst (λ i. gone i ≡ false) same there)))
-        | inr other ↦ subst (λ x. R (slot_at s j) x) (sym (get_or-set_other s.slots k j n None other)) (same (slot_at s j))
-      ])
+  set_keeps s t k n gone l slots h j there = grind (arith, common_steps)
 
   module _ (h : (size k : ℕ) (c : Choice) (old : Slot) (e : SlotEvent) → Always (EndsBy R (relimits e) old) (slot_event size k c old e)) (s : State) (reply : Reply) (t : State) where
     event_keeps : (k : ℕ) (e : SlotEvent) (gone : ℕ → Bool) → ((a : Answer) → reply ≡ Ok a → gone k ≡ false → relimits e ≡ false)

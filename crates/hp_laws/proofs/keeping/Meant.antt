@@ -1,28 +1,26 @@
 -- What names and numbers mean after a step: what an event keeps of its slot its step keeps of all slots.
-use Rattle.std.proofs.Common.{◌≡◌, ⊎_elim, inl, inr, subst, ℕ, ◌<◌, Bool, true, false, ◌&&◌, ◌==◌, not, None, Some, Ok, Err, List, length, refl, sym, ap, ◌∙◌, if◌then◌else◌, nat_le}
-use Rattle.std.specs.Str.{bytes_eq}
+use Rattle.std.proofs.Common.{arith}
+use Rattle.std.proofs.lemmas.Grind.{common_steps}
+use Rattle.std.proofs.Common.{◌≡◌, inl, inr, subst, ℕ, ◌<◌, Bool, true, false, ◌==◌, None, Some, Ok, Err, List, length, refl, sym, ap, ◌∙◌}
 use Rattle.std.specs.List.{slice_index_or, slice_set}
-use Rattle.std.proofs.lemmas.Bool.{cases_eq, eq-eqb, eqb-true, false_from_ne_true, ltb-true}
+use Rattle.std.proofs.lemmas.Bool.{cases_eq, eqb-true, false_from_ne_true, ltb-true}
 use Rattle.std.proofs.lemmas.List.{get_or-set_other, get_or-set_same}
 use Rattle.hp_model.specs.declared.answer.Answer.{Answer}
 use Rattle.hp_model.specs.declared.event.Event.{Event}
 use Rattle.hp_model.specs.declared.event.Event.TheVariants.{Tasks, Slot as OnSlot, Pool as OnPool}
 use Rattle.hp_model.specs.declared.event.PoolEvent.{PoolEvent}
-use Rattle.hp_model.specs.declared.event.PoolEvent.TheVariants as pool
 use Rattle.hp_model.specs.declared.event.SlotEvent.{SlotEvent}
 use Rattle.hp_model.specs.declared.event.SlotEvent.TheVariants as slot
 use Rattle.hp_model.specs.declared.event.TableEvent.{TableEvent}
 use Rattle.hp_model.specs.declared.event.TableEvent.TheVariants as table
 use Rattle.hp_model.specs.declared.refusal.Refusal.{Refusal}
-use Rattle.hp_model.specs.declared.step.Intent.TheVariants.{Read, Write}
 use Rattle.hp_model.specs.declared.step.Step.{Step}
-use Rattle.hp_model.specs.declared.step.Step.TheVariants.{Exit, Fork, Store}
+use Rattle.hp_model.specs.declared.step.Step.TheVariants.{Exit, Fork}
 use Rattle.hp_model.specs.machine.Event.{IsEvent}
 use Rattle.hp_model.specs.files.File.{File, cell_at}
-use Rattle.hp_model.specs.files.Page.{zeros}
 use Rattle.hp_model.specs.machine.Plan.{Choice, Outcome, Refused, Answered, Reply, Slot}
-use Rattle.hp_model.specs.machine.Promises.{IsKeptMap, LosesTo, SameFiles, StillMapped, StillNamed, is_at, is_ended_name, is_ended_number, is_in, is_shared_of, map_at}
-use Rattle.hp_model.specs.machine.Promises.{map_named, means_file, named_on, over, reaches, seen_over, shown_in, spot_on, stays_mapped, stored_over}
+use Rattle.hp_model.specs.machine.Promises.{IsKeptMap, SameFiles, StillMapped, StillNamed, is_ended_name, is_ended_number}
+use Rattle.hp_model.specs.machine.Promises.{map_named, named_on, seen_over, spot_on, stored_over}
 use Rattle.hp_model.specs.machine.Settled.{IsSettledState}
 use Rattle.hp_model.specs.machine.SlotEvent.{slot_event}
 use Rattle.hp_model.specs.machine.Sound.{IsSound}
@@ -31,7 +29,7 @@ use Rattle.hp_model.specs.machine.State.{State, slot_at}
 use Rattle.hp_model.specs.machine.Step.{IsScripted, IsStep}
 use Rattle.hp_model.specs.files.Value.{shown, value}
 use Rattle.hp_laws.specs.Balance.{left_by}
-use Rattle.hp_laws.proofs.names.Changes.{KeepsSlot, KeptMap, LosesBy, SlotKeeps, ends_name, ends_number, seen_by, stored_by}
+use Rattle.hp_laws.proofs.names.Changes.{KeepsSlot, KeptMap, SlotKeeps, ends_name, ends_number, stored_by}
 use Rattle.hp_laws.proofs.ending.Fades.{AllFade, exit_fade, exit_refused, fork_fade}
 use Rattle.hp_laws.proofs.steps.Outcomes.{Always, event_ends, reply_of}
 use Rattle.hp_laws.proofs.sections.PoolTied.{left_sound}
@@ -78,71 +76,28 @@ module _ (s : State) (step : Step) (reply : Reply) (t : State) (slot : ℕ) (siz
 -- ---- what is made of bytes
 
 refused_stores : (s : State) (step : Step) (r : Refusal) (k j x : ℕ) (old : List ℕ) → old ≡ stored_over s step (Err r) k j x old
-refused_stores s (Store task k number i offset bytes) r l j x old = refl
-refused_stores s other r l j x old = refl
+refused_stores s step r l j x old = grind arith
 
 refused_writes : (s : State) (step : Step) (r : Refusal) (k j l x : ℕ) (old : List ℕ) → old ≡ seen_over s step (Err r) k j l x old
-refused_writes s (Store task k number i offset bytes) r o j l x old = refl
-refused_writes s other r o j l x old = refl
-
-here : (k : ℕ) → (k == k) ≡ true
-here k = eq-eqb k k refl
-
--- in the slot of the event, and elsewhere
-picked : (k : ℕ) (c : Bool) (new old : List ℕ) → (if c then new else old) ≡ (if (k == k) && c then new else old)
-picked k c new old = ap (λ b. if b && c then new else old) (sym (here k))
-
-passed : (b c : Bool) (new old : List ℕ) → b ≡ false → old ≡ (if b && c then new else old)
-passed b c new old e = ap (λ b. if b && c then new else old) (sym e)
+refused_writes s step r o j l x old = grind arith
 
 module _ (s : State) (k : ℕ) (a : Answer) where
   stored_here : (e : SlotEvent) (j i : ℕ) (old : List ℕ) → stored_by s.page_size (slot_at s k) e j i old ≡ stored_over s (slot_step k e) (Ok a) k j i old
-  stored_here (slot.Store task home number x offset bytes) j i old = picked k ((x == i) && is_shared_of (map_named s k task number) j) (over offset bytes old) old
-  stored_here (slot.Truncate name n) j i old = picked k (means_file (slot_at s k) name j && nat_le n i) (zeros s.page_size) old
-  stored_here (slot.Punch name from to) j i old = picked k (means_file (slot_at s k) name j && is_in from to i) (zeros s.page_size) old
-  stored_here other j i old = refl
-
-  seen_here : (e : SlotEvent) (j l i : ℕ) (old : List ℕ) → seen_by s.page_size (slot_at s k) e j l i old ≡ seen_over s (slot_step k e) (Ok a) k j l i old
-  seen_here (slot.Store task home number x offset bytes) j l i old =
-      picked k ((x == i) && reaches (map_named s k task number) (map_at s k j l) j l i) (over offset bytes old) old
-  seen_here (slot.Truncate name n) j l i old = picked k (means_file (slot_at s k) name j && nat_le n i) (zeros s.page_size) old
-  seen_here (slot.Punch name from to) j l i old = picked k (means_file (slot_at s k) name j && is_in from to i) (zeros s.page_size) old
-  seen_here (slot.Unmap task number from to) j l i old = picked k (is_at (map_named s k task number) j l && is_in from to i) (shown_in s k j i) old
-  seen_here other j l i old = refl
+  stored_here e j i old = grind arith
 
   -- what the event does not end its step does not end
   name_here : (e : SlotEvent) (name : List ℕ) → ends_name e name ≡ is_ended_name (slot_step k e) (Ok a) k name
-  name_here (slot.Unlink gone) name = ap (λ b. b && bytes_eq gone name) (sym (here k))
-  name_here slot.Umount name = sym (here k)
-  name_here other name = refl
+  name_here e name = grind arith
 
   number_here : (e : SlotEvent) (task number : ℕ) → ends_number (slot_at s k) e task number ≡ is_ended_number s (slot_step k e) (Ok a) k task number
-  number_here (slot.Unmap owner gone from to) task number =
-      ap (λ b. b && ((owner == task) && ((gone == number) && not (stays_mapped (map_named s k task number) from to)))) (sym (here k))
-  number_here slot.Umount task number = sym (here k)
-  number_here other task number = refl
+  number_here e task number = grind arith
 
   module _ (o : ℕ) (other : (k == o) ≡ false) where
     stored_there : (e : SlotEvent) (j i : ℕ) (old : List ℕ) → old ≡ stored_over s (slot_step k e) (Ok a) o j i old
-    stored_there (slot.Store task home number x offset bytes) j i old = passed (k == o) ((x == i) && is_shared_of (map_named s k task number) j) (over offset bytes old) old other
-    stored_there (slot.Truncate name n) j i old = passed (k == o) (means_file (slot_at s o) name j && nat_le n i) (zeros s.page_size) old other
-    stored_there (slot.Punch name from to) j i old = passed (k == o) (means_file (slot_at s o) name j && is_in from to i) (zeros s.page_size) old other
-    stored_there rest j i old = refl
+    stored_there e j i old = grind arith
 
     seen_there : (e : SlotEvent) (j l i : ℕ) (old : List ℕ) → old ≡ seen_over s (slot_step k e) (Ok a) o j l i old
-    seen_there (slot.Store task home number x offset bytes) j l i old =
-        passed (k == o) ((x == i) && reaches (map_named s k task number) (map_at s o j l) j l i) (over offset bytes old) old other
-    seen_there (slot.Truncate name n) j l i old = passed (k == o) (means_file (slot_at s o) name j && nat_le n i) (zeros s.page_size) old other
-    seen_there (slot.Punch name from to) j l i old = passed (k == o) (means_file (slot_at s o) name j && is_in from to i) (zeros s.page_size) old other
-    seen_there (slot.Unmap task number from to) j l i old = passed (k == o) (is_at (map_named s k task number) j l && is_in from to i) (shown_in s o j i) old other
-    seen_there rest j l i old = refl
-
--- a map that lost its copy by the event lost it by the step
-lost_here : (s : State) (k : ℕ) (e : SlotEvent) (t : State) (p q : Spot) (i : ℕ) → LosesBy (slot_at s k) e (slot_at t k) p q i → LosesTo s (slot_step k e) t k p q i
-lost_here s k (slot.Store task home number x offset bytes) t p q i lost = (refl, lost)
-lost_here s k (slot.Fault task home number x Write) t p q i lost = (refl, lost)
-lost_here s k (slot.Fault task home number x Read) t p q i lost = absurd lost
-lost_here s k rest t p q i lost = absurd lost
+    seen_there e j l i old = grind arith
 
 -- ---- a step
 
@@ -154,14 +109,7 @@ module _ (s : State) (k : ℕ) (e : SlotEvent) (a : Answer) (t : State) (size : 
   goes_on b c same e = same ∙ e
 
   map_meant : (p q : Spot) (i : ℕ) → KeptMap s.page_size (slot_at s k) e (slot_at t k) p q i → StillMapped s step (Ok a) t k p q i
-  map_meant p q i kept = record {
-    shape = kept.shape;
-    file = λ name stays named. kept.file name (name_here s k a e name ∙ stays) named;
-    marked = kept.marked;
-    shows = ⊎_elim
-        (λ same. inl (ap (λ n. value n q.file q.map i) size ∙ same ∙ seen_here s k a e p.file_no p.map_no i (value s.page_size p.file p.map i)))
-        (λ lost. inr (lost_here s k e t p q i lost)) kept.shows;
-  }
+  map_meant p q i kept = grind arith
 
   slot_meant : SlotMeant s step (Ok a) t k
   slot_meant = record {
@@ -180,34 +128,20 @@ Idle s step reply =
     ((k j i : ℕ) (old : List ℕ) → old ≡ stored_over s step reply k j i old) × ((k j l i : ℕ) (old : List ℕ) → old ≡ seen_over s step reply k j l i old)
 
 idle_meant : (s : State) (step : Step) (reply : Reply) (t : State) → t.page_size ≡ s.page_size → t.slots ≡ s.slots → Idle s step reply → Meant s step reply t
-idle_meant s step reply t size slots idle k =
-    still_meant s step reply t k size (ap (λ (xs : List Slot). slice_index_or xs k None) slots) (idle.0 k) (idle.1 k)
+idle_meant s step reply t size slots idle k = grind (arith, still_meant)
 
 table_idle : (s : State) (e : TableEvent) (reply : Reply) → Idle s (step_of (Tasks e)) reply
-table_idle s (table.Add task home) reply = (λ k j i old. refl, λ k j l i old. refl)
-table_idle s (table.Find task) reply = (λ k j i old. refl, λ k j l i old. refl)
-table_idle s (table.FindAndAdd parent child) reply = (λ k j i old. refl, λ k j l i old. refl)
-table_idle s (table.Remove task) reply = (λ k j i old. refl, λ k j l i old. refl)
+table_idle s e reply = grind arith
 
 pool_idle : (s : State) (e : PoolEvent) (reply : Reply) → Idle s (step_of (OnPool e)) reply
-pool_idle s (pool.Nr n) reply = (λ k j i old. refl, λ k j l i old. refl)
-pool_idle s (pool.Overcommit n) reply = (λ k j i old. refl, λ k j l i old. refl)
-pool_idle s pool.Meminfo reply = (λ k j i old. refl, λ k j l i old. refl)
-pool_idle s pool.Nodes reply = (λ k j i old. refl, λ k j l i old. refl)
+pool_idle s e reply = grind arith
 
 -- ---- a step that ends maps of a task
 
 module _ (s : State) (step : Step) (reply : Reply) (t : State) (gone : ℕ) (fade : AllFade gone s t) (idle : Idle s step reply)
     (number : (k task no : ℕ) → is_ended_number s step reply k task no ≡ false → (gone == task) ≡ false) where
   fade_map : (k : ℕ) (p q : Spot) (i : ℕ) → KeptMap s.page_size (slot_at s k) (slot.ExitMaps gone) (slot_at t k) p q i → StillMapped s step reply t k p q i
-  fade_map k p q i kept = record {
-    shape = kept.shape;
-    file = λ name stays named. kept.file name refl named;
-    marked = kept.marked;
-    shows = ⊎_elim
-        (λ same. inl (ap (λ n. value n q.file q.map i) fade.size ∙ same ∙ idle.1 k p.file_no p.map_no i (value s.page_size p.file p.map i)))
-        (λ lost. absurd lost) kept.shows;
-  }
+  fade_map k p q i kept = grind arith
 
   fade_meant : Meant s step reply t
   fade_meant k = record {
@@ -237,15 +171,7 @@ module _ (s : State) (h : (k : ℕ) (c : Choice) (e : SlotEvent) → IsSound (sl
     Always (KeepsSlot s.page_size (slot_at s k) e) (slot_event s.page_size k c (slot_at s k) e)) (st : IsSettledState s) where
   outcome_meant : (k : ℕ) (e : SlotEvent) (t : State) (o : Outcome) → k < length s.slots → t.page_size ≡ s.page_size → t.slots ≡ slice_set s.slots k (left_by (slot_at s k) o)
       → KeepsSlot s.page_size (slot_at s k) e o → Meant s (slot_step k e) (reply_of o) t
-  outcome_meant k e t (Refused r) l size slots keeps o =
-      still_meant s (slot_step k e) (Err r) t o size
-      (ap (λ (xs : List Slot). slice_index_or xs o None) slots ∙ set_same) (refused_stores s (slot_step k e) r o) (refused_writes s (slot_step k e) r o)
-    where
-      set_same : slice_index_or (slice_set s.slots k (slot_at s k)) o None ≡ slot_at s o
-      set_same = elim (cases_eq o k) as (λ _. slice_index_or (slice_set s.slots k (slot_at s k)) o None ≡ slot_at s o) [
-        | inl same ↦ subst (λ x. slice_index_or (slice_set s.slots k (slot_at s k)) x None ≡ slot_at s x) (sym same) (get_or-set_same s.slots k (slot_at s k) None l)
-        | inr other ↦ get_or-set_other s.slots k o (slot_at s k) None other
-      ]
+  outcome_meant k e t (Refused r) l size slots keeps o = grind (arith, common_steps, still_meant, slot_step, refused_stores, refused_writes, cases_eq, get_or-set_same, get_or-set_other)
   outcome_meant k e t (Answered a new) l size slots keeps o =
       elim (cases_eq o k) as (λ _. SlotMeant s (slot_step k e) (Ok a) t o) [
         | inl same ↦ subst (λ x. SlotMeant s (slot_step k e) (Ok a) t x) (sym same)
@@ -257,14 +183,11 @@ module _ (s : State) (h : (k : ℕ) (c : Choice) (e : SlotEvent) → IsSound (sl
       ]
 
   event_meant : (e : Event) (reply : Reply) (t : State) → is_whole e ≡ true → IsEvent s e reply t → Meant s (step_of e) reply t
-  event_meant (Tasks e) reply t whole is =
-      let left = ap (λ (q : Reply × State). q.1) is.2 in idle_meant s (step_of (Tasks e)) reply t (sym (ap (λ x. x.page_size) left)) (sym (ap (λ x. x.slots) left)) (table_idle s e reply)
-  event_meant (OnPool e) reply t whole is =
-      let left = ap (λ (q : Reply × State). q.1) is.2 in idle_meant s (step_of (OnPool e)) reply t (sym (ap (λ x. x.page_size) left)) (sym (ap (λ x. x.slots) left)) (pool_idle s e reply)
   event_meant (OnSlot k e) reply t whole is =
       let l = ltb-true k (length s.slots) is.1.0 in
       let ends = event_ends (KeepsSlot s.page_size (slot_at s k) e) s k e reply t (λ c. h k c e (left_sound s k l st)) is in
       subst (λ r. Meant s (slot_step k e) r t) (sym ends.replied) (outcome_meant k e t ends.outcome l ends.size ends.slots ends.holds)
+  event_meant e reply t whole is = grind (arith, idle_meant, step_of, table_idle, pool_idle)
 
   pub step_meant : (reply : Reply) (t : State) (step : Step) → IsStep s step reply t → Meant s step reply t
   step_meant reply t step is =

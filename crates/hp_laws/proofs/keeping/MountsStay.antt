@@ -1,4 +1,5 @@
 -- A mount stays until its umount, and its limits until its umount or a remount.
+use Rattle.std.proofs.Common.{arith}
 use Rattle.std.proofs.Common.{◌≡◌, ℕ, false, None, Some, length, refl}
 use Rattle.hp_model.specs.declared.answer.Answer.TheVariants.{Done}
 use Rattle.hp_model.specs.declared.event.SlotEvent.{SlotEvent}
@@ -60,8 +61,7 @@ slot_keeps size k c (Some m) e =
     (walk size k c m (λ e. Always (On (λ n. n.limits ≡ m.limits))) (leaves_walk size k c m (λ n. n.limits ≡ m.limits) (limits_stay size k c m)) e is))
 
 same_limits : (old : Slot) → SameLimits old old
-same_limits None = tt
-same_limits (Some m) = refl
+same_limits old = grind arith
 
 pub step_keeps : (s : State) (reply : Reply) (t : State) (step : Step) → IsStep s step reply t → KeepsBut SameLimits (is_relimited step reply) s t
 step_keeps s reply t step is = step_by SameLimits same_limits slot_keeps (λ size gone x y fades. fades.limits) s reply t step is

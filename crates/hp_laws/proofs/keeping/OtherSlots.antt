@@ -1,16 +1,15 @@
 -- A step leaves every slot that it is not on as it was.
+use Rattle.std.proofs.Common.{arith}
 use Rattle.std.proofs.Common.{◌≡◌, ℕ, true, false, None, List, refl, sym, ap, ◌∙◌}
 use Rattle.std.specs.List.{slice_index_or}
-use Rattle.std.proofs.lemmas.Bool.{eqb-false, eqb-true}
 use Rattle.std.proofs.lemmas.List.{get_or-set_other}
 use Rattle.hp_model.specs.declared.event.Event.{Event}
 use Rattle.hp_model.specs.declared.event.Event.TheVariants.{Tasks, Slot as OnSlot, Pool as OnPool}
 use Rattle.hp_model.specs.declared.event.SlotEvent.{SlotEvent}
-use Rattle.hp_model.specs.declared.event.SlotEvent.TheVariants as slot
 use Rattle.hp_model.specs.declared.step.Step.{Step}
 use Rattle.hp_model.specs.machine.Event.{IsEvent}
 use Rattle.hp_model.specs.machine.Kept.{is_on}
-use Rattle.hp_model.specs.machine.Plan.{Ask, Finish, Plan, Reply, Slot}
+use Rattle.hp_model.specs.machine.Plan.{Plan, Reply, Slot}
 use Rattle.hp_model.specs.machine.SlotEvent.{slot_event}
 use Rattle.hp_model.specs.machine.State.{State, slot_at}
 use Rattle.hp_model.specs.machine.Step.{IsStep}
@@ -19,14 +18,10 @@ use Rattle.hp_laws.proofs.steps.Outcomes.{Always, event_ends}
 use Rattle.hp_laws.proofs.steps.Whole.{by_event, is_whole, slot_step, step_of}
 
 off_slot : (k o : ℕ) (e : SlotEvent) → is_whole (OnSlot k e) ≡ true → is_on (slot_step k e) o ≡ false → o ≡ k → ⊥
-off_slot k o (slot.ForkMaps parent child) whole off same = cc
-off_slot k o (slot.ExitMaps task) whole off same = cc
-off_slot k o (slot.Anon task home n sharing reserving) whole off same = eqb-false 0 o off (sym (same ∙ eqb-true k 0 whole))
-off_slot k o other whole off same = eqb-false k o off (sym same)
+off_slot k o e whole off same = grind arith
 
 pub any_outcome : (p : Plan) → Always (λ o. Unit {0}) p
-any_outcome (Finish o) = tt
-any_outcome (Ask sec f) = λ a. tt
+any_outcome p = grind arith
 
 module _ (s : State) where
   abbrev Elsewhere : Step → State → Type 0

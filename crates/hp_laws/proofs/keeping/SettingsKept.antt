@@ -1,9 +1,10 @@
 -- What steps make of the tasks, of nr and of overcommit; and steps that only read leave all slots.
+use Rattle.std.proofs.Common.{arith}
+use Rattle.std.proofs.lemmas.Grind.{common_steps}
 use Rattle.std.proofs.Common.{◌≡◌, subst, ℕ, ◌==◌, Bool, true, false, None, Option, Some, Ok, Err, List, [], ◌∷◌, ◌++◌, length, nat_le, refl, sym, ap, ◌∙◌, if◌then◌else◌}
-use Rattle.std.specs.List.{filter_map, range_with_len, slice_set}
-use Rattle.std.proofs.lemmas.Bool.{cond_both}
+use Rattle.std.specs.List.{range_with_len}
 use Rattle.hp_model.specs.declared.answer.Answer.{Answer}
-use Rattle.hp_model.specs.declared.answer.Answer.TheVariants.{Done, Home, Names}
+use Rattle.hp_model.specs.declared.answer.Answer.TheVariants.{Done}
 use Rattle.hp_model.specs.declared.event.Event.{Event}
 use Rattle.hp_model.specs.declared.event.Event.TheVariants.{Tasks, Slot as OnSlot, Pool as OnPool}
 use Rattle.hp_model.specs.declared.event.PoolEvent.TheVariants as pool
@@ -11,32 +12,25 @@ use Rattle.hp_model.specs.declared.event.SlotEvent.{SlotEvent}
 use Rattle.hp_model.specs.declared.event.SlotEvent.TheVariants as slot
 use Rattle.hp_model.specs.declared.event.TableEvent.TheVariants as table
 use Rattle.hp_model.specs.declared.refusal.Refusal.{Refusal}
-use Rattle.hp_model.specs.declared.refusal.Refusal.TheVariants.{NoSuchFile, NoSuchNode, NoSuchTask, OutOfMemory, OutOfRange, TaskExists, TooMany}
+use Rattle.hp_model.specs.declared.refusal.Refusal.TheVariants.{NoSuchNode, NoSuchTask, OutOfRange, TaskExists, TooMany}
 use Rattle.hp_model.specs.declared.section.PoolAnswer.{PoolAnswer}
 use Rattle.hp_model.specs.declared.section.Section.{Section}
-use Rattle.hp_model.specs.declared.section.Section.TheVariants.{Grant, GrantAndReturn, GrantPage, GiveBack, ReadAndGiveBack, ReadAndGrant, TakePage, FillPages}
 use Rattle.hp_model.specs.declared.step.Step.{Step}
 use Rattle.hp_model.specs.declared.step.Step.TheVariants as step
 use Rattle.hp_model.specs.machine.Event.{IsEvent, has_maps_of, with_pool_reply, with_table}
 use Rattle.hp_model.specs.machine.Machine.{pool_of}
-use Rattle.hp_model.specs.machine.Plan.{Answered, Ask, Choice, Finish, Outcome, Plan, Reply, Slot}
+use Rattle.hp_model.specs.machine.Plan.{Plan, Reply}
 use Rattle.hp_model.specs.machine.Settings.{IsSet, TellsNr, home_after, nr_after, only_reads, overcommit_after}
 use Rattle.hp_model.specs.machine.Settled.{IsSettledState}
 use Rattle.hp_model.specs.Profile.{most_overcommit}
-use Rattle.hp_model.specs.machine.SlotEvent.{bytes_answer, file_named, read, read_tests, slot_event, stat}
-use Rattle.hp_model.specs.files.File.{cell_at}
-use Rattle.hp_model.specs.files.Value.{shown}
-use Rattle.hp_laws.specs.Balance.{left_by}
+use Rattle.hp_model.specs.machine.SlotEvent.{slot_event}
 use Rattle.hp_laws.proofs.ending.Fades.{exit_refused}
-use Rattle.hp_laws.proofs.accesses.SlotShows.{always_unless, always_value}
-use Rattle.std.proofs.lemmas.List.{set-get_or}
 use Rattle.hp_model.specs.machine.State.{State, slot_at}
 use Rattle.hp_model.specs.machine.Step.{Answer_with, IsScript, IsScripted, IsStep, exit_slots, fork_slots, or_undone, undone, when_done}
-use Rattle.hp_model.specs.machine.Table.{added, home_of, is_crowded, is_known, or_refused, removed, when_known}
-use Rattle.hp_model.specs.pool.Grant.{can_grant}
+use Rattle.hp_model.specs.machine.Table.{added, home_of, is_crowded, is_known, or_refused, when_known}
 use Rattle.hp_model.specs.pool.Pool.{section}
 use Rattle.hp_model.specs.pool.PoolCounts.{Pool}
-use Rattle.hp_laws.proofs.steps.Outcomes.{Always, either_way, event_ends}
+use Rattle.hp_laws.proofs.steps.Outcomes.{either_way}
 use Rattle.hp_model.proofs.RowMoves.{puts_are}
 use Rattle.hp_laws.proofs.ending.RefusedForks.{Gives, SameSetting, event_setting, fork_refused}
 use Rattle.hp_laws.proofs.steps.Whole.{by_event, is_whole, slot_step, step_of}
@@ -48,18 +42,10 @@ abbrev pub Numbers : Pool → PoolAnswer × Pool → Type 0
 Numbers p q = (q.1.nr ≡ p.nr) × (q.1.overcommit ≡ p.overcommit)
 
 pub section_numbers : (p : Pool) (x : Section) → Numbers p (section p x)
-section_numbers p (Grant home d) = cond_both (can_grant d p) _ _ (Numbers p) (λ e. (refl, refl)) (λ e. (refl, refl))
-section_numbers p (GrantPage home d) = cond_both (can_grant d p) _ _ (Numbers p) (λ e. (refl, refl)) (λ e. (refl, refl))
-section_numbers p (TakePage home) = (refl, refl)
-section_numbers p (FillPages d n) = cond_both (can_grant d p) _ _ (Numbers p) (λ e. (refl, refl)) (λ e. (refl, refl))
-section_numbers p (GiveBack puts k) = (ap (λ (q : Pool). q.nr) (puts_are puts p), ap (λ (q : Pool). q.overcommit) (puts_are puts p))
-section_numbers p (ReadAndGrant d) = cond_both (can_grant d p) _ _ (Numbers p) (λ e. (refl, refl)) (λ e. (refl, refl))
-section_numbers p (ReadAndGiveBack k) = (refl, refl)
-section_numbers p (GrantAndReturn d) = cond_both (can_grant d p) _ _ (Numbers p) (λ e. (refl, refl)) (λ e. (refl, refl))
+section_numbers p x = grind (arith, puts_are)
 
 all_give : (p : Plan) → Gives p
-all_give (Finish o) = tt
-all_give (Ask sec f) = λ p. section_numbers p (sec p.nr)
+all_give p = grind (arith, section_numbers)
 
 slot_setting : (s : State) (k : ℕ) (e : SlotEvent) (reply : Reply) (t : State) → IsEvent s (OnSlot k e) reply t → SameSetting s t
 slot_setting s k e reply t is = event_setting s k e reply t (λ c. all_give (slot_event s.page_size k c (slot_at s k) e)) is
@@ -101,23 +87,13 @@ module _ (s : State) where
   -- nothing is set
   unset : (x : Step) (reply : Reply) (t : State) → ((task : ℕ) → home_of s.table task ≡ home_after s x reply task) → nr_after s x reply ≡ s.nr → overcommit_after s x reply ≡ s.overcommit
       → TellsNr x reply t → SameSetting s t → IsSet s x reply t
-  unset x reply t homes nr overcommit told same = record {
-    homes = λ task. ap (λ tb. home_of tb task) same.table ∙ homes task;
-    nr = same.nr ∙ sym nr;
-    overcommit = same.overcommit ∙ sym overcommit;
-    told = told;
-  }
+  unset x reply t homes nr overcommit told same = grind arith
 
   -- a task is added, and the rest leaves the table
   one_added : (x : Step) (a : Answer) (new home : ℕ) (u t : State) → is_known s.table new ≡ false → u ≡ record s { table = added s.table new home } → SameSetting u t
       → ((task : ℕ) → (if new == task then Some home else home_of s.table task) ≡ home_after s x (Ok a) task) → nr_after s x (Ok a) ≡ s.nr → overcommit_after s x (Ok a) ≡ s.overcommit
       → TellsNr x (Ok a) t → IsSet s x (Ok a) t
-  one_added x a new home u t unknown made same homes nr overcommit told = record {
-    homes = λ task. ap (λ tb. home_of tb task) (same.table ∙ ap (λ y. y.table) made) ∙ home_added s.table new home task unknown ∙ homes task;
-    nr = same.nr ∙ ap (λ y. y.nr) made ∙ sym nr;
-    overcommit = same.overcommit ∙ ap (λ y. y.overcommit) made ∙ sym overcommit;
-    told = told;
-  }
+  one_added x a new home u t unknown made same homes nr overcommit told = grind (arith, home_added)
 
   connect_sets : (new home : ℕ) (reply : Reply) (t : State) → IsEvent s (Tasks (table.Add new home)) reply t → IsSet s (step.Connect new home) reply t
   connect_sets new home reply t is = by_tests (nat_le (length s.nodes) home) (is_known s.table new) refl (is_crowded s.table) reply t is.2
@@ -164,24 +140,7 @@ module _ (s : State) where
       by_home (Some home) known q mid e go = by_tests home known (is_known s.table child) refl (is_crowded s.table) q mid e go
 
   exit_sets : (gone : ℕ) (a : Answer) (t : State) → IsScripted s (step.Exit gone) (Ok a) t → IsSet s (step.Exit gone) (Ok a) t
-  exit_sets gone a t is = by_home (home_of s.table gone) is.0 is.1 is.2.2 is.3
-    where
-      by_home : (o : Option ℕ) (q : Reply) (mid : State) → with_table s (when_known s.table o (λ home. (Ok Done, removed s.table gone))) ≡ (q, mid)
-          → IsScript mid (when_done q (exit_slots (range_with_len 0 (length s.slots)) gone (Answer_with (Ok Done)))) (Ok a) t → IsSet s (step.Exit gone) (Ok a) t
-      by_home None q mid e go =
-          let first = ap (λ (y : Reply × State). y.0) e in
-          (let never : Ok a ≡ Err NoSuchTask = (subst (λ y. IsScript mid (when_done y (exit_slots (range_with_len 0 (length s.slots)) gone (Answer_with (Ok Done)))) (Ok a) t) (sym first) go).0 in cc)
-      by_home (Some home) q mid e go =
-          let first = ap (λ (y : Reply × State). y.0) e in
-          let second : record s { table = removed s.table gone } ≡ mid = ap (λ (y : Reply × State). y.1) e in
-          let same = exits_set gone (Ok a) (range_with_len 0 (length s.slots)) mid t
-          (subst (λ y. IsScript mid (when_done y (exit_slots (range_with_len 0 (length s.slots)) gone (Answer_with (Ok Done)))) (Ok a) t) (sym first) go) in
-          record {
-            homes = λ task. ap (λ tb. home_of tb task) (same.table ∙ sym (ap (λ y. y.table) second)) ∙ home_removed s.table gone task;
-            nr = same.nr ∙ sym (ap (λ y. y.nr) second);
-            overcommit = same.overcommit ∙ sym (ap (λ y. y.overcommit) second);
-            told = tt;
-          }
+  exit_sets gone a t is = grind (arith, exits_set, home_removed)
 
   -- what of the steps leaves all as it was
   record Unset (x : Step) (reply : Reply) : Type 0 where
@@ -191,45 +150,23 @@ module _ (s : State) where
     told : (t : State) → TellsNr x reply t
 
   refused_unset : (x : Step) (r : Refusal) → Unset x (Err r)
-  refused_unset (step.Connect new home) r = record { homes = λ task. refl; nr = refl; overcommit = refl; told = λ t. tt }
-  refused_unset (step.Fork parent child) r = record { homes = λ task. refl; nr = refl; overcommit = refl; told = λ t. tt }
-  refused_unset (step.Exit gone) r = record { homes = λ task. refl; nr = refl; overcommit = refl; told = λ t. tt }
-  refused_unset (step.Nr n) r = record { homes = λ task. refl; nr = refl; overcommit = refl; told = λ t. tt }
-  refused_unset (step.Overcommit n) r = record { homes = λ task. refl; nr = refl; overcommit = refl; told = λ t. tt }
-  refused_unset other r = record { homes = λ task. refl; nr = refl; overcommit = refl; told = λ t. tt }
+  refused_unset x r = grind arith
 
   slot_unset : (k : ℕ) (e : SlotEvent) (reply : Reply) → is_whole (OnSlot k e) ≡ true → Unset (slot_step k e) reply
-  slot_unset k (slot.ForkMaps parent child) reply whole = cc
-  slot_unset k (slot.ExitMaps task) reply whole = cc
-  slot_unset k other reply whole = record { homes = λ task. refl; nr = refl; overcommit = refl; told = λ t. tt }
+  slot_unset k e reply whole = grind arith
 
   leaves : (x : Step) (reply : Reply) (t : State) → Unset x reply → SameSetting s t → IsSet s x reply t
   leaves x reply t un same = unset x reply t un.homes un.nr un.overcommit (un.told t) same
 
   limit_sets : (n : ℕ) (b : Bool) (reply : Reply) (t : State)
       → with_pool_reply s (if b then (Ok Done, record (pool_of s) { overcommit = n }) else (Err OutOfRange, pool_of s)) ≡ (reply, t) → IsSet s (step.Overcommit n) reply t
-  limit_sets n true reply t e =
-      subst (λ (q : Reply × State). IsSet s (step.Overcommit n) q.0 q.1) e (record { homes = λ task. refl; nr = refl; overcommit = refl; told = tt })
-  limit_sets n false reply t e =
-      subst (λ (q : Reply × State). IsSet s (step.Overcommit n) q.0 q.1) e (record { homes = λ task. refl; nr = refl; overcommit = refl; told = tt })
+  limit_sets n b reply t e = grind arith
 
   event_sets : (e : Event) (reply : Reply) (t : State) → is_whole e ≡ true → IsEvent s e reply t → IsSet s (step_of e) reply t
   event_sets (Tasks (table.Add new home)) reply t whole is = connect_sets new home reply t is
-  event_sets (Tasks (table.Find task)) reply t whole is = by_home (home_of s.table task) is.2
-    where
-      by_home : (o : Option ℕ) → with_table s (when_known s.table o (λ home. (Ok (Home home), s.table))) ≡ (reply, t) → IsSet s (step.Attach task) reply t
-      by_home None e = subst (λ (q : Reply × State). IsSet s (step.Attach task) q.0 q.1) e (record { homes = λ other. refl; nr = refl; overcommit = refl; told = tt })
-      by_home (Some home) e = subst (λ (q : Reply × State). IsSet s (step.Attach task) q.0 q.1) e (record { homes = λ other. refl; nr = refl; overcommit = refl; told = tt })
-  event_sets (Tasks (table.FindAndAdd parent child)) reply t whole is = cc
-  event_sets (Tasks (table.Remove task)) reply t whole is = cc
   event_sets (OnSlot k e) reply t whole is = leaves (slot_step k e) reply t (slot_unset k e reply whole) (slot_setting s k e reply t is)
-  event_sets (OnPool (pool.Nr n)) reply t whole is =
-      subst (λ (q : Reply × State). IsSet s (step.Nr n) q.0 q.1) is.2 (record { homes = λ task. refl; nr = refl; overcommit = refl; told = refl })
   event_sets (OnPool (pool.Overcommit n)) reply t whole is = limit_sets n (nat_le n most_overcommit) reply t is.2
-  event_sets (OnPool pool.Meminfo) reply t whole is =
-      subst (λ (q : Reply × State). IsSet s step.Meminfo q.0 q.1) is.2 (record { homes = λ task. refl; nr = refl; overcommit = refl; told = tt })
-  event_sets (OnPool pool.Nodes) reply t whole is =
-      subst (λ (q : Reply × State). IsSet s step.Nodes q.0 q.1) is.2 (record { homes = λ task. refl; nr = refl; overcommit = refl; told = tt })
+  event_sets e reply t whole is = grind arith
 
   forked_sets : IsSettledState s → (parent child : ℕ) (reply : Reply) (t : State) → IsScripted s (step.Fork parent child) reply t → IsSet s (step.Fork parent child) reply t
   forked_sets st parent child (Ok a) t is = fork_sets parent child a t is
@@ -247,28 +184,9 @@ module _ (s : State) where
 
 -- ---- steps that only read
 
-abbrev Same : Slot → Outcome → Type 0
-Same old o = left_by old o ≡ old
-
-reads_same : (size k : ℕ) (c : Choice) (old : Slot) (e : SlotEvent) → only_reads (slot_step k e) ≡ true → Always (Same old) (slot_event size k c old e)
-reads_same size k c None (slot.Mount options) on = cc
-reads_same size k c None other on = refl
-reads_same size k c (Some m) (slot.Read name i offset count) on =
-    always_value (Same (Some m)) (λ r. refl) (file_named m name) NoSuchFile (read size m i offset count)
-    (λ f is. always_unless (Same (Some m)) (λ r. refl) (read_tests size i offset count f.1) (Finish (Answered (bytes_answer offset count (shown size (cell_at f.1 i))) (Some m))) refl)
-reads_same size k c (Some m) slot.Ls on =
-    always_unless (Same (Some m)) (λ r. refl) ((c.refused, OutOfMemory) ∷ []) (Finish (Answered (Names (filter_map (λ f. f.name) m.files)) (Some m))) refl
-reads_same size k c (Some m) (slot.Stat name) on = always_value (Same (Some m)) (λ r. refl) (file_named m name) NoSuchFile (stat m) (λ f is. refl)
-reads_same size k c (Some m) slot.Df on = refl
-reads_same size k c (Some m) other on = cc
-
 module _ (s : State) where
   event_reads : (e : Event) (reply : Reply) (t : State) → is_whole e ≡ true → IsEvent s e reply t → only_reads (step_of e) ≡ true → t.slots ≡ s.slots
-  event_reads (Tasks e) reply t whole is on = sym (ap (λ (q : Reply × State). q.1.slots) is.2)
-  event_reads (OnPool e) reply t whole is on = sym (ap (λ (q : Reply × State). q.1.slots) is.2)
-  event_reads (OnSlot k e) reply t whole is on =
-      let ends = event_ends (Same (slot_at s k)) s k e reply t (λ c. reads_same s.page_size k c (slot_at s k) e on) is in
-      ends.slots ∙ ap (λ n. slice_set s.slots k n) ends.holds ∙ set-get_or s.slots k None
+  event_reads e reply t whole is on = grind (arith, common_steps)
 
   pub step_reads : (reply : Reply) (t : State) (x : Step) → IsStep s x reply t → only_reads x ≡ true → t.slots ≡ s.slots
   step_reads reply t x is =

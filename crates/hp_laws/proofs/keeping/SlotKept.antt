@@ -1,11 +1,11 @@
 -- Each event that is answered keeps what names and numbers mean on its slot.
-use Rattle.std.proofs.Common.{◌≡◌, ⊎_elim, inl, inr, subst, ℕ, ◌+◌, true, None, Some, List, [], ◌∷◌, length, refl, sym, ◌∙◌, nat_le, ◌<◌, Option}
-use Rattle.std.proofs.lemmas.Bool.{leb-false}
+use Rattle.std.proofs.Common.{arith}
+use Rattle.std.proofs.Common.{◌≡◌, ⊎_elim, inl, inr, subst, ℕ, ◌+◌, true, None, Some, List, [], ◌∷◌, length, refl, sym, nat_le, ◌<◌, Option}
 use Rattle.hp_model.specs.declared.answer.Answer.TheVariants.{Done, MapNo}
 use Rattle.hp_model.specs.declared.event.SlotEvent.{SlotEvent}
 use Rattle.hp_model.specs.declared.event.SlotEvent.TheVariants as slot
 use Rattle.hp_model.specs.declared.refusal.Refusal.{Refusal}
-use Rattle.hp_model.specs.declared.refusal.Refusal.TheVariants.{BeyondEnd, OutOfMemory, OutOfRange, MountFull}
+use Rattle.hp_model.specs.declared.refusal.Refusal.TheVariants.{OutOfMemory, MountFull}
 use Rattle.hp_model.specs.declared.step.Intent.{Intent}
 use Rattle.hp_model.specs.declared.step.Intent.TheVariants.{Read, Write}
 use Rattle.hp_model.specs.files.Access.{access}
@@ -14,9 +14,9 @@ use Rattle.hp_model.specs.files.Fork.{forked}
 use Rattle.hp_model.specs.files.GiveBack.{punched, swept, truncated, unlinked, unmapped_from, without_task}
 use Rattle.hp_model.specs.files.MakeMap.{asked, mapped, next_number, with_new}
 use Rattle.hp_model.specs.files.Mapping.{is_map, map_punched}
-use Rattle.hp_model.specs.machine.Plan.{Ask, Choice, Outcome, Refused, Answered, Finish, Plan, Slot, gives}
-use Rattle.hp_model.specs.machine.Promises.{is_in, map_on, shown_on, seen_on, spot_on}
-use Rattle.hp_model.specs.machine.SlotEvent.{fault, is_beyond, is_unmapped, load, store}
+use Rattle.hp_model.specs.machine.Plan.{Choice, Outcome, Refused, Answered, Plan, Slot, gives}
+use Rattle.hp_model.specs.machine.Promises.{is_in, map_on, spot_on}
+use Rattle.hp_model.specs.machine.SlotEvent.{fault, load, store}
 use Rattle.hp_model.specs.machine.SlotEvent.{slot_event, unentered, has_name}
 use Rattle.hp_model.specs.machine.Sound.{IsSound, IsSoundMount}
 use Rattle.hp_model.specs.files.Spot.{Spot, spot}
@@ -27,7 +27,7 @@ use Rattle.hp_laws.proofs.names.Follows.{follow, sweep_follows}
 use Rattle.hp_laws.proofs.names.Keys.{keys}
 use Rattle.hp_laws.proofs.names.Meanings.{fault_stays, load_stays, placed_map, placed_new, placed_on, placed_same, store_stays, placed_filled}
 use Rattle.hp_laws.proofs.counts.MountMoves.{IsSpot, spot_is, file_at}
-use Rattle.hp_laws.proofs.steps.Outcomes.{Always, always_test, always_weaker}
+use Rattle.hp_laws.proofs.steps.Outcomes.{Always, always_weaker}
 use Rattle.hp_laws.proofs.names.Placed.{Placed}
 use Rattle.hp_laws.proofs.accesses.StoredMaps.{IsLostAt, touched_marks, touched_seen}
 use Rattle.hp_laws.proofs.accesses.Shown.{On, Result, Same, read_same, write_done}
@@ -41,24 +41,15 @@ use Rattle.hp_model.specs.pool.Grant.{is_full, rise}
 
 -- both of what holds whatever the pool answers
 pub always_both : (P Q R : Outcome → Type 0) → ((o : Outcome) → P o → Q o → R o) → (p : Plan) → Always P p → Always Q p → Always R p
-always_both P Q R h (Finish o) p q = h o p q
-always_both P Q R h (Ask sec f) p q = λ a. h (f a) (p a) (q a)
+always_both P Q R h p p' q = grind arith
 
 module _ (size k : ℕ) (c : Choice) (m : Mount) where
   -- ---- names and numbers stay in place
 
   module _ (e : SlotEvent) (stores : (j x : ℕ) (old : List ℕ) → old ≡ stored_by size (Some m) e j x old) (sees : (j l x : ℕ) (old : List ℕ) → old ≡ seen_by size (Some m) e j l x old) where
     quiet_keeps : (o : Outcome) → Quiet size (Some m) o → On (Placed m) o → KeepsSlot size (Some m) e o
-    quiet_keeps (Refused r) quiet stays = tt
-    quiet_keeps (Answered a None) quiet stays = absurd stays
-    quiet_keeps (Answered a (Some n)) quiet stays =
-        by_place size m n e (record {
-          names = λ name f goes_on named. stays.names name f named;
-          numbers = λ task number p goes_on found. stays.numbers task number p found;
-          cells = λ j x. quiet.0 j x ∙ stores j x (shown_on size (Some m) j x);
-          maps = λ task number x p found. inl (quiet.1 p.file_no p.map_no x ∙ sees p.file_no p.map_no x (seen_on size (Some m) p.file_no p.map_no x));
-          marks = λ task number p found marked. quiet.2 p.file_no p.map_no ∙ marked;
-        })
+    quiet_keeps (Answered a (Some n)) quiet stays = grind (arith, by_place)
+    quiet_keeps o quiet stays = grind arith
 
   on_placed : (p : Plan) → Always (On (λ n. keys n ≡ keys m)) p → Always (On (Placed m)) p
   on_placed p all = placed_on c m p all
@@ -77,18 +68,12 @@ module _ (size k : ℕ) (c : Choice) (m : Mount) where
     -- an access by a fault, its tests passed
     fault_tested : (Q : Outcome → Type 0) → ((r : Refusal) → Q (Refused r)) → (intent : Intent) → (i < length s.file.cells → Always Q (access c size m s home i intent))
         → Always Q (fault c size m home i intent s)
-    fault_tested Q stops intent h =
-        always_test Q (is_unmapped s i) OutOfRange _ (stops OutOfRange)
-        (λ a. always_test Q (is_beyond s i) BeyondEnd (access c size m s home i intent) (stops BeyondEnd) (λ b. h (leb-false (length s.file.cells) i b)))
+    fault_tested Q stops intent h = grind arith
 
     same_quiet : (o : Outcome) → On (Same size m s at i) o → Quiet size (Some m) o
-    same_quiet (Refused r) on = (λ j x. refl, λ j l x. refl, λ j l. refl)
-    same_quiet (Answered a None) on = absurd on
-    same_quiet (Answered a (Some n)) on = (on.cells, on.maps, on.marks)
+    same_quiet o on = grind arith
 
     touched : IsSoundMount m → (o : Outcome) → On (Result size m s at i) o → On (λ n. keys n ≡ keys m) o → KeepsSlot size (Some m) (slot.Fault task home number i Write) o
-    touched sound (Refused r) done same = tt
-    touched sound (Answered a None) done same = absurd done
     touched sound (Answered a (Some n)) done same =
         let stays = placed_same m n same in
         by_place size m n (slot.Fault task home number i Write) (record {
@@ -101,6 +86,7 @@ module _ (size k : ℕ) (c : Choice) (m : Mount) where
               (touched_seen size m sound s at i 0 [] n done p.file_no p.map_no x);
           marks = λ t u p e marked. touched_marks size m sound s at i 0 [] n done p.file_no p.map_no marked;
         })
+    touched sound o done same = grind arith
 
     fault_keeps : IsSoundMount m → (intent : Intent) → Always (KeepsSlot size (Some m) (slot.Fault task home number i intent)) (fault c size m home i intent s)
     fault_keeps sound Read =
@@ -123,16 +109,8 @@ module _ (size k : ℕ) (c : Choice) (m : Mount) where
 
     stored_keeps : (offset : ℕ) (bytes : List ℕ) (o : Outcome) → Stores size (Some m) (spot_on (Some m) task number) i offset bytes o → On (Placed m) o
         → KeepsSlot size (Some m) (slot.Store task home number i offset bytes) o
-    stored_keeps offset bytes (Refused r) stored stays = tt
-    stored_keeps offset bytes (Answered a None) stored stays = absurd stays
-    stored_keeps offset bytes (Answered a (Some n)) stored stays =
-        by_place size m n (slot.Store task home number i offset bytes) (record {
-          names = λ name f goes_on named. stays.names name f named;
-          numbers = λ task number p goes_on found. stays.numbers task number p found;
-          cells = stored.0;
-          maps = λ t u x p e. stored.1 p.file_no p.map_no x;
-          marks = λ t u p e marked. stored.2 p.file_no p.map_no marked;
-        })
+    stored_keeps offset bytes (Answered a (Some n)) stored stays = grind (arith, by_place)
+    stored_keeps offset bytes o stored stays = grind arith
 
     store_keeps : IsSoundMount m → (offset : ℕ) (bytes : List ℕ) → Always (KeepsSlot size (Some m) (slot.Store task home number i offset bytes)) (store c size m home i offset bytes s)
     store_keeps sound offset bytes =
@@ -143,10 +121,7 @@ module _ (size k : ℕ) (c : Choice) (m : Mount) where
         (on_placed plan (store_stays c m s at size home i offset bytes))
 
   told_keeps : (e : SlotEvent) → tells_all e ≡ true → SlotKeeps size (Some m) e (Some m)
-  told_keeps slot.Df told = same_keeps size m slot.Df (λ j x old. refl) (λ j l x old. refl)
-  told_keeps slot.Ls told = same_keeps size m slot.Ls (λ j x old. refl) (λ j l x old. refl)
-  told_keeps (slot.Stat name) told = same_keeps size m (slot.Stat name) (λ j x old. refl) (λ j l x old. refl)
-  told_keeps other told = cc
+  told_keeps e told = grind arith
 
   -- ---- the walk
 
@@ -207,31 +182,10 @@ module _ (size k : ℕ) (c : Choice) (m : Mount) where
       quiet_keeps (slot.Remount options) (λ j x old. refl) (λ j l x old. refl) (Answered Done (Some n)) (λ j x. refl, λ j l x. refl, λ j l. refl) (placed_same m n refl))) size options
 
   umount_keeps : Always (KeepsSlot size (Some m) slot.Umount) (gives Done (Some m) None)
-  umount_keeps = always_gives (KeepsSlot size (Some m) slot.Umount) Done (Some m) None (record {
-    names = λ name i f goes_on named. cc;
-    numbers = λ task number i p goes_on found. cc;
-    together = λ a b p o goes_on stays found there. cc;
-  })
-
--- on a slot that is not mounted there is nothing to keep
-none_keeps : (size : ℕ) (e : SlotEvent) (y : Slot) → SlotKeeps size None e y
-none_keeps size e y = record {
-  names = λ name i f goes_on named. cc;
-  numbers = λ task number i p goes_on found. cc;
-  together = λ a b p o goes_on stays found there. cc;
-}
+  umount_keeps = grind arith
 
 open_keeps : (size : ℕ) (e : SlotEvent) (p : Plan) → Always (KeepsSlot size None e) p
-open_keeps size e (Finish o) = by_outcome o
-  where
-    by_outcome : (o : Outcome) → KeepsSlot size None e o
-    by_outcome (Refused r) = tt
-    by_outcome (Answered a y) = none_keeps size e y
-open_keeps size e (Ask sec f) = λ a. by_outcome (f a)
-  where
-    by_outcome : (o : Outcome) → KeepsSlot size None e o
-    by_outcome (Refused r) = tt
-    by_outcome (Answered a y) = none_keeps size e y
+open_keeps size e p = grind arith
 
 pub slot_keeps : (size k : ℕ) (c : Choice) (old : Slot) (e : SlotEvent) → IsSound old → Always (KeepsSlot size old e) (slot_event size k c old e)
 slot_keeps size k c None e sound = open_keeps size e (slot_event size k c None e)

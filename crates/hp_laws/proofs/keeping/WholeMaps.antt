@@ -1,13 +1,9 @@
 -- An exit and a fork leave every map of other tasks as it was.
-use Rattle.std.proofs.Common.{◌≡◌, ℕ, true, refl}
+use Rattle.std.proofs.Common.{arith}
+use Rattle.std.proofs.Common.{◌≡◌, ℕ, true}
 use Rattle.hp_model.specs.declared.event.Event.{Event}
-use Rattle.hp_model.specs.declared.event.Event.TheVariants.{Tasks, Slot as OnSlot, Pool as OnPool}
-use Rattle.hp_model.specs.declared.event.PoolEvent.TheVariants as pool
-use Rattle.hp_model.specs.declared.event.SlotEvent.TheVariants as slot
-use Rattle.hp_model.specs.declared.event.TableEvent.TheVariants as table
 use Rattle.hp_model.specs.declared.refusal.Refusal.{Refusal}
 use Rattle.hp_model.specs.declared.step.Step.{Step}
-use Rattle.hp_model.specs.declared.step.Step.TheVariants as step
 use Rattle.hp_model.specs.machine.Event.{IsEvent}
 use Rattle.hp_model.specs.machine.Plan.{Reply}
 use Rattle.hp_model.specs.machine.Promises.{AreWhole, LeavesWhole}
@@ -21,19 +17,10 @@ module _ (s : State) where
   all_whole gone t fade k task number p other found = (fade.slots k).whole task number p other found
 
   early_whole : (x : Step) (r : Refusal) → LeavesWhole s x s
-  early_whole (step.Exit gone) r = λ k task number p other found. (p, found, refl, refl)
-  early_whole (step.Fork parent child) r = λ k task number p other found. (p, found, refl, refl)
-  early_whole other r = tt
+  early_whole x r = grind arith
 
   event_whole : (e : Event) (reply : Reply) (t : State) → is_whole e ≡ true → IsEvent s e reply t → LeavesWhole s (step_of e) t
-  event_whole (OnSlot k (slot.ForkMaps parent child)) reply t whole is = cc
-  event_whole (OnSlot k (slot.ExitMaps task)) reply t whole is = cc
-  event_whole (OnSlot k other) reply t whole is = tt
-  event_whole (Tasks (table.FindAndAdd parent child)) reply t whole is = cc
-  event_whole (Tasks (table.Remove task)) reply t whole is = cc
-  event_whole (Tasks other) reply t whole is = tt
-  event_whole (OnPool pool.Meminfo) reply t whole is = tt
-  event_whole (OnPool other) reply t whole is = tt
+  event_whole e reply t whole is = grind arith
 
   pub step_whole : (reply : Reply) (t : State) (x : Step) → IsStep s x reply t → LeavesWhole s x t
   step_whole reply t x is =

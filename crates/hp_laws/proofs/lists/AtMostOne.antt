@@ -33,9 +33,6 @@ module _ {X : Type 0} (p : X → Bool) (d : X) where
 
   pub single : (xs : List X) → count_by p xs ≤ 1 → (j k : ℕ) → j < length xs → k < length xs → p (get_or xs j d) ≡ true → p (get_or xs k d) ≡ true → j ≡ k
   single [] few j k lj lk a b = absurd (omega (arith, lj))
-  single (x ∷ xs) few zero zero lj lk a b = refl
-  single (x ∷ xs) few zero (suc k) lj lk a b =
-      let one = ap bit a in let more = some_counted xs k (omega (arith, lk)) b in absurd (omega (arith, count_cons p x xs, one, more, few))
-  single (x ∷ xs) few (suc j) zero lj lk a b =
-      let one = ap bit b in let more = some_counted xs j (omega (arith, lj)) a in absurd (omega (arith, count_cons p x xs, one, more, few))
+  single (x ∷ xs) few zero (suc k) lj lk a b = grind (arith, some_counted, count_cons)
   single (x ∷ xs) few (suc j) (suc k) lj lk a b = ap suc (single xs (let cons = count_cons p x xs in omega (arith, cons, few)) j k (omega (arith, lj)) (omega (arith, lk)) a b)
+  single (x ∷ xs) few j zero lj lk a b = grind (arith, some_counted, count_cons)

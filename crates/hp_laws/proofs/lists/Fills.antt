@@ -8,7 +8,7 @@ use Rattle.std.proofs.lemmas.List.Elements.{All-head, All-tail}
 use Rattle.std.proofs.lemmas.List.Sums.{passes_at_first, sum_by-set}
 use Rattle.std.proofs.Math.Seq.{take-set-lt}
 use Rattle.hp_model.specs.declared.cell.Cell.{Cell}
-use Rattle.hp_model.specs.declared.cell.Cell.TheVariants.{Hole, Entered, Present}
+use Rattle.hp_model.specs.declared.cell.Cell.TheVariants.{Hole, Present}
 use Rattle.hp_model.specs.files.File.{cell_in, has_page, is_entered, is_hole}
 use Rattle.hp_model.specs.files.Fill.{cells_filled, lacks_page, next_bare}
 use Rattle.hp_model.specs.files.MountCounts.{is_page_at, is_waiting}
@@ -23,28 +23,20 @@ no_page : (c : Cell Page) → lacks_page c ≡ true → has_page c ≡ false
 no_page c lacks = not-true (has_page c) lacks
 
 none_at : (n : ℕ) (c : Cell Page) → has_page c ≡ false → is_page_at n c ≡ false
-none_at n Hole none = refl
-none_at n Entered none = refl
-none_at n (Present page) none = cc
+none_at n c none = grind arith
 
 entered_or_hole : (c : Cell Page) → bit (is_entered c) + bit (is_hole c) ≡ 1
-entered_or_hole Hole = refl
-entered_or_hole Entered = refl
-entered_or_hole (Present page) = refl
+entered_or_hole c = grind arith
 
 hole_lacks : (c : Cell Page) → bit (is_hole c) ≤ bit (lacks_page c)
-hole_lacks Hole = omega arith
-hole_lacks Entered = omega arith
-hole_lacks (Present page) = omega arith
+hole_lacks c = grind arith
 
 pub holes_lack : (xs : List (Cell Page)) → count_by is_hole xs ≤ count_by lacks_page xs
 holes_lack [] = omega arith
 holes_lack (x ∷ xs) = omega (arith, count_cons is_hole x xs, count_cons lacks_page x xs, hole_lacks x, holes_lack xs)
 
 entry_kind : (c : Cell Page) → bit (is_entered c) ≡ bit (has_page c) + bit (is_waiting c)
-entry_kind Hole = refl
-entry_kind Entered = refl
-entry_kind (Present page) = refl
+entry_kind c = grind arith
 
 -- an entry has a page, or waits for one
 pub entries_are : (xs : List (Cell Page)) → count_by is_entered xs ≡ count_by has_page xs + count_by is_waiting xs
@@ -80,30 +72,12 @@ module _ (a b : ℕ) where
     pub lacks : has_page (cell_in xs i) ≡ false
 
   next_is : (xs : List (Cell Page)) → 1 ≤ bare xs → IsNext xs (next_bare a xs)
-  next_is xs some =
-      let ys : List (Cell Page) = drop a xs in
-      let j : ℕ = position_or_len lacks_page ys in
-      let at = first_before lacks_page (b - a) ys some in
-      let before = at.0 in
-      let there = at.1 in
-      let long = length-drop a xs in
-      record {
-        low = omega arith;
-        high = omega (arith, before);
-        within = omega (arith, there, long);
-        lacks = no_page (cell_in xs (a + j)) (ap lacks_page (sym (get_or-drop a xs j Hole)) ∙ passes_at_first lacks_page ys Hole there);
-      }
+  next_is xs some = grind (arith, first_before, length-drop, no_page, get_or-drop, passes_at_first)
 
   -- a count over the range, where a cell of it changes
   part_set : (t : Cell Page → Bool) (xs : List (Cell Page)) (j : ℕ) (c : Cell Page) → j < b - a → a + j < length xs
       → count_by t (part a b (slice_set xs (a + j) c)) + bit (t (cell_in xs (a + j))) ≡ count_by t (part a b xs) + bit (t c)
-  part_set t xs j c before there =
-      let ys : List (Cell Page) = drop a xs in
-      let set = ap (take (b - a)) (drop-set-add a xs j c) ∙ take-set-lt (b - a) ys j c before in
-      let counts = ap (count_by t) set in
-      let one = sum_by-set (λ x. bit (t x)) (take (b - a) ys) j c Hole (omega (arith, before, there, length-take (b - a) ys, length-drop a xs)) in
-      let was = ap (λ x. bit (t x)) (get_or-take (b - a) ys j Hole before ∙ get_or-drop a xs j Hole) in
-      omega (arith, counts, one, was)
+  part_set t xs j c before there = grind (arith, drop-set-add, take-set-lt, sum_by-set, bit, length-take, length-drop, get_or-take, get_or-drop)
 
   -- one page, at the lowest index
   record Step (xs ys : List (Cell Page)) (p : Page) : Type 0 where
@@ -114,28 +88,7 @@ module _ (a b : ℕ) where
     pub each : (n : ℕ) → count_by (is_page_at n) ys ≡ count_by (is_page_at n) xs + bit (p.node == n)
 
   step : (xs : List (Cell Page)) (p : Page) → 1 ≤ bare xs → Step xs (slice_set xs (next_bare a xs) (Present p)) p
-  step xs p some =
-      let next = next_is xs some in
-      let j : ℕ = position_or_len lacks_page (drop a xs) in
-      let i : ℕ = next_bare a xs in
-      let high = next.high in
-      let there = next.within in
-      let before : j < b - a = omega (arith, high) in
-      let whole = λ (t : Cell Page → Bool). sum_by-set (λ x. bit (t x)) xs i (Present p) Hole there in
-      let none = ap bit next.lacks in
-      let bares = ap (λ x. bit (not x)) next.lacks in
-      let pages = whole has_page in
-      let entries = whole is_entered in
-      let holes = part_set is_hole xs j (Present p) before there in
-      let lack = part_set lacks_page xs j (Present p) before there in
-      let either = entered_or_hole (cell_in xs i) in
-      record {
-        long = length-set xs i (Present p);
-        pages = omega (arith, pages, none);
-        entries = omega (arith, entries, holes, either);
-        left = omega (arith, lack, bares);
-        each = λ n. (let at_n = whole (is_page_at n) in let none_n = ap bit (none_at n (cell_in xs i) next.lacks) in omega (arith, at_n, none_n));
-      }
+  step xs p some = grind (arith, next_is, sum_by-set, bit, part_set, entered_or_hole, length-set, none_at)
 
   -- so many pages, one after another
   pub record Fill (xs ys : List (Cell Page)) (ps : List Page) : Type 0 where

@@ -1,5 +1,6 @@
 -- What a look at one place of a list tells after a change that the look does not see, or of one place.
-use Rattle.std.proofs.Common.{◌≡◌, inl, inr, ℕ, zero, suc, ◌-◌, ◌<◌, ◌≤◌, arith, List, [], ◌∷◌, ◌++◌, length, take, drop, map, replicate, get_or, set, refl, sym, ap, ◌∙◌, subst, append_assoc}
+use Rattle.std.proofs.lemmas.Grind.{common_steps}
+use Rattle.std.proofs.Common.{◌≡◌, ℕ, zero, suc, ◌-◌, ◌<◌, ◌≤◌, arith, List, [], ◌∷◌, ◌++◌, length, take, drop, map, replicate, get_or, set, refl, sym, ap, ◌∙◌, subst, append_assoc}
 use Rattle.std.proofs.lemmas.Bool.{cases_eq}
 use Rattle.std.proofs.lemmas.List.{get_or-set_same, get_or-set_other, take-append-drop}
 use Rattle.hp_model.specs.Lists.{edit_at, edit_range}
@@ -29,35 +30,24 @@ module _ {X : Type 0} (R : X → X → Type 0) (same : (x : X) → R x x) (d : X
       (related_after (take a xs) (map f (take k r) ++ drop k r) (take k r ++ drop k r) (related_mapped f h (take k r) (drop k r)) j))
 
 pub get_map : {X : Type 0} (h : X → X) (d : X) → h d ≡ d → (xs : List X) (j : ℕ) → get_or (map h xs) j d ≡ h (get_or xs j d)
-get_map h d e [] j = sym e
-get_map h d e (x ∷ xs) zero = refl
-get_map h d e (x ∷ xs) (suc j) = get_map h d e xs j
+get_map h d e xs j = grind (arith, common_steps)
 
 -- ---- looks
 
 module _ {X Y : Type 0} (g : X → Y) (d : X) where
   -- one element is another, which looks the same
   pub same_put : (xs : List X) (k : ℕ) (y : X) → k < length xs → g y ≡ g (get_or xs k d) → (j : ℕ) → g (get_or (set xs k y) j d) ≡ g (get_or xs j d)
-  same_put xs k y l e j =
-      elim (cases_eq j k) as (λ _. g (get_or (set xs k y) j d) ≡ g (get_or xs j d)) [
-        | inl same ↦ subst (λ i. g (get_or (set xs k y) i d) ≡ g (get_or xs i d)) (sym same) (ap g (get_or-set_same xs k y d l) ∙ e)
-        | inr other ↦ ap g (get_or-set_other xs k j y d other)
-      ]
+  same_put xs k y l e j = grind (arith, cases_eq, get_or-set_same, get_or-set_other)
 
   -- elements more that look like none
   pub same_more : (xs ys : List X) → ((j : ℕ) → g (get_or ys j d) ≡ g d) → (j : ℕ) → g (get_or (xs ++ ys) j d) ≡ g (get_or xs j d)
-  same_more [] ys h j = h j
-  same_more (x ∷ xs) ys h zero = refl
-  same_more (x ∷ xs) ys h (suc j) = same_more xs ys h j
+  same_more xs ys h j = grind (arith, common_steps)
 
   pub same_one : (x : X) → g x ≡ g d → (j : ℕ) → g (get_or (x ∷ []) j d) ≡ g d
-  same_one x e zero = e
-  same_one x e (suc j) = refl
+  same_one x e j = grind arith
 
   pub same_none : (n j : ℕ) → g (get_or (replicate n d) j d) ≡ g d
-  same_none zero j = refl
-  same_none (suc n) zero = refl
-  same_none (suc n) (suc j) = same_none n j
+  same_none n j = grind (arith, common_steps)
 
   -- a range of elements is changed, and each looks the same
   pub same_edit_range : (f : X → X) → ((x : X) → g (f x) ≡ g x) → (a b : ℕ) (xs : List X) (j : ℕ) → g (get_or (edit_range f a b xs) j d) ≡ g (get_or xs j d)
@@ -67,10 +57,9 @@ module _ {X Y : Type 0} (g : X → Y) (d : X) where
 
 pub edit_other : {X : Type 0} (f : X → X) (d : X) (xs : List X) (k j : ℕ) → (j ≡ k → ⊥) → get_or (edit_at f xs k) j d ≡ get_or xs j d
 edit_other f d [] k j other = refl
-edit_other f d (x ∷ xs) zero zero other = absurd (other refl)
 edit_other f d (x ∷ xs) zero (suc j) other = refl
-edit_other f d (x ∷ xs) (suc k) zero other = refl
 edit_other f d (x ∷ xs) (suc k) (suc j) other = edit_other f d xs k j (λ same. other (ap suc same))
+edit_other f d (x ∷ xs) k zero other = grind arith
 
 pub edit_here : {X : Type 0} (f : X → X) (d : X) → f d ≡ d → (xs : List X) (k : ℕ) → get_or (edit_at f xs k) k d ≡ f (get_or xs k d)
 edit_here f d e [] k = sym e
@@ -90,7 +79,6 @@ edit_past f (x ∷ xs) (suc k) l = ap (λ ys. x ∷ ys) (edit_past f xs k (omega
 -- an edit that a look does not see
 pub same_edit : {X Y : Type 0} (g : X → Y) (d : X) (f : X → X) → ((x : X) → g (f x) ≡ g x) → (xs : List X) (k j : ℕ) → g (get_or (edit_at f xs k) j d) ≡ g (get_or xs j d)
 same_edit g d f h [] k j = refl
-same_edit g d f h (x ∷ xs) zero zero = h x
 same_edit g d f h (x ∷ xs) zero (suc j) = refl
-same_edit g d f h (x ∷ xs) (suc k) zero = refl
 same_edit g d f h (x ∷ xs) (suc k) (suc j) = same_edit g d f h xs k j
+same_edit g d f h (x ∷ xs) k zero = grind arith

@@ -1,5 +1,6 @@
 -- The nodes of pages of which there are so many at each node.
-use Rattle.std.proofs.Common.{◌≡◌, ℕ, zero, suc, ◌+◌, ◌<◌, Bool, true, false, ◌==◌, List, [], ◌∷◌, ◌++◌, length, replicate, take, refl, sym, ap, ◌∙◌, cond, arith}
+use Rattle.std.proofs.lemmas.Grind.{common_steps}
+use Rattle.std.proofs.Common.{◌≡◌, ℕ, zero, suc, ◌+◌, ◌<◌, Bool, true, false, ◌==◌, List, [], ◌∷◌, ◌++◌, length, replicate, refl, cond, arith}
 use Rattle.std.specs.List.{sum, slice_index_or, count_by}
 use Rattle.std.proofs.lemmas.Bool.{eq-eqb, ne_eqb}
 use Rattle.std.proofs.lemmas.List.{length-append, length-replicate, length-take}
@@ -14,10 +15,7 @@ abbrev pub count_of : ℕ → List ℕ → ℕ
 count_of n nodes = count_by (λ k. k == n) nodes
 
 pub length-nodes_of : (n : ℕ) (counts : List ℕ) → length (rising_nodes n counts) ≡ n
-length-nodes_of n counts =
-    let both = length-append (nodes_from 0 counts) (replicate n 0) in
-    let more = length-replicate {A = ℕ} n 0 in
-    omega (arith, both, more, length-take n (nodes_from 0 counts ++ replicate n 0))
+length-nodes_of n counts = grind (arith, length-append, length-replicate, length-take)
 
 length-nodes_from : (node : ℕ) (counts : List ℕ) → length (nodes_from node counts) ≡ sum counts
 length-nodes_from node [] = refl
@@ -28,19 +26,13 @@ length-nodes_from node (k ∷ ks) =
 
 -- where the counts say of all pages where they are
 pub nodes_all : (n : ℕ) (counts : List ℕ) → sum counts ≡ n → rising_nodes n counts ≡ nodes_from 0 counts
-nodes_all n counts is =
-    let all : List ℕ = nodes_from 0 counts in
-    ap (λ k. take k (all ++ replicate n 0)) {x = n} {y = length all} (sym (length-nodes_from 0 counts ∙ is)) ∙ take-append_seam all (replicate n 0)
+nodes_all n counts is = grind (arith, common_steps, length-nodes_from, take-append_seam)
 
 -- ---- how many are at a node
 
 count_same : (n node : ℕ) (b : Bool) → (node == n) ≡ b → (k : ℕ) → count_of n (replicate k node) ≡ cond b k 0
 count_same n node true is zero = refl
-count_same n node false is zero = refl
-count_same n node true is (suc k) =
-    let here = ap bit is in omega (arith, count_cons (λ x. x == n) node (replicate k node), here, count_same n node true is k)
-count_same n node false is (suc k) =
-    let here = ap bit is in omega (arith, count_cons (λ x. x == n) node (replicate k node), here, count_same n node false is k)
+count_same n node b is k = grind (arith, common_steps, bit, count_cons)
 
 pub count_join : (n : ℕ) (xs ys : List ℕ) → count_of n (xs ++ ys) ≡ count_of n xs + count_of n ys
 count_join n xs ys = sum_by-append (λ k. cond (k == n) 1 0) xs ys

@@ -1,9 +1,10 @@
 -- A created file and a new map are what their reply says.
+use Rattle.std.proofs.lemmas.Grind.{common_steps}
 use Rattle.std.proofs.Common.{◌≡◌, subst, ℕ, ◌<◌, ◌||◌, Bool, true, false, not, None, Option, Some, Err, List, nat_le, nat_lt, ◌≤◌, max, ◌==◌, ⊎_elim, arith, ◌-◌}
 use Rattle.std.proofs.Common.{[], ◌∷◌, ◌++◌, length, drop, is_some, option_map, refl, sym, ap, ◌∙◌, get_or, if◌then◌else◌}
-use Rattle.std.specs.List.{flat_map, list_any, slice_index_or, slice_set}
+use Rattle.std.specs.List.{flat_map, list_any, slice_set}
 use Rattle.std.proofs.lemmas.Bool.{eq-eqb, eqb-true, false_from_ne_true, ltb-true, and_parts, cases_lt, leb-false, leb-true, or_parts}
-use Rattle.std.proofs.lemmas.List.{get_or-set_same, get_or_past}
+use Rattle.std.proofs.lemmas.List.{get_or_past}
 use Rattle.std.proofs.lemmas.Slice.Eq.{bytes_eq-Decides}
 use Rattle.std.proofs.lemmas.List.Folds.{list_any_at}
 use Rattle.hp_model.specs.declared.answer.Answer.TheVariants.{Done, MapNo}
@@ -14,9 +15,7 @@ use Rattle.hp_model.specs.declared.step.Sharing.{Sharing}
 use Rattle.hp_model.specs.declared.step.Step.{Step}
 use Rattle.hp_model.specs.declared.step.Step.TheVariants.{Anon as AnonStep, Create as CreateStep, Map as MapStep, Preallocate}
 use Rattle.hp_model.specs.declared.event.Event.{Event}
-use Rattle.hp_model.specs.declared.event.Event.TheVariants.{Tasks, Slot as OnSlot, Pool as OnPool}
-use Rattle.hp_model.specs.declared.event.PoolEvent.TheVariants as pool
-use Rattle.hp_model.specs.declared.event.TableEvent.TheVariants as table
+use Rattle.hp_model.specs.declared.event.Event.TheVariants.{Slot as OnSlot}
 use Rattle.hp_model.specs.files.File.{File, Mount, maps_of, new_file, with_file, at_least, has_page}
 use Rattle.hp_model.specs.Lists.{found, one_on}
 use Rattle.hp_model.specs.files.MakeMap.{asked, mapped, new_map, next_number, numbers_of, with_new}
@@ -31,7 +30,6 @@ use Rattle.hp_model.specs.machine.SlotEvent.{anon_tests, create_tests, file_name
 use Rattle.hp_model.specs.machine.SlotEvent.{slot_event, fill, is_bad_range, preallocate, preallocate_tests, unentered}
 use Rattle.hp_model.specs.declared.event.SlotEvent.TheVariants as slot
 use Rattle.hp_model.specs.files.Spot.{Spot, spot, spot_in}
-use Rattle.hp_model.proofs.Distinct.{or_assoc}
 use Rattle.hp_laws.proofs.making.NewNumbers.{found_again, found_last, found_not, found_put, least_is_unused, number_used}
 use Rattle.hp_laws.proofs.steps.Outcomes.{Always, always_if, always_test, event_ends, reply_of}
 use Rattle.hp_laws.proofs.lists.Places.{found_place}
@@ -48,8 +46,7 @@ use Rattle.hp_model.specs.Profile.{most_file_pages}
 -- ---- a map's number is not used before
 
 pub any_append : {X : Type 0} (t : X → Bool) (xs ys : List X) → list_any t (xs ++ ys) ≡ (list_any t xs || list_any t ys)
-any_append t [] ys = refl
-any_append t (x ∷ xs) ys = ap (λ b. t x || b) (any_append t xs ys) ∙ or_assoc (t x) (list_any t xs) (list_any t ys)
+any_append t xs ys = grind (arith, common_steps)
 
 pub any_in_files : (t : Map → Bool) (fs : List File) → list_any t (flat_map (λ f. f.maps) fs) ≡ list_any (λ (f : File). list_any t f.maps) fs
 any_in_files t [] = refl
@@ -64,11 +61,7 @@ in_file test None = None
 in_file test (Some f) = option_map (spot_in f) (found test f.1.maps)
 
 pub spot_in_file : (m : Mount) (test : Map → Bool) → spot m test ≡ in_file test (found (λ (f : File). list_any test f.maps) m.files)
-spot_in_file m test = by_found (found (λ (f : File). list_any test f.maps) m.files)
-  where
-    by_found : (o : Option (ℕ × File)) → (elim o [ None ↦ None | Some f ↦ option_map (spot_in f) (found test f.1.maps) ]) ≡ in_file test o
-    by_found None = refl
-    by_found (Some f) = refl
+spot_in_file m test = grind arith
 
 pub spot_none : (m : Mount) (test : Map → Bool) → found (λ (f : File). list_any test f.maps) m.files ≡ None → spot m test ≡ None
 spot_none m test e = spot_in_file m test ∙ ap (in_file test) e
@@ -223,8 +216,7 @@ FileMade old name (Answered a new) = IsNewFile old new name
 
 -- a file of the name is not there, and is found once it is made
 pub named_none : {X : Type 0} (o : Option X) → is_some o ≡ false → o ≡ None
-named_none None e = refl
-named_none (Some x) e = cc
+named_none o e = grind arith
 
 pub found_none : {X : Type 0} (t : X → Bool) (xs : List X) → found t xs ≡ None → list_any t xs ≡ false
 found_none t [] e = refl
@@ -233,8 +225,7 @@ found_none {X = X} t (x ∷ xs) e = by_head (t x) refl (found t xs) refl e (foun
     by_head : (b : Bool) → t x ≡ b → (r : Option (ℕ × X)) → found t xs ≡ r → (if b then Some (0, x) else option_map one_on r) ≡ None →
         (found t xs ≡ None → list_any t xs ≡ false) → list_any t (x ∷ xs) ≡ false
     by_head true is r was e rest = cc
-    by_head false is None was e rest = rw (is, rest was) refl
-    by_head false is (Some p) was e rest = cc
+    by_head b is r was e rest = grind arith
 
 create_made : (size k : ℕ) (c : Choice) (old : Slot) (name : List ℕ) → Always (FileMade old name) (slot_event size k c old (slot.Create name))
 create_made size k c None name = tt
@@ -253,39 +244,23 @@ create_made size k c (Some m) name =
 module _ (s : State) where
   -- a refusal makes nothing
   makes_none : (t : State) (step : Step) (r : Refusal) → Makes s step (Err r) t
-  makes_none t (CreateStep k name) r = tt
-  makes_none t (MapStep task k name a n sharing reserving) r = tt
-  makes_none t (AnonStep task n sharing reserving) r = tt
-  makes_none t (Preallocate k name a b) r = tt
-  makes_none t other r = tt
+  makes_none t step r = grind arith
 
   module _ (t : State) (k : ℕ) (l : k < length s.slots) where
-    -- what the event leaves in its slot
-    left_there : (n : Slot) → t.slots ≡ slice_set s.slots k n → slot_at t k ≡ n
-    left_there n slots = ap (λ (xs : List Slot). slice_index_or xs k None) slots ∙ get_or-set_same s.slots k n None l
-
     file_makes : (name : List ℕ) (o : Outcome) → FileMade (slot_at s k) name o → t.slots ≡ slice_set s.slots k (left_by (slot_at s k) o) → Makes s (CreateStep k name) (reply_of o) t
-    file_makes name (Refused r) h slots = tt
-    file_makes name (Answered a new) h slots = subst (λ n. IsNewFile (slot_at s k) n name) (sym (left_there new slots)) h
+    file_makes name o h slots = grind (arith, common_steps)
 
     pages_make : (name : List ℕ) (a b : ℕ) (o : Outcome) → PagesMade (slot_at s k) name a b o → t.slots ≡ slice_set s.slots k (left_by (slot_at s k) o)
         → Makes s (Preallocate k name a b) (reply_of o) t
-    pages_make name a b (Refused r) h slots = tt
-    pages_make name a b (Answered x new) h slots = subst (λ n. HasPages (slot_at s k) n name a b) (sym (left_there new slots)) h
+    pages_make name a b o h slots = grind (arith, common_steps)
 
     map_makes : (task : ℕ) (name : List ℕ) (a n : ℕ) (sharing : Sharing) (reserving : Reserving) (o : Outcome) → MapMade (slot_at s k) name task a n sharing reserving o
         → t.slots ≡ slice_set s.slots k (left_by (slot_at s k) o) → Makes s (MapStep task k name a n sharing reserving) (reply_of o) t
-    map_makes task name a n sharing reserving (Refused r) h slots = tt
-    map_makes task name a n sharing reserving (Answered (MapNo number) new) h slots =
-        subst (λ x. IsNewMap (slot_at s k) x name (new_map task number a n sharing reserving)) (sym (left_there new slots)) h
-    map_makes task name a n sharing reserving (Answered other new) h slots = absurd h
+    map_makes task name a n sharing reserving o h slots = grind (arith, common_steps)
 
     anon_makes : (task n : ℕ) (sharing : Sharing) (reserving : Reserving) (o : Outcome) → k ≡ 0 → AnonMade (slot_at s k) task n sharing reserving o
         → t.slots ≡ slice_set s.slots k (left_by (slot_at s k) o) → Makes s (AnonStep task n sharing reserving) (reply_of o) t
-    anon_makes task n sharing reserving (Refused r) first h slots = tt
-    anon_makes task n sharing reserving (Answered (MapNo number) new) first h slots =
-        subst (λ i. IsNewAnon (slot_at s i) (slot_at t i) task number n sharing reserving) first (subst (λ x. IsNewAnon (slot_at s k) x task number n sharing reserving) (sym (left_there new slots)) h)
-    anon_makes task n sharing reserving (Answered other new) first h slots = absurd h
+    anon_makes task n sharing reserving o first h slots = grind (arith, common_steps)
 
   event_makes : (e : Event) (reply : Reply) (t : State) → is_whole e ≡ true → IsEvent s e reply t → Makes s (step_of e) reply t
   event_makes (OnSlot k (slot.Create name)) reply t whole is =
@@ -304,13 +279,7 @@ module _ (s : State) where
       let ends = event_ends (AnonMade (slot_at s k) task n sharing reserving) s k e reply t (λ c. anon_made s.page_size k c (slot_at s k) task home n sharing reserving) is in
       subst (λ x. Makes s (AnonStep task n sharing reserving) x t) (sym ends.replied)
       (anon_makes t k (ltb-true k (length s.slots) is.1.0) task n sharing reserving ends.outcome (eqb-true k 0 whole) ends.holds ends.slots)
-  event_makes (OnSlot k (slot.ForkMaps parent child)) reply t whole is = cc
-  event_makes (OnSlot k (slot.ExitMaps task)) reply t whole is = cc
-  event_makes (OnSlot k other) reply t whole is = tt
-  event_makes (Tasks (table.Add task home)) reply t whole is = tt
-  event_makes (Tasks other) reply t whole is = tt
-  event_makes (OnPool pool.Meminfo) reply t whole is = tt
-  event_makes (OnPool other) reply t whole is = tt
+  event_makes e reply t whole is = grind arith
 
   pub step_makes : (reply : Reply) (t : State) (step : Step) → IsStep s step reply t → Makes s step reply t
   step_makes reply t step is = by_event s (λ step reply t. Makes s step reply t) (λ step r early. makes_none s step r) event_makes

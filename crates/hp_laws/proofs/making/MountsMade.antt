@@ -1,17 +1,16 @@
 -- A mount that is answered has the limits that its options mean at this nr, and no files; a remount that is done, those limits and its files.
-use Rattle.std.proofs.Common.{◌≡◌, subst, ℕ, ◌<◌, Bool, true, false, not, None, Some, Ok, Err, Result as ResultOf, List, [], length, refl, sym, if◌then◌else◌, ap, ◌∙◌, ◌==◌}
+use Rattle.std.proofs.Common.{arith}
+use Rattle.std.proofs.lemmas.Grind.{common_steps}
+use Rattle.std.proofs.Common.{◌≡◌, subst, ℕ, ◌<◌, Bool, true, None, Some, Err, Result as ResultOf, List, length, refl, sym, if◌then◌else◌, ap, ◌∙◌, ◌==◌}
 use Rattle.std.specs.List.{slice_index_or, slice_set}
 use Rattle.std.proofs.lemmas.Bool.{ltb-true}
 use Rattle.std.proofs.lemmas.List.{get_or-set_same}
-use Rattle.hp_model.specs.declared.answer.Answer.TheVariants.{Done}
 use Rattle.hp_model.specs.declared.event.Event.{Event}
-use Rattle.hp_model.specs.declared.event.Event.TheVariants.{Tasks, Slot as OnSlot, Pool as OnPool}
-use Rattle.hp_model.specs.declared.event.PoolEvent.TheVariants as pool
+use Rattle.hp_model.specs.declared.event.Event.TheVariants.{Slot as OnSlot}
 use Rattle.hp_model.specs.declared.event.SlotEvent.TheVariants as slot
-use Rattle.hp_model.specs.declared.event.TableEvent.TheVariants as table
 use Rattle.hp_model.specs.declared.limits.Limits.{Limits}
 use Rattle.hp_model.specs.declared.refusal.Refusal.{Refusal}
-use Rattle.hp_model.specs.declared.refusal.Refusal.TheVariants.{NoPages, OutOfMemory, SlotTaken}
+use Rattle.hp_model.specs.declared.refusal.Refusal.TheVariants.{SlotTaken}
 use Rattle.hp_model.specs.declared.section.PoolAnswer.{PoolAnswer}
 use Rattle.hp_model.specs.declared.step.Step.{Step}
 use Rattle.hp_model.specs.declared.step.Step.TheVariants as step
@@ -27,7 +26,7 @@ use Rattle.hp_model.specs.machine.Step.{IsStep}
 use Rattle.hp_model.specs.pool.Pool.{section}
 use Rattle.hp_model.specs.pool.PoolCounts.{Pool}
 use Rattle.hp_laws.specs.Balance.{left_by}
-use Rattle.hp_laws.proofs.steps.Outcomes.{outcome_if, reply_of}
+use Rattle.hp_laws.proofs.steps.Outcomes.{reply_of}
 use Rattle.hp_laws.proofs.making.Remounts.{remount_ends, remount_left, remount_told}
 use Rattle.hp_laws.proofs.steps.SlotsBalanced.{tells_nr}
 use Rattle.hp_laws.proofs.steps.Whole.{by_event, is_whole, step_of}
@@ -37,31 +36,15 @@ Made l (Refused r) = Unit {0}
 Made l (Answered a new) = IsMountedWith None new l
 
 mount_made : (c : Choice) (a : PoolAnswer) (l : ResultOf Limits Refusal) → Made l (mount_outcome c a l)
-mount_made c a (Err e) = tt
-mount_made c a (Ok l) = by_tests c.refused a.granted c.after_grant
-  where
-    by_tests : (refused granted late : Bool) → Made (Ok l) (if refused then Refused OutOfMemory else if not granted then Refused NoPages
-        else if late then Refused OutOfMemory else Answered Done (Some (record { limits = l; files = [] })))
-    by_tests true granted late = tt
-    by_tests false false late = tt
-    by_tests false true true = tt
-    by_tests false true false = (refl, refl)
+mount_made c a l = grind arith
 
 module _ (s : State) (k : ℕ) (options : List ℕ) (within : k < length s.slots) where
   abbrev wanted : ResultOf Limits Refusal
   wanted = limits s.nr s.page_size (wanted_of options)
 
-  with_old : (old new : Slot) → old ≡ None → (l : ResultOf Limits Refusal) → IsMountedWith None new l → IsMountedWith old new l
-  with_old old new none (Err e) h = h
-  with_old old new none (Ok l) h = (none, h.1)
-
   by_settled : (u : State) → u.slots ≡ s.slots → slot_at s k ≡ None → (o : Outcome) → Made wanted o → (reply : Reply) (t : State) → with_outcome u k o ≡ (reply, t)
       → Mounts s (step.Mount k options) reply t
-  by_settled u same none (Refused r) made reply t e = subst (λ (q : Reply × State). Mounts s (step.Mount k options) q.0 q.1) e tt
-  by_settled u same none (Answered a new) made reply t e =
-      subst (λ (q : Reply × State). Mounts s (step.Mount k options) q.0 q.1) e
-      (with_old (slot_at s k) _ none wanted
-      (subst (λ x. IsMountedWith None x wanted) (sym (get_or-set_same u.slots k new None (subst (λ (xs : List Slot). k < length xs) (sym same) within))) made))
+  by_settled u same none o made reply t e = grind (arith, common_steps)
 
   by_old : (c : Choice) (old : Slot) → slot_at s k ≡ old → (reply : Reply) (t : State) → planned s k (slot_event s.page_size k c old (slot.Mount options)) ≡ (reply, t)
       → Mounts s (step.Mount k options) reply t
@@ -79,9 +62,7 @@ Remade m l (Refused r) = Unit {0}
 Remade m l (Answered a new) = IsRemountedWith (Some m) new l
 
 remount_made : (m : Mount) (first : Bool) (a : PoolAnswer) (l : ResultOf Limits Refusal) → Remade m l (if first then Refused SlotTaken else remount_outcome m a l)
-remount_made m true a l = tt
-remount_made m false a (Err e) = tt
-remount_made m false a (Ok l) = outcome_if (Remade m (Ok l)) a.granted (Answered Done (Some (record m { limits = l }))) (Refused NoPages) refl tt
+remount_made m first a l = grind arith
 
 module _ (s : State) (k : ℕ) (options : List ℕ) (reply : Reply) (t : State) (is : IsEvent s (OnSlot k (slot.Remount options)) reply t) where
   abbrev limited : ResultOf Limits Refusal
@@ -99,29 +80,16 @@ module _ (s : State) (k : ℕ) (options : List ℕ) (reply : Reply) (t : State) 
           subst (λ old. IsRemountedWith old (slot_at t k) limited) (sym there) (subst (λ y. IsRemountedWith (Some m) y limited) (sym left) made)
 
   remount_mounted : (old : Slot) → slot_at s k ≡ old → Mounts s (step.Remount k options) reply t
-  remount_mounted (Some m) there = remounted m there
-  remount_mounted None there =
-      subst (λ (q : Reply × State). Mounts s (step.Remount k options) q.0 q.1)
-      (subst (λ (x : Slot). planned s k (slot_event s.page_size k is.0 x (slot.Remount options)) ≡ (reply, t)) there is.2) tt
+  remount_mounted old there = grind (arith, remounted)
 
 -- ---- steps
 
 module _ (s : State) where
   event_mounted : (e : Event) (reply : Reply) (t : State) → is_whole e ≡ true → IsEvent s e reply t → Mounts s (step_of e) reply t
-  event_mounted (OnSlot k (slot.Mount options)) reply t whole is = by_old s k options (ltb-true k (length s.slots) is.1.0) is.0 (slot_at s k) refl reply t is.2
-  event_mounted (OnSlot k (slot.Remount options)) reply t whole is = remount_mounted s k options reply t is (slot_at s k) refl
-  event_mounted (OnSlot k (slot.ForkMaps parent child)) reply t whole is = cc
-  event_mounted (OnSlot k (slot.ExitMaps task)) reply t whole is = cc
-  event_mounted (OnSlot k other) reply t whole is = tt
-  event_mounted (Tasks (table.Add task home)) reply t whole is = tt
-  event_mounted (Tasks other) reply t whole is = tt
-  event_mounted (OnPool pool.Meminfo) reply t whole is = tt
-  event_mounted (OnPool other) reply t whole is = tt
+  event_mounted e reply t whole is = grind (arith, by_old, ltb-true, remount_mounted)
 
   early_mounted : (x : Step) (r : Refusal) → Mounts s x (Err r) s
-  early_mounted (step.Mount k options) r = tt
-  early_mounted (step.Remount k options) r = tt
-  early_mounted other r = tt
+  early_mounted x r = grind arith
 
   pub step_mounted : (reply : Reply) (t : State) (x : Step) → IsStep s x reply t → Mounts s x reply t
   step_mounted reply t x is =

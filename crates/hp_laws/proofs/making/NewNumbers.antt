@@ -36,17 +36,13 @@ first_or_none t a (suc k) = by_test (t a) refl (first_or_none t (a + 1) k)
   where
     by_test : (b : Bool) → t a ≡ b → FirstOrNone t (a + 1) (range_with_len (a + 1) k) → FirstOrNone t a (range_with_len a (suc k))
     by_test true is rest = inl (rw is (subst (λ x. t x ≡ true) {x = a} {y = a + 0} (omega arith) is))
-    by_test false is (inl e) = inl (rw is (subst (λ x. t x ≡ true) {x = a + 1 + position_or_len t (range_with_len (a + 1) k)}
-        {y = a + (1 + position_or_len t (range_with_len (a + 1) k))} (omega arith) e))
-    by_test false is (inr none) = inr (λ q e. ⊎_elim (λ here. subst (λ x. t x ≡ false) (eqb-true a q here) is) (λ later. none q later) (or_cases (a == q) (is_among q (range_with_len (a + 1) k)) e))
+    by_test b is other = grind (arith, eqb-true, or_cases)
 
 not_not : (b : Bool) → not b ≡ true → b ≡ false
-not_not true e = cc
-not_not false e = refl
+not_not b e = grind arith
 
 not_false : (b : Bool) → not b ≡ false → b ≡ true
-not_false true e = refl
-not_false false e = cc
+not_false b e = grind arith
 
 pub least_is_unused : (xs : List ℕ) → is_among (least_unused xs) xs ≡ false
 least_is_unused xs =
@@ -69,12 +65,10 @@ number_used task n (m ∷ ms) = by_task (m.task == task) refl (number_used task 
 
 -- where none passes, the first does not, and none of the others
 none_first : (a b : Bool) → (a || b) ≡ false → a ≡ false
-none_first true b e = cc
-none_first false b e = refl
+none_first a b e = grind arith
 
 none_later : (a b : Bool) → (a || b) ≡ false → b ≡ false
-none_later true b e = cc
-none_later false b e = e
+none_later a b e = grind arith
 
 module _ {X : Type 0} (t : X → Bool) where
   pub found_not : (xs : List X) → list_any t xs ≡ false → found t xs ≡ None
@@ -97,8 +91,7 @@ module _ {X : Type 0} (t : X → Bool) where
   -- the one that was found is put again, and still passes
   again_step : (x : X) (xs : List X) (q : ℕ × X) (y : X) → ((p : ℕ × X) → found t xs ≡ Some p → found t (slice_set xs p.0 y) ≡ Some (p.0, y)) → t y ≡ true
       → (b : Bool) → t x ≡ b → (r : Option (ℕ × X)) → found t xs ≡ r → (if b then Some (0, x) else option_map one_on r) ≡ Some q → found t (slice_set (x ∷ xs) q.0 y) ≡ Some (q.0, y)
-  again_step x xs q y rest is true here r was e =
-      subst (λ (p : ℕ × X). found t (slice_set (x ∷ xs) p.0 y) ≡ Some (p.0, y)) (let same : (0, x) ≡ q = cc in same) (rw is refl)
+  again_step x xs q y rest is true here r was e = grind arith
   again_step x xs q y rest is false here None was e = cc
   again_step x xs q y rest is false here (Some p) was e =
       subst (λ (p : ℕ × X). found t (slice_set (x ∷ xs) p.0 y) ≡ Some (p.0, y)) (let same : (p.0 + 1, p.1) ≡ q = cc in same)

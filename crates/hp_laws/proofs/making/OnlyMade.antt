@@ -1,11 +1,12 @@
 -- No name and no number is new on a slot but what its event makes, and no file is left that nobody has.
-use Rattle.std.proofs.Common.{◌≡◌, ⊎_elim, ℕ, zero, suc, ◌+◌, ◌&&◌, ◌||◌, ◌==◌, Bool, true, false, not, None, Option}
+use Rattle.std.proofs.lemmas.Grind.{common_steps}
+use Rattle.std.proofs.Common.{◌≡◌, ⊎_elim, ℕ, zero, suc, ◌&&◌, ◌||◌, ◌==◌, Bool, true, false, not, None}
 use Rattle.std.proofs.Common.{Some, List, [], ◌∷◌, ◌++◌, length, map, option_map, is_some, nat_lt, refl, sym, ap, ◌∙◌, arith}
 use Rattle.std.specs.List.{filter, list_all, list_any, slice_set}
 use Rattle.std.specs.Str.{bytes_eq}
-use Rattle.std.proofs.lemmas.Bool.{and_parts, cond_both, lt-ltb, or_cases, or_right}
+use Rattle.std.proofs.lemmas.Bool.{and_parts, cond_both, or_cases, or_right}
 use Rattle.std.proofs.lemmas.List.{length-map}
-use Rattle.std.proofs.lemmas.List.Folds.{list_all-append, list_any_at}
+use Rattle.std.proofs.lemmas.List.Folds.{list_any_at}
 use Rattle.hp_model.specs.declared.answer.Answer.{Answer}
 use Rattle.hp_model.specs.declared.answer.Answer.TheVariants.{Done, MapNo}
 use Rattle.hp_model.specs.declared.cell.Cell.{Cell}
@@ -16,12 +17,10 @@ use Rattle.hp_model.specs.declared.refusal.Refusal.TheVariants.{OutOfMemory, Mou
 use Rattle.hp_model.specs.files.File.{File, Mount, new_file, with_file}
 use Rattle.hp_model.specs.files.Fill.{lacking, range_filled, rising_nodes}
 use Rattle.hp_model.specs.files.Fork.{file_forked}
-use Rattle.hp_model.specs.files.GiveBack.{file_unmapped, file_without, is_kept, is_left, map_unmapped, punched, swept, truncated, unlinked, without_task}
+use Rattle.hp_model.specs.files.GiveBack.{file_unmapped, file_without, is_kept, punched, swept, truncated, unlinked, without_task}
 use Rattle.hp_model.specs.files.MakeMap.{asked, mapped, new_map, next_number, with_new}
-use Rattle.hp_model.specs.files.Mapping.{Map, is_map, is_of, map_for, map_punched, without_range}
+use Rattle.hp_model.specs.files.Mapping.{Map, is_map, is_of, map_for}
 use Rattle.hp_model.specs.files.Page.{Page}
-use Rattle.hp_model.specs.files.Spot.{spot_in}
-use Rattle.hp_model.specs.Lists.{found}
 use Rattle.hp_model.specs.machine.Held.{are_held}
 use Rattle.hp_model.specs.machine.Named.{named_on, spot_on}
 use Rattle.hp_model.specs.machine.Plan.{Answered, Choice, Outcome, Refused, Slot, gives}
@@ -63,42 +62,24 @@ no_more made new x = record { held = λ e. e; names = λ name off is. is; number
 -- where more may be made
 pub more_made : (made made_too : List ℕ → Bool) (new new_too : ℕ → ℕ → Bool) (x y : Slot) → ((name : List ℕ) → made_too name ≡ false → made name ≡ false)
     → ((task number : ℕ) → new_too task number ≡ false → new task number ≡ false) → NoMore made new x y → NoMore made_too new_too x y
-more_made made made_too new new_too x y a b h =
-    record { held = h.held; names = λ name off. h.names name (a name off); numbers = λ task number off. h.numbers task number (b task number off) }
+more_made made made_too new new_too x y a b h = grind arith
 
 pub no_more_then : (made : List ℕ → Bool) (new : ℕ → ℕ → Bool) (x y z : Slot) → NoMore made new x y → NoMore made new y z → NoMore made new x z
-no_more_then made new x y z a b = record {
-  held = λ e. b.held (a.held e);
-  names = λ name off is. a.names name off (b.names name off is);
-  numbers = λ task number off is. a.numbers task number off (b.numbers task number off is);
-}
+no_more_then made new x y z a b = grind arith
 
 -- ---- what is found nowhere
 
 pub name_absent : (name : List ℕ) (x : Slot) → named_on x name ≡ None → any_file (has_name name) x ≡ false
-name_absent name None e = refl
-name_absent name (Some m) e = found_none (has_name name) m.files e
+name_absent name x e = grind (arith, found_none)
 
 pub name_none : (name : List ℕ) (x : Slot) → any_file (has_name name) x ≡ false → named_on x name ≡ None
-name_none name None e = refl
-name_none name (Some m) e = found_not (has_name name) m.files e
+name_none name x e = grind (arith, found_not)
 
 pub number_none : (task number : ℕ) (x : Slot) → any_file (has_map task number) x ≡ false → spot_on x task number ≡ None
-number_none task number None e = refl
-number_none task number (Some m) e = spot_none m (is_map task number) (found_not (has_map task number) m.files e)
+number_none task number x e = grind (arith, spot_none, found_not)
 
 pub number_absent : (task number : ℕ) (x : Slot) → spot_on x task number ≡ None → any_file (has_map task number) x ≡ false
-number_absent task number None e = refl
-number_absent task number (Some m) e = by_file (found (has_map task number) m.files) refl (sym (spot_in_file m (is_map task number)) ∙ e)
-  where
-    by_map : (f : ℕ × File) → has_map task number f.1 ≡ true → (o : Option (ℕ × Map)) → found (is_map task number) f.1.maps ≡ o
-        → option_map (spot_in f) o ≡ None → list_any (has_map task number) m.files ≡ false
-    by_map f some None was e = (let none = found_none (is_map task number) f.1.maps was in cc)
-    by_map f some (Some q) was e = cc
-
-    by_file : (o : Option (ℕ × File)) → found (has_map task number) m.files ≡ o → in_file (is_map task number) o ≡ None → list_any (has_map task number) m.files ≡ false
-    by_file None was e = found_none (has_map task number) m.files was
-    by_file (Some f) was e = by_map f (found_place (has_map task number) m.files f was).passes (found (is_map task number) f.1.maps) refl e
+number_absent task number x e = grind (arith, spot_in_file, found_none, in_file, found_place)
 
 -- ---- the same keys
 
@@ -111,12 +92,10 @@ any_keyed t key [] = refl
 any_keyed t key (x ∷ xs) = ap (λ b. t (key x) || b) (any_keyed t key xs)
 
 same_all : {X : Type 0} (t u : X → Bool) → ((x : X) → t x ≡ u x) → (xs : List X) → list_all t xs ≡ list_all u xs
-same_all t u h [] = refl
-same_all t u h (x ∷ xs) = rw (h x, same_all t u h xs) refl
+same_all t u h xs = grind arith
 
 same_any : {X : Type 0} (t u : X → Bool) → ((x : X) → t x ≡ u x) → (xs : List X) → list_any t xs ≡ list_any u xs
-same_any t u h [] = refl
-same_any t u h (x ∷ xs) = rw (h x, same_any t u h xs) refl
+same_any t u h xs = grind arith
 
 abbrev kept_key : FileKey → Bool
 kept_key k = is_some k.0 || nat_lt 0 (length k.1)
@@ -177,46 +156,24 @@ module _ (made : List ℕ → Bool) (new : ℕ → ℕ → Bool) (m : Mount) whe
   }
 
   all_fewer : (h : File → File) → ((f : File) → FileFewer new f (h f)) → Fewer new m (record m { files = map h m.files })
-  all_fewer h each = record {
-    names = λ name is. any_map_down (has_name name) (has_name name) h (λ f e. (each f).names name e) m.files is;
-    numbers = λ task number off is. any_map_down (has_map task number) (has_map task number) h (λ f e. (each f).numbers task number off e) m.files is;
-  }
+  all_fewer h each = grind (arith, any_map_down)
 
   -- what is left of it when files without a name and without maps are gone
   swept_fewer : (n : Mount) → Fewer new m n → NoMore made new (Some m) (Some (swept n))
-  swept_fewer n fewer = record {
-    held = λ e. all_filter is_kept n.files;
-    names = λ name off is. fewer.names name (any_filter (has_name name) is_kept n.files is);
-    numbers = λ task number off is. fewer.numbers task number off (any_filter (has_map task number) is_kept n.files is);
-  }
+  swept_fewer n fewer = grind (arith, all_filter, any_filter)
 
   -- a map more
   more_fewer : (f : File) (cells : List (Cell Page)) (x : Map) → ((task number : ℕ) → new task number ≡ false → is_map task number x ≡ false)
       → FileFewer new f (record f { cells = cells; maps = f.maps ++ x ∷ [] })
-  more_fewer f cells x unlike = record {
-    names = λ name is. is;
-    numbers = λ task number off is.
-        ⊎_elim (λ old. old) (λ here. (let other = unlike task number off in cc))
-        (or_cases (has_map task number f) (is_map task number x || false) (sym (any_append (is_map task number) f.maps (x ∷ [])) ∙ is));
-  }
+  more_fewer f cells x unlike = grind (arith, common_steps)
 
   -- a file more
   new_more : (f : File) → is_kept f ≡ true → ((name : List ℕ) → made name ≡ false → has_name name f ≡ false)
       → ((task number : ℕ) → new task number ≡ false → has_map task number f ≡ false) → NoMore made new (Some m) (Some (with_new m f))
-  new_more f kept name_off number_off = record {
-    held = λ e. list_all-append is_kept m.files (f ∷ []) ∙ rw (e, kept) refl;
-    names = λ name off is. either (has_name name) (name_off name off) is;
-    numbers = λ task number off is. either (has_map task number) (number_off task number off) is;
-  }
-    where
-      either : (t : File → Bool) → t f ≡ false → list_any t (m.files ++ f ∷ []) ≡ true → list_any t m.files ≡ true
-      either t off is =
-          ⊎_elim (λ old. old) (λ here. (let none : (t f || false) ≡ false = rw off refl in cc))
-          (or_cases (list_any t m.files) (t f || false) (sym (any_append t m.files (f ∷ [])) ∙ is))
+  new_more f kept name_off number_off = grind (arith, common_steps)
 
   some_length : (xs : List Map) (x : Map) → nat_lt 0 (length (xs ++ x ∷ [])) ≡ true
-  some_length [] x = refl
-  some_length (y ∷ xs) x = lt-ltb 0 (length (y ∷ (xs ++ x ∷ []))) (omega arith)
+  some_length xs x = grind (arith, common_steps)
 
   -- a map more of a file
   mapped_more : (j : ℕ) (f : File) (cells : List (Cell Page)) (x : Map) → IsFileAt m j f → ((task number : ℕ) → new task number ≡ false → is_map task number x ≡ false)
@@ -236,25 +193,13 @@ module _ (new : ℕ → ℕ → Bool) where
   unlinked_fewer f = record { names = λ name is. cc; numbers = λ task number off is. is }
 
   truncated_fewer : (n : ℕ) (f : File) → FileFewer new f (truncated n f)
-  truncated_fewer n f = record {
-    names = λ name is. is;
-    numbers = λ task number off is. any_map_down (is_map task number) (is_map task number) (map_punched n (n + length f.cells)) (λ x e. e) f.maps is;
-  }
+  truncated_fewer n f = grind (arith, any_map_down)
 
   punched_fewer : (a b : ℕ) (f : File) → FileFewer new f (punched a b f)
-  punched_fewer a b f = record {
-    names = λ name is. is;
-    numbers = λ task number off is. any_map_down (is_map task number) (is_map task number) (map_punched a b) (λ x e. e) f.maps is;
-  }
+  punched_fewer a b f = grind (arith, any_map_down)
 
   unmapped_fewer : (t : Map → Bool) (a b : ℕ) (f : File) → FileFewer new f (file_unmapped t a b f)
-  unmapped_fewer t a b f = record {
-    names = λ name is. is;
-    numbers = λ task number off is.
-        any_map_down (is_map task number) (is_map task number) (map_unmapped t a b)
-        (λ x e. cond_both (t x) (without_range a b x) x (λ (y : Map). is_map task number y ≡ true → is_map task number x ≡ true) (λ on e. e) (λ other e. e) e) f.maps
-        (any_filter (is_map task number) (is_left t) (map (map_unmapped t a b) f.maps) is);
-  }
+  unmapped_fewer t a b f = grind (arith, any_map_down, cond_both, any_filter)
 
   without_fewer : (task : ℕ) (f : File) → FileFewer new f (file_without task f)
   without_fewer gone f = record { names = λ name is. is; numbers = λ task number off is. any_filter (is_map task number) (λ x. not (is_of gone x)) f.maps is }
@@ -266,14 +211,7 @@ module _ (new : ℕ → ℕ → Bool) where
       (or_cases (is_map task number (map_for child x)) (list_any (is_map task number) (map (map_for child) xs)) e)
 
   forked_fewer : (parent child : ℕ) → ((task number : ℕ) → new task number ≡ false → (child == task) ≡ false) → (f : File) → FileFewer new f (file_forked parent child f)
-  forked_fewer parent child own f = record {
-    names = λ name is. is;
-    numbers = λ task number off is.
-        ⊎_elim (λ old. any_filter (is_map task number) (λ x. not (is_of child x)) f.maps old)
-        (λ made. (let on = is_child child task number (filter (is_of parent) f.maps) made in let no = own task number off in cc))
-        (or_cases (list_any (is_map task number) (filter (λ x. not (is_of child x)) f.maps)) (list_any (is_map task number) (map (map_for child) (filter (is_of parent) f.maps)))
-        (sym (any_append (is_map task number) (filter (λ x. not (is_of child x)) f.maps) (map (map_for child) (filter (is_of parent) f.maps))) ∙ is));
-  }
+  forked_fewer parent child own f = grind (arith, any_filter, is_child, or_cases, any_append)
 
 -- a slot that a task's maps left
 pub without_more : (made : List ℕ → Bool) (new : ℕ → ℕ → Bool) (gone : ℕ) (x : Slot) → NoMore made new x (option_map (without_task gone) x)
@@ -301,9 +239,7 @@ MakesNo e x (Answered a y) = NoMore (made_by e) (new_by e a) x y
 
 module _ (size k : ℕ) (c : Choice) (m : Mount) where
   by_keys : (e : SlotEvent) (o : Outcome) → On (λ n. keys n ≡ keys m) o → MakesNo e (Some m) o
-  by_keys e (Refused r) on = tt
-  by_keys e (Answered a None) on = absurd on
-  by_keys e (Answered a (Some n)) on = same_keys (made_by e) (new_by e a) m n on
+  by_keys e o on = grind (arith, same_keys)
 
   none_more : (made : List ℕ → Bool) (new : ℕ → ℕ → Bool) → NoMore made new (Some m) None
   none_more made new = record { held = λ e. refl; names = λ name off is. cc; numbers = λ task number off is. cc }

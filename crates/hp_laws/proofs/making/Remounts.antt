@@ -1,21 +1,21 @@
 -- What a remount of an open slot answers and leaves, at the pool that stands.
-use Rattle.std.proofs.Common.{◌≡◌, subst, ℕ, ◌-◌, ◌==◌, Bool, true, false, Some, Result as ResultOf, Ok, List, refl, sym, ap, if◌then◌else◌, nat_lt}
+use Rattle.std.proofs.Common.{arith}
+use Rattle.std.proofs.lemmas.Grind.{common_steps}
+use Rattle.std.proofs.Common.{◌≡◌, subst, ℕ, ◌-◌, ◌==◌, false, Some, Result as ResultOf, Ok, List, sym, if◌then◌else◌}
 use Rattle.std.specs.List.{slice_set}
-use Rattle.std.proofs.lemmas.Bool.{cond_both}
 use Rattle.hp_model.specs.declared.event.Event.TheVariants.{Slot as OnSlot}
 use Rattle.hp_model.specs.declared.event.SlotEvent.TheVariants as slot
 use Rattle.hp_model.specs.declared.limits.Limits.{Limits}
 use Rattle.hp_model.specs.declared.refusal.Refusal.{Refusal}
 use Rattle.hp_model.specs.declared.refusal.Refusal.TheVariants.{SlotTaken}
 use Rattle.hp_model.specs.declared.section.PoolAnswer.{PoolAnswer}
-use Rattle.hp_model.specs.declared.section.Section.TheVariants.{ReadAndGiveBack, ReadAndGrant}
 use Rattle.hp_model.specs.files.File.{Mount}
 use Rattle.hp_model.specs.files.MountCounts.{committed_of}
 use Rattle.hp_model.specs.files.Options.{limits, wanted_of}
 use Rattle.hp_model.specs.machine.Event.{IsEvent, planned, with_outcome}
 use Rattle.hp_model.specs.machine.Machine.{pool_of, with_pool}
-use Rattle.hp_model.specs.machine.Plan.{Answered, Outcome, Refused, Reply, Slot, refuse}
-use Rattle.hp_model.specs.machine.SlotEvent.{committed_with, remount_outcome, remount_section, slot_event}
+use Rattle.hp_model.specs.machine.Plan.{Outcome, Refused, Reply}
+use Rattle.hp_model.specs.machine.SlotEvent.{committed_with, remount_outcome, remount_section}
 use Rattle.hp_model.specs.machine.State.{State, slot_at}
 use Rattle.hp_model.specs.pool.Grant.{can_grant}
 use Rattle.hp_model.specs.pool.Pool.{section}
@@ -23,7 +23,6 @@ use Rattle.hp_model.specs.pool.PoolCounts.{Pool}
 use Rattle.hp_laws.specs.Balance.{left_by}
 use Rattle.hp_laws.proofs.steps.Outcomes.{reply_of}
 use Rattle.hp_laws.proofs.steps.SlotsBalanced.{remount_tells}
-use Rattle.hp_laws.proofs.sections.PoolTied.{settled_is}
 use Rattle.hp_laws.proofs.steps.Walk.{remounting}
 
 -- the reply is that of the outcome, and so is the slot that is left
@@ -32,8 +31,7 @@ pub record EndsIn (s : State) (k : ℕ) (o : Outcome) (reply : Reply) (t : State
   pub slots : t.slots ≡ slice_set s.slots k (left_by (slot_at s k) o)
 
 settled_ends : (u : State) (k : ℕ) (o : Outcome) → EndsIn u k o (with_outcome u k o).0 (with_outcome u k o).1
-settled_ends u k (Refused r) = record { replied = refl; slots = ap (λ x. x.slots) (settled_is u k (Refused r)) }
-settled_ends u k (Answered a new) = record { replied = refl; slots = refl }
+settled_ends u k o = grind (arith, common_steps)
 
 module _ (s : State) (k : ℕ) (options : List ℕ) (m : Mount) where
   abbrev pub wanted : ResultOf Limits Refusal
@@ -56,22 +54,8 @@ module _ (s : State) (k : ℕ) (options : List ℕ) (m : Mount) where
       subst (λ n. EndsIn s k (ends s.nr) (with_outcome u k (ends n)).0 (with_outcome u k (ends n)).1) (sym nr) (record { replied = at.replied; slots = at.slots })
 
   pub remount_ends : slot_at s k ≡ Some m → (reply : Reply) (t : State) → IsEvent s (OnSlot k (slot.Remount options)) reply t → EndsIn s k remount_left reply t
-  remount_ends there reply t is =
-      subst (λ (q : Reply × State). EndsIn s k remount_left q.0 q.1)
-      (subst (λ (x : Slot). planned s k (slot_event s.page_size k is.0 x (slot.Remount options)) ≡ (reply, t)) there is.2) (by_test (k == 0))
-    where
-      by_test : (b : Bool)
-          → EndsIn s k (if b then Refused SlotTaken else remount_outcome m remount_told wanted)
-          (planned s k (if b then refuse SlotTaken else remounting s.page_size m options)).0 (planned s k (if b then refuse SlotTaken else remounting s.page_size m options)).1
-      by_test true = settled_ends s k (Refused SlotTaken)
-      by_test false = open_ends
+  remount_ends there reply t is = grind (arith, common_steps, remounting, settled_ends, open_ends)
 
   -- it grants what the pool can commit; and giving back is never refused
   pub told_granted : (l : Limits) → wanted ≡ Ok l → remount_told.granted ≡ false → can_grant (committed_with m l.min - committed_of m) (pool_of s) ≡ false
-  told_granted l is =
-      let less : ℕ = committed_of m - committed_with m l.min in
-      let more : ℕ = committed_with m l.min - committed_of m in
-      subst (λ (r : ResultOf Limits Refusal). (section (pool_of s) (remount_section m r)).0.granted ≡ false → can_grant more (pool_of s) ≡ false) (sym is)
-      (cond_both (nat_lt (committed_with m l.min) (committed_of m)) (ReadAndGiveBack less) (ReadAndGrant more)
-      (λ sec. (section (pool_of s) sec).0.granted ≡ false → can_grant more (pool_of s) ≡ false) (λ e no. cc)
-      (λ e. cond_both (can_grant more (pool_of s)) _ _ (λ (x : PoolAnswer × Pool). x.0.granted ≡ false → can_grant more (pool_of s) ≡ false) (λ can no. cc) (λ can no. can)))
+  told_granted l is = grind arith

@@ -1,30 +1,29 @@
 -- A map that is answered has its range: its file is long enough, and each index of a map that reserves is reserved to it.
-use Rattle.std.proofs.Common.{◌≡◌, subst, ℕ, zero, suc, ◌+◌, ◌-◌, ◌<◌, ◌≤◌, true, false, None, Option, Some, Ok, Err, List}
-use Rattle.std.proofs.Common.{length, max, replicate, refl, sym, ap, ◌∙◌, arith, if◌then◌else◌, nat_le, nat_lt}
-use Rattle.std.specs.List.{slice_index_or, slice_set}
-use Rattle.std.proofs.lemmas.Bool.{and_parts, le-ltb, leb-true, ltb-true}
-use Rattle.std.proofs.lemmas.List.{get_or-set_same, length-append, length-replicate}
+use Rattle.std.proofs.lemmas.Grind.{common_steps}
+use Rattle.std.proofs.Common.{◌≡◌, subst, ℕ, ◌+◌, ◌-◌, ◌<◌, ◌≤◌, true, false, None, Option, Some, Ok, Err, List}
+use Rattle.std.proofs.Common.{length, max, replicate, sym, arith}
+use Rattle.std.specs.List.{slice_set}
+use Rattle.std.proofs.lemmas.Bool.{and_parts, leb-true, ltb-true}
+use Rattle.std.proofs.lemmas.List.{length-append, length-replicate}
 use Rattle.hp_model.specs.declared.answer.Answer.TheVariants.{MapNo}
 use Rattle.hp_model.specs.declared.cell.Cell.{Cell}
-use Rattle.hp_model.specs.declared.cell.Cell.TheVariants.{Hole, Entered, Present}
+use Rattle.hp_model.specs.declared.cell.Cell.TheVariants.{Hole}
 use Rattle.hp_model.specs.declared.event.Event.{Event}
-use Rattle.hp_model.specs.declared.event.Event.TheVariants.{Tasks, Slot as OnSlot, Pool as OnPool}
-use Rattle.hp_model.specs.declared.event.PoolEvent.TheVariants as pool
+use Rattle.hp_model.specs.declared.event.Event.TheVariants.{Slot as OnSlot}
 use Rattle.hp_model.specs.declared.event.SlotEvent.TheVariants as slot
-use Rattle.hp_model.specs.declared.event.TableEvent.TheVariants as table
 use Rattle.hp_model.specs.declared.place.Place.{Place}
-use Rattle.hp_model.specs.declared.place.Place.TheVariants.{Gone, Live}
+use Rattle.hp_model.specs.declared.place.Place.TheVariants.{Live}
 use Rattle.hp_model.specs.declared.refusal.Refusal.{Refusal}
 use Rattle.hp_model.specs.declared.refusal.Refusal.TheVariants.{NoSuchFile}
 use Rattle.hp_model.specs.declared.step.Reserving.{Reserving}
-use Rattle.hp_model.specs.declared.step.Reserving.TheVariants.{NoReserve, Reserve}
+use Rattle.hp_model.specs.declared.step.Reserving.TheVariants.{Reserve}
 use Rattle.hp_model.specs.declared.step.Sharing.{Sharing}
-use Rattle.hp_model.specs.declared.step.Sharing.TheVariants.{Private, Shared}
+use Rattle.hp_model.specs.declared.step.Sharing.TheVariants.{Shared}
 use Rattle.hp_model.specs.declared.step.Step.{Step}
 use Rattle.hp_model.specs.declared.step.Step.TheVariants.{Anon as AnonStep, Map as MapStep}
-use Rattle.hp_model.specs.files.File.{File, at_least, cell_in, entered, is_entered, new_file, with_file}
+use Rattle.hp_model.specs.files.File.{File, at_least, entered, is_entered, new_file, with_file}
 use Rattle.hp_model.specs.files.MakeMap.{asked, cells_mapped, mapped, new_map, next_number, reserves}
-use Rattle.hp_model.specs.files.Mapping.{is_unconsumed, place_at}
+use Rattle.hp_model.specs.files.Mapping.{place_at}
 use Rattle.hp_model.specs.files.Page.{Copy, Page}
 use Rattle.hp_model.specs.files.Reserved.{is_reserved}
 use Rattle.hp_model.specs.files.Spot.{Spot}
@@ -34,7 +33,7 @@ use Rattle.hp_model.specs.machine.Promises.{HasRange, IsNewAnon, IsNewMap, IsRan
 use Rattle.hp_model.specs.machine.SlotEvent.{file_named, has_name, map_file, map_tests, slot_event}
 use Rattle.hp_model.specs.machine.State.{State, slot_at}
 use Rattle.hp_model.specs.machine.Step.{IsStep}
-use Rattle.hp_model.proofs.Editing.{get_or-edit_in, length-edit_range}
+use Rattle.hp_model.proofs.Editing.{get_or-edit_in}
 use Rattle.hp_laws.specs.Balance.{left_by}
 use Rattle.hp_laws.proofs.making.FilesMade.{step_makes}
 use Rattle.hp_laws.proofs.making.NewNumbers.{found_again}
@@ -46,50 +45,29 @@ use Rattle.hp_laws.proofs.steps.Whole.{by_event, is_whole, step_of}
 -- ---- the range of a new map
 
 is_in_entered : (c : Cell Page) → is_entered (entered c) ≡ true
-is_in_entered Hole = refl
-is_in_entered Entered = refl
-is_in_entered (Present page) = refl
+is_in_entered c = grind arith
 
 abbrev fresh : Place Copy
 fresh = Live false None
-
-inside : (n j : ℕ) → j < n → slice_index_or (replicate n fresh) j Gone ≡ fresh
-inside zero j l = absurd (omega (arith, l))
-inside (suc n) zero l = refl
-inside (suc n) (suc j) l = inside n j (omega (arith, l))
 
 module _ (task number a n : ℕ) where
   long_enough : (xs : List (Cell Page)) → length (at_least (a + n) xs) ≡ max (length xs) (a + n)
   long_enough xs = omega (arith, length-append xs (replicate (a + n - length xs) Hole), length-replicate {A = Cell Page} (a + n - length xs) Hole)
 
   cells_long : (sharing : Sharing) (reserving : Reserving) (xs : List (Cell Page)) → length (cells_mapped sharing reserving a n xs) ≡ max (length xs) (a + n)
-  cells_long Shared Reserve xs = length-edit_range entered a (a + n) (at_least (a + n) xs) ∙ long_enough xs
-  cells_long Shared NoReserve xs = long_enough xs
-  cells_long Private reserving xs = long_enough xs
+  cells_long sharing reserving xs = grind (arith, common_steps)
 
   place_there : (sharing : Sharing) (reserving : Reserving) (i : ℕ) → a ≤ i → i < a + n → place_at (new_map task number a n sharing reserving) i ≡ fresh
-  place_there sharing reserving i from to =
-      ap (λ b. if b then Gone else slice_index_or (replicate n fresh) (i - a) Gone) (le-ltb i a from) ∙ inside n (i - a) (omega (arith, from, to))
+  place_there sharing reserving i from to = grind (arith, common_steps)
 
   range_there : (sharing : Sharing) (reserving : Reserving) (f : File) → reserves reserving ≡ true → (i : ℕ) → is_in a (a + n) i ≡ true
       → is_reserved (mapped task number a n sharing reserving f) (new_map task number a n sharing reserving) i ≡ true
-  range_there Shared Reserve f on i there =
-      let both = and_parts (nat_le a i) (nat_lt i (a + n)) there in
-      ap is_entered (get_or-edit_in entered a (a + n) (at_least (a + n) f.cells) i Hole
-      (leb-true a i both.0) (ltb-true i (a + n) both.1) (omega (arith, ltb-true i (a + n) both.1, long_enough f.cells)))
-      ∙ is_in_entered (cell_in (at_least (a + n) f.cells) i)
-  range_there Private Reserve f on i there =
-      let both = and_parts (nat_le a i) (nat_lt i (a + n)) there in
-      ap is_unconsumed (place_there Private Reserve i (leb-true a i both.0) (ltb-true i (a + n) both.1))
-  range_there sharing NoReserve f on i there = cc
+  range_there Shared Reserve f on i there = grind (arith, and_parts, get_or-edit_in, leb-true, ltb-true, long_enough, is_in_entered)
+  range_there sharing reserving f on i there = grind (arith, common_steps, and_parts, place_there, leb-true, ltb-true)
 
   pub new_range : (sharing : Sharing) (reserving : Reserving) (f : File) (s : Spot) → s.map ≡ new_map task number a n sharing reserving
       → s.file ≡ mapped task number a n sharing reserving f → IsRange s (length f.cells) a n reserving
-  new_range sharing reserving f s map file = record {
-    pages = ap (λ (g : File). length g.cells) file ∙ cells_long sharing reserving f.cells;
-    reserved = λ on i there. ap (λ (g : File). is_reserved g s.map i) file ∙ ap (λ y. is_reserved (mapped task number a n sharing reserving f) y i) map
-        ∙ range_there sharing reserving f on i there;
-  }
+  new_range sharing reserving f s map file = grind (arith, cells_long, range_there)
 
 -- ---- the file of a new map
 
@@ -115,18 +93,10 @@ file_mapped size k c (Some m) task home name a n sharing reserving =
     always_unless P (λ r. tt) (map_tests m task a n) (grant c m home (asked sharing reserving a n f.1) done)
     (always_grant P (λ r. tt) c m home (asked sharing reserving a n f.1) done (f, is, found_again (has_name name) m.files f g is at.passes))))
 
-abbrev file_of : Option (ℕ × File) → File
-file_of None = new_file None
-file_of (Some f) = f.1
-
 map_range : (old new : Slot) (name : List ℕ) (task number a n : ℕ) (sharing : Sharing) (reserving : Reserving)
     → IsMapped old new name task number a n sharing reserving → IsNewMap old new name (new_map task number a n sharing reserving)
     → HasRange (spot_on new task number) (pages_of_file (named_on old name)) a n reserving
-map_range old new name task number a n sharing reserving file made =
-    let s = made.1.0 in
-    let same : s.file ≡ mapped task number a n sharing reserving file.0.1 = ap file_of (sym made.1.3 ∙ file.2) in
-    subst (λ (o : Option Spot). HasRange o (pages_of_file (named_on old name)) a n reserving) (sym made.1.1)
-    (subst (λ (o : Option (ℕ × File)). IsRange s (pages_of_file o) a n reserving) (sym file.1) (new_range task number a n sharing reserving file.0.1 s made.1.2 same))
+map_range old new name task number a n sharing reserving file made = grind (arith, new_range)
 
 anon_range : (old new : Slot) (task number n : ℕ) (sharing : Sharing) (reserving : Reserving)
     → IsNewAnon old new task number n sharing reserving → HasRange (spot_on new task number) 0 0 n reserving
@@ -143,17 +113,12 @@ MapsFile s step reply t = Unit {0}
 
 module _ (s : State) where
   maps_none : (t : State) (step : Step) (r : Refusal) → MapsFile s step (Err r) t
-  maps_none t (MapStep task k name a n sharing reserving) r = tt
-  maps_none t other r = tt
+  maps_none t step r = grind arith
 
   file_maps : (t : State) (k : ℕ) (l : k < length s.slots) (task : ℕ) (name : List ℕ) (a n : ℕ) (sharing : Sharing) (reserving : Reserving) (o : Outcome)
       → FileMapped (slot_at s k) name task a n sharing reserving o → t.slots ≡ slice_set s.slots k (left_by (slot_at s k) o)
       → MapsFile s (MapStep task k name a n sharing reserving) (reply_of o) t
-  file_maps t k l task name a n sharing reserving (Refused r) h slots = tt
-  file_maps t k l task name a n sharing reserving (Answered (MapNo number) new) h slots =
-      subst (λ x. IsMapped (slot_at s k) x name task number a n sharing reserving)
-      (sym (ap (λ (xs : List Slot). slice_index_or xs k None) slots ∙ get_or-set_same s.slots k new None l)) h
-  file_maps t k l task name a n sharing reserving (Answered other new) h slots = absurd h
+  file_maps t k l task name a n sharing reserving o h slots = grind (arith, common_steps)
 
   event_maps : (e : Event) (reply : Reply) (t : State) → is_whole e ≡ true → IsEvent s e reply t → MapsFile s (step_of e) reply t
   event_maps (OnSlot k (slot.Map task home name a n sharing reserving)) reply t whole is =
@@ -161,13 +126,7 @@ module _ (s : State) where
       let ends = event_ends (FileMapped (slot_at s k) name task a n sharing reserving) s k e reply t (λ c. file_mapped s.page_size k c (slot_at s k) task home name a n sharing reserving) is in
       subst (λ x. MapsFile s (MapStep task k name a n sharing reserving) x t) (sym ends.replied)
       (file_maps t k (ltb-true k (length s.slots) is.1.0) task name a n sharing reserving ends.outcome ends.holds ends.slots)
-  event_maps (OnSlot k (slot.ForkMaps parent child)) reply t whole is = cc
-  event_maps (OnSlot k (slot.ExitMaps task)) reply t whole is = cc
-  event_maps (OnSlot k other) reply t whole is = tt
-  event_maps (Tasks (table.Add task home)) reply t whole is = tt
-  event_maps (Tasks other) reply t whole is = tt
-  event_maps (OnPool pool.Meminfo) reply t whole is = tt
-  event_maps (OnPool other) reply t whole is = tt
+  event_maps e reply t whole is = grind arith
 
   step_maps : (reply : Reply) (t : State) (step : Step) → IsStep s step reply t → MapsFile s step reply t
   step_maps reply t step is = by_event s (λ step reply t. MapsFile s step reply t) (λ step r early. maps_none s step r) event_maps
@@ -177,11 +136,7 @@ module _ (s : State) where
   both_range (Ok (MapNo number)) t (MapStep task k name a n sharing reserving) file made =
       map_range (slot_at s k) (slot_at t k) name task number a n sharing reserving file made
   both_range (Ok (MapNo number)) t (AnonStep task n sharing reserving) file made = anon_range (slot_at s 0) (slot_at t 0) task number n sharing reserving made
-  both_range (Ok other) t (MapStep task k name a n sharing reserving) file made = absurd file
-  both_range (Err r) t (MapStep task k name a n sharing reserving) file made = tt
-  both_range (Ok other) t (AnonStep task n sharing reserving) file made = absurd made
-  both_range (Err r) t (AnonStep task n sharing reserving) file made = tt
-  both_range reply t other file made = tt
+  both_range reply t step file made = grind arith
 
   pub step_ranges : (reply : Reply) (t : State) (step : Step) → IsStep s step reply t → Ranges s step reply t
   step_ranges reply t step is = both_range reply t step (step_maps reply t step is) (step_makes s reply t step is)

@@ -1,5 +1,6 @@
 -- What is shown by place is shown by name and number, where these stay in place.
-use Rattle.std.proofs.Common.{◌≡◌, ⊎_elim, inl, inr, ◌⊎◌, subst, ℕ, true, false, ◌==◌, Option, None, Some, List, refl, sym, ap, ◌∙◌}
+use Rattle.std.proofs.Common.{arith}
+use Rattle.std.proofs.Common.{◌≡◌, ⊎_elim, inl, inr, ◌⊎◌, subst, ℕ, true, false, ◌==◌, Option, None, Some, List, sym, ap, ◌∙◌}
 use Rattle.hp_model.specs.declared.event.SlotEvent.{SlotEvent}
 use Rattle.hp_model.specs.declared.event.SlotEvent.TheVariants as slot
 use Rattle.hp_model.specs.declared.step.Intent.TheVariants.{Read, Write}
@@ -54,10 +55,8 @@ module _ (size : ℕ) (m n : Mount) where
 
   lost_to : (e : SlotEvent) → PlaceKeeps size m e n → (p q : Spot) (i : ℕ) → map_on (Some m) p.file_no p.map_no ≡ p.map → map_on (Some n) p.file_no p.map_no ≡ q.map
       → LosesAt m e n p.file_no p.map_no i → LosesBy (Some m) e (Some n) p q i
-  lost_to (slot.Store task home number x offset bytes) keeps p q i old new lost =
-      by_owner task number (λ o named. keeps.numbers task number o refl named) p q x i old new (spot m (is_map task number)) refl lost
-  lost_to (slot.Fault task home number x Write) keeps p q i old new lost =
-      by_owner task number (λ o named. keeps.numbers task number o refl named) p q x i old new (spot m (is_map task number)) refl lost
+  lost_to (slot.Store task home number x offset bytes) keeps p q i old new lost = grind (arith, by_owner)
+  lost_to (slot.Fault task home number x Write) keeps p q i old new lost = grind (arith, by_owner)
   lost_to (slot.Fault task home number x Read) keeps p q i old new lost = absurd lost
   lost_to rest keeps p q i old new lost = absurd lost
 

@@ -1,6 +1,7 @@
 -- Names and numbers after files without a name and without maps are gone, or maps of some kind.
-use Rattle.std.proofs.Common.{◌≡◌, ⊎_elim, inl, subst, ℕ, zero, suc, ◌+◌, ◌<◌, ◌||◌, ◌==◌, Bool, true, false, not, Option, None}
-use Rattle.std.proofs.Common.{Some, is_some, List, [], ◌∷◌, length, map, option_map, add-one, get_or, refl, sym, ap, ◌∙◌, arith, if◌then◌else◌, nat_lt}
+use Rattle.std.proofs.lemmas.Grind.{common_steps}
+use Rattle.std.proofs.Common.{◌≡◌, ⊎_elim, inl, subst, ℕ, zero, suc, ◌+◌, ◌<◌, ◌==◌, Bool, true, false, not, Option, None}
+use Rattle.std.proofs.Common.{Some, is_some, List, [], ◌∷◌, length, map, option_map, get_or, refl, sym, ap, ◌∙◌, arith, if◌then◌else◌, nat_lt}
 use Rattle.std.specs.List.{filter, list_any}
 use Rattle.std.specs.Str.{bytes_eq}
 use Rattle.std.proofs.lemmas.Bool.{cases_eq, cases_order, eq-eqb, eqb-true, false_from_ne_true, or_right, lt-ltb, or_cases, and_parts}
@@ -38,19 +39,7 @@ module _ {X : Type 0} (keep : X → Bool) where
       → ((p : ℕ × X) → found t xs ≡ Some p → keep p.1 ≡ true → found t (filter keep xs) ≡ Some (rank keep xs p.0, p.1)) → keep q.1 ≡ true
       → (b : Bool) → t x ≡ b → (r : Option (ℕ × X)) → found t xs ≡ r → (if b then Some (0, x) else option_map one_on r) ≡ Some q
       → found t (filter keep (x ∷ xs)) ≡ Some (rank keep (x ∷ xs) q.0, q.1)
-  found_head t x xs q rest stays true is r was e =
-      let same : (0, x) ≡ q = cc in
-      subst (λ (p : ℕ × X). found t (filter keep (x ∷ xs)) ≡ Some (rank keep (x ∷ xs) p.0, p.1)) same
-      (rw (subst (λ (p : ℕ × X). keep p.1 ≡ true) (sym same) stays, is) refl)
-  found_head t x xs q rest stays false is None was e = cc
-  found_head t x xs q rest stays false is (Some p) was e =
-      let same : (p.0 + 1, p.1) ≡ q = cc in
-      subst (λ (p : ℕ × X). found t (filter keep (x ∷ xs)) ≡ Some (rank keep (x ∷ xs) p.0, p.1)) same
-      (by_keep (keep x) refl (rest p was (subst (λ (p : ℕ × X). keep p.1 ≡ true) (sym same) stays)))
-    where
-      by_keep : (b : Bool) → keep x ≡ b → found t (filter keep xs) ≡ Some (rank keep xs p.0, p.1) → found t (filter keep (x ∷ xs)) ≡ Some (rank keep (x ∷ xs) (p.0 + 1), p.1)
-      by_keep true stays w = rw (add-one, stays, is, w) refl
-      by_keep false goes w = rw (add-one, goes, w) refl
+  found_head t x xs q rest stays b is r was e = grind arith
 
   -- what is found and stays is found still
   pub found_filter : (t : X → Bool) (xs : List X) (q : ℕ × X) → found t xs ≡ Some q → keep q.1 ≡ true → found t (filter keep xs) ≡ Some (rank keep xs q.0, q.1)
@@ -100,12 +89,7 @@ pub record Follows (m n : Mount) (ok : Map → Bool) : Type 0 where
   pub apart : (a b : ℕ × ℕ) (q o : Spot) → spot m (is_map a.0 a.1) ≡ Some q → spot m (is_map b.0 b.1) ≡ Some o → (to q.file_no == to o.file_no) ≡ (q.file_no == o.file_no)
 
 pub both_same : (together : Bool) (x y : Option Spot) → SameFiles together x y → (p : Spot) (o : Spot) → x ≡ Some p → y ≡ Some o → (p.file_no == o.file_no) ≡ together
-both_same together (Some a) (Some b) same p o e w = ap (λ z. z.file_no == o.file_no) (sym (some_same a p e)) ∙ ap (λ z. a.file_no == z.file_no) (sym (some_same b o w)) ∙ same
-  where
-    some_same : (a p : Spot) → Some a ≡ Some p → a ≡ p
-    some_same a p e = cc
-both_same together None y same p o e w = absurd same
-both_same together (Some a) None same p o e w = absurd same
+both_same together x y same p o e w = grind arith
 
 -- what an event keeps up to m it keeps up to n
 module _ (size : ℕ) (x : Slot) (e : SlotEvent) (m n : Mount) (ok : Map → Bool) (follows : Follows m n ok) (keeps : SlotKeeps size x e (Some m))
@@ -150,15 +134,10 @@ some_pass : {X : Type 0} (t : X → Bool) (xs : List X) (q : ℕ × X) → found
 some_pass t xs q e = let at = found_place t xs q e in list_any_at t xs q.0 q.1 at.within (ap t (at.is q.1) ∙ at.passes)
 
 longer : {X : Type 0} (t : X → Bool) (xs : List X) → list_any t xs ≡ true → nat_lt 0 (length xs) ≡ true
-longer t [] e = cc
-longer t (x ∷ xs) e = lt-ltb 0 (suc (length xs)) (omega arith)
+longer t xs e = grind (arith, common_steps)
 
 pub is_open : (name : List ℕ) (f : File) → has_name name f ≡ true → is_kept f ≡ true
-is_open name f e = by_name f.name e
-  where
-    by_name : (o : Option (List ℕ)) → (elim o [ None ↦ false | Some n ↦ bytes_eq n name ]) ≡ true → (is_some o || nat_lt 0 (length f.maps)) ≡ true
-    by_name None e = cc
-    by_name (Some n) e = refl
+is_open name f e = grind arith
 
 module _ (m : Mount) where
   has_maps : (test : Map → Bool) (f : File) → list_any test f.maps ≡ true → is_kept f ≡ true
@@ -169,15 +148,10 @@ module _ (m : Mount) where
       let at = spot_is m test q e in
       ap is_kept (at.file.is (new_file None)) ∙ or_right (is_some q.file.name) (nat_lt 0 (length q.file.maps)) (lt-ltb 0 (length q.file.maps) (omega (arith, at.map.within)))
 
-  some_map : (f : ℕ × File) (test : Map → Bool) (o : Option (ℕ × Map)) (q : Spot) → option_map (spot_in f) o ≡ Some q → (p : ℕ × Map) × (o ≡ Some p) × (spot_in f p ≡ q)
-  some_map f test None q e = cc
-  some_map f test (Some p) q e = (p, refl, (let w : spot_in f p ≡ q = cc in w))
-
   -- what is found in the file, there or elsewhere
   pub some_file : (test : Map → Bool) (o : Option (ℕ × File)) (q : Spot) → in_file test o ≡ Some q →
       (f : ℕ × File) × (o ≡ Some f) × ((p : ℕ × Map) × (found test f.1.maps ≡ Some p) × (spot_in f p ≡ q))
-  some_file test None q e = cc
-  some_file test (Some f) q e = (f, refl, some_map f test (found test f.1.maps) q e)
+  some_file test o q e = grind arith
 
   pub sweep_follows : Follows m (swept m) (λ y. true)
   sweep_follows = record {
@@ -221,10 +195,7 @@ found_fewer {X = X} t u less (x ∷ xs) q e passes = by_head (t x) refl (found t
         → (if b then Some (0, x) else option_map one_on r) ≡ Some q → found u (x ∷ xs) ≡ Some q
     by_head true is r was rest e =
         let same : (0, x) ≡ q = cc in subst (λ (p : ℕ × X). found u (x ∷ xs) ≡ Some p) same (rw (subst (λ (p : ℕ × X). u p.1 ≡ true) (sym same) passes) refl)
-    by_head false is None was rest e = cc
-    by_head false is (Some p) was rest e =
-        let same : (p.0 + 1, p.1) ≡ q = cc in
-        subst (λ (w : ℕ × X). found u (x ∷ xs) ≡ Some w) same (rw (not_first is, rest p was (subst (λ (w : ℕ × X). u w.1 ≡ true) (sym same) passes)) refl)
+    by_head b is r was rest e = grind (arith, not_first)
 
 -- each file has its name and cells, and a map that passes is found in it still
 pub record FilesFollow (h : File → File) (ok : Map → Bool) : Type 0 where
@@ -243,9 +214,7 @@ module _ (m : Mount) (h : File → File) (ok : Map → Bool) (each : FilesFollow
   same_named name f = ap (λ (o : Option (List ℕ)). elim o [ None ↦ false | Some n ↦ bytes_eq n name ]) (each.names f)
 
   name_stays : (name : List ℕ) (g : ℕ × File) → file_named m name ≡ Some g → file_named after name ≡ Some (g.0, h g.1)
-  name_stays name g e =
-      found_mapped (has_name name) h m.files
-      ∙ ap (option_map (keyed h)) (found_same (λ f. has_name name (h f)) (has_name name) (same_named name) m.files ∙ e)
+  name_stays name g e = grind (arith, found_mapped, keyed, found_same, same_named)
 
   pub edit_follows : Follows m after ok
   edit_follows = record {

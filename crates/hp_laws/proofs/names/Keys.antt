@@ -1,4 +1,5 @@
 -- Where a name and a map's number are found depends on the names and numbers alone.
+use Rattle.std.proofs.Common.{arith}
 use Rattle.std.proofs.Common.{◌≡◌, ℕ, ◌&&◌, ◌||◌, ◌==◌, Bool, true, false, None, Option, Some, List, [], ◌∷◌, map, option_map, refl, sym, ap, ◌∙◌, if◌then◌else◌}
 use Rattle.std.specs.List.{list_any}
 use Rattle.std.specs.Str.{bytes_eq}
@@ -7,7 +8,7 @@ use Rattle.hp_model.specs.Lists.{found, one_on}
 use Rattle.hp_model.specs.files.Mapping.{Map, is_map}
 use Rattle.hp_model.specs.machine.Promises.{Shape, shape_of}
 use Rattle.hp_model.specs.machine.SlotEvent.{file_named}
-use Rattle.hp_model.specs.files.Spot.{Spot, spot, spot_in}
+use Rattle.hp_model.specs.files.Spot.{Spot, spot}
 use Rattle.hp_laws.proofs.making.FilesMade.{in_file, spot_in_file}
 
 -- ---- keys
@@ -43,12 +44,10 @@ found_mapped {X = X} t key (x ∷ xs) = by_head (t (key x)) (found (λ x. t (key
     by_head : (b : Bool) (r : Option (ℕ × X)) → found t (map key xs) ≡ option_map (keyed key) r
         → (if b then Some (0, key x) else option_map one_on (found t (map key xs))) ≡ option_map (keyed key) (if b then Some (0, x) else option_map one_on r)
     by_head true r e = refl
-    by_head false None e = ap (option_map one_on) e
-    by_head false (Some q) e = ap (option_map one_on) e
+    by_head b r e = grind arith
 
 pub found_same : {X : Type 0} (t u : X → Bool) → ((x : X) → t x ≡ u x) → (xs : List X) → found t xs ≡ found u xs
-found_same t u h [] = refl
-found_same t u h (x ∷ xs) = rw (h x, found_same t u h xs) refl
+found_same t u h xs = grind arith
 
 pub any_mapped : (t : Shape → Bool) (ms : List Map) → list_any (λ m. t (shape_of m)) ms ≡ list_any t (map shape_of ms)
 any_mapped t [] = refl
@@ -73,13 +72,7 @@ abbrev pub key_places : (Shape → Bool) → List FileKey → Option Where
 key_places t ks = in_key t (found (has_key t) ks)
 
 number_in : (task number : ℕ) (o : Option (ℕ × File)) → option_map places (in_file (is_map task number) o) ≡ in_key (is_key task number) (option_map (keyed file_key) o)
-number_in task number None = refl
-number_in task number (Some f) =
-    by_found (found (is_map task number) f.1.maps) ∙ sym (ap (option_map (λ (q : ℕ × Shape). (f.0, q.0, q.1))) (found_mapped (is_key task number) shape_of f.1.maps))
-  where
-    by_found : (o : Option (ℕ × Map)) → option_map places (option_map (spot_in f) o) ≡ option_map (λ (q : ℕ × Shape). (f.0, q.0, q.1)) (option_map (keyed shape_of) o)
-    by_found None = refl
-    by_found (Some q) = refl
+number_in task number o = grind (arith, found_mapped)
 
 pub number_places : (m : Mount) (task number : ℕ) → option_map places (spot m (is_map task number)) ≡ key_places (is_key task number) (keys m)
 number_places m task number =

@@ -1,5 +1,6 @@
 -- What names and numbers mean stands where it stood, after a file or a map more and after each access.
-use Rattle.std.proofs.Common.{◌≡◌, subst, ℕ, ◌-◌, ◌<◌, ◌==◌, true, None, Some, List, [], ◌∷◌, ◌++◌, length, map, option_map, suc, zero, get_or, arith, refl, sym, ap, ◌∙◌}
+use Rattle.std.proofs.lemmas.Grind.{common_steps}
+use Rattle.std.proofs.Common.{◌≡◌, subst, ℕ, ◌<◌, ◌==◌, true, None, Some, List, [], ◌∷◌, ◌++◌, length, map, option_map, suc, zero, get_or, arith, refl, sym, ap, ◌∙◌}
 use Rattle.std.specs.List.{slice_set}
 use Rattle.std.proofs.lemmas.Bool.{and_parts, cond_both, eqb-true}
 use Rattle.hp_model.specs.declared.answer.Answer.TheVariants.{Done}
@@ -10,13 +11,12 @@ use Rattle.hp_model.specs.declared.step.Reserving.{Reserving}
 use Rattle.hp_model.specs.declared.step.Sharing.{Sharing}
 use Rattle.hp_model.specs.files.File.{File, Mount, with_file}
 use Rattle.hp_model.specs.files.MakeMap.{mapped, new_map, next_number, with_new}
-use Rattle.hp_model.specs.Lists.{edit_at}
 use Rattle.hp_model.specs.machine.Plan.{Choice, Outcome, Answered, Plan, and_then, with_value}
 use Rattle.hp_model.specs.declared.refusal.Refusal.TheVariants.{NoSuchMap}
 use Rattle.hp_model.specs.machine.Promises.{shape_of}
 use Rattle.hp_model.specs.machine.SlotEvent.{has_name, byte_access, bytes_answer, fault, fault_tests, file_named, load, store}
-use Rattle.hp_model.specs.files.Mapping.{is_map, is_shared}
-use Rattle.hp_model.specs.files.Spot.{Spot, again, cell_written, file_written, map_written, place_written, spot, written}
+use Rattle.hp_model.specs.files.Mapping.{is_map}
+use Rattle.hp_model.specs.files.Spot.{Spot, again, file_written, spot, written}
 use Rattle.hp_model.specs.files.Value.{value}
 use Rattle.hp_model.proofs.Editing.{length-edit_at}
 use Rattle.hp_laws.proofs.names.Accessed.{access_on, bytes_on, file_put, key_edit, pages_same}
@@ -33,8 +33,7 @@ use Rattle.hp_model.specs.files.Fill.{range_filled}
 -- ---- keys of longer lists
 
 keys_more : {X K : Type 0} (key : X → K) (xs : List X) (y : X) → map key (xs ++ y ∷ []) ≡ map key xs ++ key y ∷ []
-keys_more key [] y = refl
-keys_more key (x ∷ xs) y = ap (λ ks. key x ∷ ks) (keys_more key xs y)
+keys_more key xs y = grind (arith, common_steps)
 
 keys_set : {X K : Type 0} (key : X → K) (xs : List X) (k : ℕ) (y : X) → map key (slice_set xs k y) ≡ slice_set (map key xs) k (key y)
 keys_set key [] k y = refl
@@ -42,9 +41,7 @@ keys_set key (x ∷ xs) zero y = refl
 keys_set key (x ∷ xs) (suc k) y = ap (λ ks. key x ∷ ks) (keys_set key xs k y)
 
 key_at : {X K : Type 0} (key : X → K) (xs : List X) (k : ℕ) (d : X) (e : K) → k < length xs → get_or (map key xs) k e ≡ key (get_or xs k d)
-key_at key [] k d e l = absurd (omega (arith, l))
-key_at key (x ∷ xs) zero d e l = refl
-key_at key (x ∷ xs) (suc k) d e l = key_at key xs k d e (omega (arith, l))
+key_at key xs k d e l = grind (arith, common_steps)
 
 -- ---- an open mount
 
@@ -84,11 +81,7 @@ module _ (m : Mount) where
 
 -- what a store writes leaves names and numbers
 pub written_key : (s : Spot) (i offset : ℕ) (bytes : List ℕ) (f : File) → file_key (file_written s i offset bytes f) ≡ file_key f
-written_key s i offset bytes f =
-    cond_both (is_shared s.map.sharing) (record f { cells = edit_at (cell_written offset bytes) f.cells i })
-    (record f { maps = edit_at (map_written i offset bytes) f.maps s.map_no }) (λ (y : File). file_key y ≡ file_key f)
-    (λ e. refl) (λ e. ap (λ ks. (f.name, ks)) (key_edit shape_of (map_written i offset bytes)
-    (λ x. pages_same x x.unmapped (map_written i offset bytes x).places (length-edit_at (place_written offset bytes) x.places (i - x.start))) f.maps s.map_no))
+written_key s i offset bytes f = grind (arith, cond_both, file_key, key_edit, pages_same, places, length-edit_at)
 
 module _ (c : Choice) (m : Mount) where
   abbrev Stays : Mount → Type 0

@@ -1,4 +1,5 @@
 -- What a name's file and a number's map show is what stands at their places.
+use Rattle.std.proofs.Common.{arith}
 use Rattle.std.proofs.Common.{◌≡◌, ℕ, None, Some, List, sym, ap, ◌∙◌}
 use Rattle.std.specs.List.{slice_index_or}
 use Rattle.hp_model.specs.files.File.{File, cell_at, new_file}
@@ -14,8 +15,7 @@ use Rattle.hp_laws.proofs.lists.Places.{found_place}
 -- ---- one slot
 
 pub file_shown : (size : ℕ) (x : Slot) (name : List ℕ) (f : ℕ × File) (i : ℕ) → named_on x name ≡ Some f → shown_on size x f.0 i ≡ shown size (cell_at f.1 i)
-file_shown size None name f i e = cc
-file_shown size (Some m) name f i e = ap (λ (y : File). shown size (cell_at y i)) ((found_place (has_name name) m.files f e).is (new_file None))
+file_shown size x name f i e = grind (arith, found_place)
 
 pub map_shown : (x : Slot) (task number : ℕ) (p : Spot) → spot_on x task number ≡ Some p → map_on x p.file_no p.map_no ≡ p.map
 map_shown None task number p e = cc

@@ -1,8 +1,9 @@
 -- Names and numbers are found where they were, after each change that ends neither.
-use Rattle.std.proofs.Common.{◌≡◌, ⊎_elim, subst, ℕ, zero, suc, ◌+◌, ◌||◌, ◌==◌, Bool, true, false, None, Option}
+use Rattle.std.proofs.lemmas.Grind.{common_steps}
+use Rattle.std.proofs.Common.{◌≡◌, subst, ℕ, zero, suc, ◌+◌, ◌==◌, Bool, true, false, None, Option}
 use Rattle.std.proofs.Common.{Some, List, [], ◌∷◌, ◌++◌, option_map, get_or, refl, sym, ap, ◌∙◌, arith, if◌then◌else◌}
 use Rattle.std.specs.List.{slice_set}
-use Rattle.std.proofs.lemmas.Bool.{cases_eq, eq-eqb, eqb-true, false_from_ne_true}
+use Rattle.std.proofs.lemmas.Bool.{eqb-true, false_from_ne_true}
 use Rattle.hp_model.specs.files.File.{File, Mount}
 use Rattle.hp_model.specs.Lists.{found, one_on}
 use Rattle.hp_model.specs.files.Mapping.{is_map}
@@ -10,7 +11,6 @@ use Rattle.hp_model.specs.machine.Promises.{Shape}
 use Rattle.hp_model.specs.machine.SlotEvent.{file_named}
 use Rattle.hp_model.specs.files.Spot.{Spot, spot}
 use Rattle.hp_laws.proofs.names.Keys.{FileKey, Where, file_key, has_key, in_key, is_key, is_named, key_places, keyed, keys, name_place, number_places, places}
-use Rattle.hp_laws.proofs.making.FilesMade.{any_append}
 use Rattle.hp_laws.proofs.lists.Places.{found_place}
 
 -- ---- by keys
@@ -33,8 +33,7 @@ found_more {X = X} t (x ∷ xs) ys q e = by_head (t x) (found t xs) refl (λ p w
     by_head : (b : Bool) (r : Option (ℕ × X)) → found t xs ≡ r → ((p : ℕ × X) → found t xs ≡ Some p → found t (xs ++ ys) ≡ Some p)
         → (if b then Some (0, x) else option_map one_on r) ≡ Some q → (if b then Some (0, x) else option_map one_on (found t (xs ++ ys))) ≡ Some q
     by_head true r was rest e = e
-    by_head false None was rest e = cc
-    by_head false (Some p) was rest e = ap (option_map one_on) (rest p was) ∙ e
+    by_head b r was rest e = grind arith
 
 pub lead_more : (ks more : List FileKey) → KeysLead ks (ks ++ more)
 lead_more ks more =
@@ -51,11 +50,7 @@ abbrev pub put_at : {X : Type 0} → ℕ → X → ℕ × X → ℕ × X
 put_at j y p = (p.0, if p.0 == j then y else p.1)
 
 suc_eq : (a b : ℕ) → (a + 1 == suc b) ≡ (a == b)
-suc_eq a b =
-    ⊎_elim (λ same. eq-eqb (a + 1) (suc b) (omega (arith, same)) ∙ sym (eq-eqb a b same))
-    (λ other. false_from_ne_true (a + 1 == suc b) (λ e. (let same = eqb-true (a + 1) (suc b) e in other (omega (arith, same))))
-    ∙ sym (false_from_ne_true (a == b) (λ e. other (eqb-true a b e))))
-    (cases_eq a b)
+suc_eq a b = grind arith
 
 suc_not_zero : (a : ℕ) → (a + 1 == 0) ≡ false
 suc_not_zero a = false_from_ne_true (a + 1 == 0) (λ e. (let same = eqb-true (a + 1) 0 e in absurd (omega (arith, same))))
@@ -71,21 +66,13 @@ first_later y p = ap (λ b. (p.0 + 1, if b then y else p.1)) (sym (suc_not_zero 
 
 pub found_set : {X : Type 0} (t : X → Bool) (xs : List X) (j : ℕ) (y : X) → t y ≡ t (get_or xs j y) → found t (slice_set xs j y) ≡ option_map (put_at j y) (found t xs)
 found_set t [] j y same = refl
-found_set {X = X} t (x ∷ xs) zero y same = by_head (t x) (t y) same (found t xs)
-  where
-    by_head : (b c : Bool) → c ≡ b → (r : Option (ℕ × X)) → (if c then Some (0, y) else option_map one_on r) ≡ option_map (put_at 0 y) (if b then Some (0, x) else option_map one_on r)
-    by_head true true w r = refl
-    by_head true false w r = cc
-    by_head false true w r = cc
-    by_head false false w None = refl
-    by_head false false w (Some p) = ap Some (first_later y p)
+found_set {X = X} t (x ∷ xs) zero y same = grind (arith, first_later)
 found_set {X = X} t (x ∷ xs) (suc j) y same = by_head (t x) (found t xs) (found t (slice_set xs j y)) (found_set t xs j y same)
   where
     by_head : (b : Bool) (r s : Option (ℕ × X)) → s ≡ option_map (put_at j y) r →
         (if b then Some (0, x) else option_map one_on s) ≡ option_map (put_at (suc j) y) (if b then Some (0, x) else option_map one_on r)
     by_head true r s rest = ap (λ b. Some (0, if b then y else x)) (sym (zero_not_suc j))
-    by_head false None s rest = ap (option_map one_on) rest
-    by_head false (Some p) s rest = ap (option_map one_on) rest ∙ ap Some (later j y p)
+    by_head b r s rest = grind (arith, later)
 
 -- ---- a file gets one map more, of a key that is not there yet
 
@@ -95,22 +82,10 @@ module _ (ks : List FileKey) (j : ℕ) (k : FileKey) (new : Shape) (there : (d :
   with_new = (k.0, k.1 ++ new ∷ [])
 
   still_has : (t : Shape → Bool) → t new ≡ false → has_key t with_new ≡ has_key t k
-  still_has t unlike = any_append t k.1 (new ∷ []) ∙ rw unlike (or_none (has_key t k))
-    where
-      or_none : (b : Bool) → (b || (false || false)) ≡ b
-      or_none true = refl
-      or_none false = refl
+  still_has t unlike = grind (arith, common_steps)
 
   in_more : (t : Shape → Bool) (q : ℕ × FileKey) (x : Where) (b : Bool) → (b ≡ true → q.1 ≡ k) → in_key t (Some q) ≡ Some x → in_key t (Some (q.0, if b then with_new else q.1)) ≡ Some x
-  in_more t q x false is e = e
-  in_more t q x true is e =
-      by_place (found t q.1.1) refl e
-    where
-      by_place : (o : Option (ℕ × Shape)) → found t q.1.1 ≡ o → option_map (λ (p : ℕ × Shape). (q.0, p.0, p.1)) o ≡ Some x
-          → option_map (λ (p : ℕ × Shape). (q.0, p.0, p.1)) (found t (k.1 ++ new ∷ [])) ≡ Some x
-      by_place None was e = cc
-      by_place (Some p) was e =
-          ap (option_map (λ (p : ℕ × Shape). (q.0, p.0, p.1))) (found_more t k.1 (new ∷ []) p (ap (λ (f : FileKey). found t f.1) (sym (is refl)) ∙ was)) ∙ e
+  in_more t q x b is e = grind (arith, found_more)
 
   pub lead_added : KeysLead ks (slice_set ks j with_new)
   lead_added = record { names = names; numbers = λ task number x e. numbers task number x (is_key task number new) refl e }
@@ -145,8 +120,7 @@ pub record Placed (m n : Mount) : Type 0 where
   pub numbers : (task number : ℕ) (p : Spot) → spot m (is_map task number) ≡ Some p → (q : Spot) × (spot n (is_map task number) ≡ Some q) × (places q ≡ places p)
 
 unkeyed : {X K Y : Type 0} (f : X → Y) (g : K → Y) (key : X → K) → ((x : X) → g (key x) ≡ f x) → (o : Option X) (k : K) → option_map key o ≡ Some k → (x : X) × (o ≡ Some x) × (f x ≡ g k)
-unkeyed f g key same None k e = cc
-unkeyed f g key same (Some x) k e = (x, refl, sym (same x) ∙ ap g (let w : key x ≡ k = cc in w))
+unkeyed f g key same o k e = grind arith
 
 pub placed : (m n : Mount) → KeysLead (keys m) (keys n) → Placed m n
 placed m n lead =

@@ -1,74 +1,45 @@
 -- What a step that reads answers, and that a refused step leaves the machine as it was.
-use Rattle.std.proofs.Common.{◌≡◌, inl, subst, ℕ, Bool, true, false, Option, None, Some, Ok, Err, List, [], ◌∷◌, refl, sym, ap}
+use Rattle.std.proofs.Common.{arith}
+use Rattle.std.proofs.Common.{◌≡◌, ℕ, Bool, true, false, Option, Ok, Err, List, refl}
 use Rattle.std.specs.Bool.{MatchBool}
-use Rattle.std.specs.List.{filter_map}
-use Rattle.hp_model.specs.declared.answer.Answer.TheVariants.{Home, Names, Numbers, PerNode}
+use Rattle.hp_model.specs.declared.answer.Answer.TheVariants.{Home}
 use Rattle.hp_model.specs.declared.answer.Answer.{Answer}
 use Rattle.hp_model.specs.declared.event.Event.{Event}
-use Rattle.hp_model.specs.declared.event.Event.TheVariants.{Tasks, Slot as OnSlot, Pool as OnPool}
-use Rattle.hp_model.specs.declared.event.PoolEvent.TheVariants as pool
+use Rattle.hp_model.specs.declared.event.Event.TheVariants.{Slot as OnSlot}
 use Rattle.hp_model.specs.declared.event.SlotEvent.{SlotEvent}
 use Rattle.hp_model.specs.declared.event.SlotEvent.TheVariants as slot
-use Rattle.hp_model.specs.declared.event.TableEvent.TheVariants as table
 use Rattle.hp_model.specs.declared.refusal.Refusal.{Refusal}
-use Rattle.hp_model.specs.declared.refusal.Refusal.TheVariants.{NoSuchFile, OutOfMemory}
 use Rattle.hp_model.specs.declared.step.Step.{Step}
-use Rattle.hp_model.specs.declared.step.Step.TheVariants.{Attach, Exit, Fork, Meminfo, Mount, Nodes}
+use Rattle.hp_model.specs.declared.step.Step.TheVariants.{Attach, Exit, Fork}
 use Rattle.hp_model.specs.machine.Event.{IsEvent}
-use Rattle.hp_model.specs.files.File.{File, cell_at}
-use Rattle.hp_model.specs.machine.Machine.{pool_of}
-use Rattle.hp_model.specs.machine.Plan.{Choice, Outcome, Refused, Answered, Finish, Reply, Slot, with_value}
-use Rattle.hp_model.specs.machine.Promises.{IsHome, IsListed, IsRead, IsStat, IsUsage, LeavesAll, LeavesOthers, SameButNodes, AnswersWhatWas, is_late, is_late_step, named_on}
-use Rattle.hp_model.specs.pool.Resize.{node_counts}
+use Rattle.hp_model.specs.machine.Plan.{Choice, Outcome, Refused, Answered, Reply, Slot}
+use Rattle.hp_model.specs.machine.Promises.{IsListed, IsRead, IsStat, IsUsage, LeavesAll, LeavesOthers, SameButNodes, AnswersWhatWas, is_late, named_on}
 use Rattle.hp_model.specs.machine.Settled.{IsSettledState}
-use Rattle.hp_model.specs.machine.SlotEvent.{bytes_answer, file_named, read, read_tests, slot_event, stat}
+use Rattle.hp_model.specs.machine.SlotEvent.{slot_event}
 use Rattle.hp_model.specs.machine.State.{State, slot_at}
 use Rattle.hp_model.specs.machine.Step.{IsScripted, IsStep}
-use Rattle.hp_model.specs.files.Value.{shown}
 use Rattle.hp_model.specs.machine.Table.{home_of, is_known, when_known}
 use Rattle.hp_laws.proofs.settled.CountsHold.{counts_are_sums}
 use Rattle.hp_laws.proofs.ending.Fades.{exit_refused}
-use Rattle.hp_laws.proofs.steps.Outcomes.{Always, event_ends, reply_of}
+use Rattle.hp_laws.proofs.steps.Outcomes.{Always}
 use Rattle.hp_laws.proofs.steps.RefusalsKeep.{refusals_change_nothing}
-use Rattle.hp_laws.proofs.accesses.SlotShows.{always_unless}
 use Rattle.hp_laws.proofs.promises.SmallReplies.{rows_many}
 use Rattle.hp_laws.proofs.ending.RefusedForks.{fork_known, fork_refused}
 use Rattle.hp_laws.proofs.steps.Whole.{by_event, is_whole, slot_step, step_of}
 
 -- ---- refused steps
 
--- what is left where the machine is as it was, whether or not the step may be refused late
-same_left : (s : State) (late : Bool) (t : State) → t ≡ s → MatchBool late (SameButNodes s t) (t ≡ s)
-same_left s true t same = subst (λ x. SameButNodes s x) (sym same) refl
-same_left s false t same = same
-
--- and whether or not the child of a fork was there
-same_forks : (s : State) (child : ℕ) (known : Bool) (t : State) → t ≡ s → MatchBool known (t ≡ s) (LeavesOthers s child t)
-same_forks s child true t same = same
-same_forks s child false t same = subst (λ x. LeavesOthers s child x) (sym same) (record { table = refl; nr = refl; overcommit = refl; slots = λ k. inl refl })
-
 -- a step that did nothing left what a refusal leaves
 same_leaves : (s : State) (step : Step) (r : Refusal) (t : State) → t ≡ s → LeavesAll s step (Err r) t
-same_leaves s (Fork parent child) r t same = same_forks s child (is_known s.table child) t same
-same_leaves s (Mount k options) r t same = same_left s (is_late_step (Mount k options) r) t same
-same_leaves s other r t same = same
+same_leaves s step r t same = grind arith
 
 module _ (s : State) (st : IsSettledState s) where
   -- what a refused event leaves is what its step leaves
   refused_leaves : (e : Event) (r : Refusal) (t : State) → is_whole e ≡ true → MatchBool (is_late e r) (SameButNodes s t) (t ≡ s) → LeavesAll s (step_of e) (Err r) t
-  refused_leaves (Tasks (table.FindAndAdd parent child)) r t whole left = cc
-  refused_leaves (Tasks (table.Remove task)) r t whole left = cc
-  refused_leaves (OnSlot k (slot.ForkMaps parent child)) r t whole left = cc
-  refused_leaves (OnSlot k (slot.ExitMaps task)) r t whole left = cc
-  refused_leaves (Tasks (table.Add task home)) r t whole left = left
-  refused_leaves (Tasks (table.Find task)) r t whole left = left
-  refused_leaves (OnSlot k other) r t whole left = left
-  refused_leaves (OnPool (pool.Nr n)) r t whole left = left
-  refused_leaves (OnPool other) r t whole left = left
+  refused_leaves e r t whole left = grind arith
 
   event_leaves : (e : Event) (reply : Reply) (t : State) → is_whole e ≡ true → IsEvent s e reply t → LeavesAll s (step_of e) reply t
-  event_leaves e (Ok a) t whole is = tt
-  event_leaves e (Err r) t whole is = refused_leaves e r t whole (refusals_change_nothing s e r t st is)
+  event_leaves e reply t whole is = grind (arith, refused_leaves, refusals_change_nothing)
 
   fork_leaves : (parent child : ℕ) (reply : Reply) (t : State) → IsScripted s (Fork parent child) reply t → LeavesAll s (Fork parent child) reply t
   fork_leaves parent child (Ok a) t is = tt
@@ -95,74 +66,34 @@ Says P (Refused r) = Unit {0}
 Says P (Answered a new) = P a
 
 usage_told : (size k : ℕ) (c : Choice) (old : Slot) → Always (Says (IsUsage old)) (slot_event size k c old slot.Df)
-usage_told size k c None = tt
-usage_told size k c (Some m) = refl
+usage_told size k c old = grind arith
 
 names_told : (size k : ℕ) (c : Choice) (old : Slot) → Always (Says (IsListed old)) (slot_event size k c old slot.Ls)
-names_told size k c None = tt
-names_told size k c (Some m) = always_unless (Says (IsListed (Some m))) (λ r. tt) ((c.refused, OutOfMemory) ∷ []) (Finish (Answered (Names (filter_map (λ f. f.name) m.files)) (Some m))) refl
+names_told size k c old = grind arith
 
 stat_told : (size k : ℕ) (c : Choice) (old : Slot) (name : List ℕ) → Always (Says (IsStat (named_on old name))) (slot_event size k c old (slot.Stat name))
-stat_told size k c None name = tt
-stat_told size k c (Some m) name = by_file (file_named m name)
-  where
-    by_file : (o : Option (ℕ × File)) → Always (Says (IsStat o)) (with_value o NoSuchFile (stat m))
-    by_file None = tt
-    by_file (Some f) = refl
+stat_told size k c old name = grind arith
 
 read_told : (size k : ℕ) (c : Choice) (old : Slot) (name : List ℕ) (i offset count : ℕ)
     → Always (Says (IsRead size (named_on old name) i offset count)) (slot_event size k c old (slot.Read name i offset count))
-read_told size k c None name i offset count = tt
-read_told size k c (Some m) name i offset count = by_file (file_named m name)
-  where
-    by_file : (o : Option (ℕ × File)) → Always (Says (IsRead size o i offset count)) (with_value o NoSuchFile (read size m i offset count))
-    by_file None = tt
-    by_file (Some f) =
-        always_unless (Says (IsRead size (Some f) i offset count)) (λ r. tt) (read_tests size i offset count f.1)
-        (Finish (Answered (bytes_answer offset count (shown size (cell_at f.1 i))) (Some m))) refl
+read_told size k c old name i offset count = grind arith
 
 -- a step that was refused tells nothing
 nothing_told : (s : State) (step : Step) (r : Refusal) → AnswersWhatWas s step (Err r)
-nothing_told s Meminfo r = tt
-nothing_told s other r = tt
+nothing_told s step r = grind arith
 
 module _ (s : State) (st : IsSettledState s) where
   -- what is told of the slot
   slot_tells : (P : Answer → Type 0) (k : ℕ) (e : SlotEvent) (reply : Reply) (t : State)
       → ((c : Choice) → Always (Says P) (slot_event s.page_size k c (slot_at s k) e)) → ((a : Answer) → P a → AnswersWhatWas s (slot_step k e) (Ok a))
       → IsEvent s (OnSlot k e) reply t → AnswersWhatWas s (slot_step k e) reply
-  slot_tells P k e reply t all h is =
-      let ends = event_ends (Says P) s k e reply t all is in subst (λ x. AnswersWhatWas s (slot_step k e) x) (sym ends.replied) (each ends.outcome ends.holds)
-    where
-      each : (o : Outcome) → Says P o → AnswersWhatWas s (slot_step k e) (reply_of o)
-      each (Refused r) says = nothing_told s (slot_step k e) r
-      each (Answered a new) says = h a says
+  slot_tells P k e reply t all h is = grind arith
 
   home_told : (task : ℕ) (o : Option ℕ) → home_of s.table task ≡ o → (reply : Reply) → reply ≡ (when_known s.table o (λ home. (Ok (Home home), s.table))).0 → AnswersWhatWas s (Attach task) reply
-  home_told task None known reply is = subst (λ x. AnswersWhatWas s (Attach task) x) (sym is) tt
-  home_told task (Some home) known reply is = subst (λ x. AnswersWhatWas s (Attach task) x) (sym is) (subst (λ o. IsHome o (Home home)) (sym known) refl)
+  home_told task o known reply is = grind arith
 
   event_tells : (e : Event) (reply : Reply) (t : State) → is_whole e ≡ true → IsEvent s e reply t → AnswersWhatWas s (step_of e) reply
-  event_tells (OnSlot k slot.Df) reply t whole is =
-      slot_tells (IsUsage (slot_at s k)) k slot.Df reply t (λ c. usage_told s.page_size k c (slot_at s k)) (λ a h. h) is
-  event_tells (OnSlot k slot.Ls) reply t whole is =
-      slot_tells (IsListed (slot_at s k)) k slot.Ls reply t (λ c. names_told s.page_size k c (slot_at s k)) (λ a h. h) is
-  event_tells (OnSlot k (slot.Stat name)) reply t whole is =
-      slot_tells (IsStat (named_on (slot_at s k) name)) k (slot.Stat name) reply t (λ c. stat_told s.page_size k c (slot_at s k) name) (λ a h. h) is
-  event_tells (OnSlot k (slot.Read name i offset count)) reply t whole is =
-      slot_tells (IsRead s.page_size (named_on (slot_at s k) name) i offset count) k (slot.Read name i offset count) reply t
-      (λ c. read_told s.page_size k c (slot_at s k) name i offset count) (λ a h. h) is
-  event_tells (OnPool pool.Meminfo) reply t whole is =
-      subst (λ x. AnswersWhatWas s Meminfo x) (ap (λ (q : Reply × State). q.0) is.2) (ap Numbers (counts_are_sums s st).counts)
-  event_tells (OnPool pool.Nodes) reply t whole is =
-      subst (λ x. AnswersWhatWas s Nodes x) (ap (λ (q : Reply × State). q.0) is.2) (ap (λ n. PerNode n (node_counts (pool_of s))) (rows_many s 0 s.nodes))
-  event_tells (OnSlot k (slot.ForkMaps parent child)) reply t whole is = cc
-  event_tells (OnSlot k (slot.ExitMaps task)) reply t whole is = cc
-  event_tells (OnSlot k other) reply t whole is = tt
-  event_tells (OnPool other) reply t whole is = tt
-  event_tells (Tasks (table.Find task)) reply t whole is = home_told task (home_of s.table task) refl reply (ap (λ (q : Reply × State). q.0) (sym is.2))
-  event_tells (Tasks (table.Add task home)) reply t whole is = tt
-  event_tells (Tasks other) reply t whole is = tt
+  event_tells e reply t whole is = grind (arith, counts_are_sums, rows_many, home_told, slot_tells, usage_told, names_told, stat_told, read_told)
 
   pub step_tells : (reply : Reply) (t : State) (step : Step) → IsStep s step reply t → AnswersWhatWas s step reply
   step_tells reply t step is = by_event s (λ step reply t. AnswersWhatWas s step reply) (λ step r early. nothing_told s step r) event_tells

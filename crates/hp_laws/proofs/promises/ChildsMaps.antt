@@ -1,16 +1,14 @@
 -- A fork that is answered gives the child the maps of its parent, on every slot.
 use Rattle.std.proofs.Common.{◌≡◌, ⊎_elim, subst, map, option_map, ℕ, zero, suc, ◌+◌, ◌<◌, ◌≤◌, Bool, true, false, ◌&&◌, ◌||◌, ◌==◌, not}
 use Rattle.std.proofs.Common.{Option, None, Some, is_some, Ok, Err, List, [], ◌∷◌, ◌++◌, length, refl, sym, ap, ◌∙◌, arith, if◌then◌else◌}
-use Rattle.std.specs.List.{filter, list_any, range_with_len, slice_index_or, slice_set}
+use Rattle.std.specs.List.{filter, list_any, range_with_len, slice_set}
 use Rattle.std.proofs.lemmas.Bool.{and_parts, cases_eq, cases_lt, eq-eqb, eqb-true, false_from_ne_true, ltb-true}
 use Rattle.std.proofs.lemmas.List.{get_or-set_other, get_or-set_same, get_or_past}
 use Rattle.hp_model.specs.declared.answer.Answer.{Answer}
 use Rattle.hp_model.specs.declared.answer.Answer.TheVariants.{Done}
 use Rattle.hp_model.specs.declared.event.Event.{Event}
-use Rattle.hp_model.specs.declared.event.Event.TheVariants.{Tasks, Slot as OnSlot, Pool as OnPool}
-use Rattle.hp_model.specs.declared.event.PoolEvent.TheVariants as pool
+use Rattle.hp_model.specs.declared.event.Event.TheVariants.{Slot as OnSlot}
 use Rattle.hp_model.specs.declared.event.SlotEvent.TheVariants as slot
-use Rattle.hp_model.specs.declared.event.TableEvent.TheVariants as table
 use Rattle.hp_model.specs.declared.refusal.Refusal.{Refusal}
 use Rattle.hp_model.specs.declared.refusal.Refusal.TheVariants.{TaskExists, TooMany}
 use Rattle.hp_model.specs.declared.step.Step.{Step}
@@ -72,15 +70,6 @@ finds_past t (x ∷ xs) ys y off it = by_test (t x) refl (λ rest. finds_past t 
 -- ---- the child's maps in a file
 
 module _ (parent child number : ℕ) where
-  abbrev mine : Map → Bool
-  mine y = is_map parent number y
-
-  abbrev its : Map → Bool
-  its y = is_map child number y
-
-  abbrev copy : File → File
-  copy f = file_forked parent child f
-
   own : (x : Map) → is_of parent x ≡ true → is_map child number (map_for child x) ≡ is_map parent number x
   own x of = ap (λ b. b && (x.number == number)) (eq-eqb child child refl ∙ sym of)
 
@@ -105,9 +94,7 @@ module _ (parent child number : ℕ) where
       by_test false is rest = rw (is, is) rest
 
   any_file : (f : File) → list_any (is_map child number) (file_forked parent child f).maps ≡ list_any (is_map parent number) f.maps
-  any_file f =
-      any_append (is_map child number) (filter (is_not_of child) f.maps) (map (map_for child) (filter (is_of parent) f.maps))
-      ∙ ap (λ b. b || list_any (is_map child number) (map (map_for child) (filter (is_of parent) f.maps))) (none_old f.maps) ∙ any_child f.maps
+  any_file f = grind (arith, any_append, is_not_of, none_old, any_child)
 
   finds_child : (ms : List Map) (q : ℕ × Map) → found (is_map parent number) ms ≡ Some q → Finds (is_map child number) (map (map_for child) (filter (is_of parent) ms)) (map_for child q.1)
   finds_child [] q e = cc
@@ -226,28 +213,10 @@ module _ (parent child : ℕ) (a : Answer) (t : State) where
       where
         by_outcome : (o : Outcome) → BecomesBy child (forked parent child) (slot_at u k) o → reply_of o ≡ Ok x → mid.slots ≡ slice_set u.slots k (left_by (slot_at u k) o) → ForkedTo s (k + 1) mid
         by_outcome (Refused e) h replied slots = cc
-        by_outcome (Answered y new) h replied slots =
-            let within = ltb-true k (length u.slots) is.1.0 in
-            let here : slot_at mid k ≡ becomes parent child (slot_at s k) =
-            ap (λ (xs : List Slot). slice_index_or xs k None) slots ∙ get_or-set_same u.slots k new None within ∙ h ∙ sym (becomes_slot (slot_at u k) some)
-            ∙ ap (becomes parent child) (far.todo k (omega arith)) in
-            let there : (o : ℕ) → (o ≡ k → ⊥) → slot_at mid o ≡ slot_at u o = λ o other. ap (λ (xs : List Slot). slice_index_or xs o None) slots ∙ get_or-set_other u.slots k o new None other in
-            record {
-              done = λ o l. ⊎_elim (λ same. subst (λ i. slot_at mid i ≡ becomes parent child (slot_at s i)) (sym same) here)
-                  (λ other. there o other ∙ far.done o (below o l other)) (cases_eq o k);
-              todo = λ o l. there o (λ same. absurd (omega (arith, l, same))) ∙ far.todo o (omega (arith, l));
-            }
-          where
-            below : (o : ℕ) → o < k + 1 → (o ≡ k → ⊥) → o < k
-            below o l other = ⊎_elim (λ low. low) (λ high. absurd (other (omega (arith, l, high)))) (cases_lt o k)
+        by_outcome (Answered y new) h replied slots = grind (arith, ltb-true, get_or-set_same, becomes_slot, get_or-set_other, cases_eq, cases_lt)
 
     skipped : (k : ℕ) (u : State) → ForkedTo s k u → has_maps_of parent (slot_at u k) ≡ false → ForkedTo s (k + 1) u
-    skipped k u far none = record {
-      done = λ o l. ⊎_elim (λ same. subst (λ i. slot_at u i ≡ becomes parent child (slot_at s i)) (sym same)
-          (sym (ap (λ b. if b then option_map (forked parent child) (slot_at u k) else slot_at u k) none) ∙ ap (becomes parent child) (far.todo k (omega arith))))
-          (λ other. far.done o (⊎_elim (λ low. low) (λ high. absurd (other (omega (arith, l, high)))) (cases_lt o k))) (cases_eq o k);
-      todo = λ o l. far.todo o (omega (arith, l));
-    }
+    skipped k u far none = grind (arith, cases_lt, cases_eq)
 
     -- of an answered fork each event was answered
     walk : (n k : ℕ) (done : List ℕ) (u : State) → ForkedTo s k u → IsScript u (fork_slots (range_with_len k n) done parent child) (Ok a) t → ForkedTo s (k + n) t
@@ -324,17 +293,10 @@ module _ (s : State) (parent child : ℕ) where
       by_home (Some home) at q mid e go = by_tests home at (is_known s.table child) (is_crowded s.table) refl q mid e go
 
   event_forks : (e : Event) (reply : Reply) (t : State) → is_whole e ≡ true → IsEvent s e reply t → Forks s (step_of e) reply t
-  event_forks (OnSlot k (slot.ForkMaps parent child)) reply t whole is = cc
-  event_forks (OnSlot k (slot.ExitMaps task)) reply t whole is = tt
-  event_forks (OnSlot k other) reply t whole is = tt
-  event_forks (Tasks (table.FindAndAdd parent child)) reply t whole is = cc
-  event_forks (Tasks other) reply t whole is = tt
-  event_forks (OnPool pool.Meminfo) reply t whole is = tt
-  event_forks (OnPool other) reply t whole is = tt
+  event_forks e reply t whole is = grind arith
 
 early_forks : (s : State) (x : Step) (r : Refusal) → Forks s x (Err r) s
-early_forks s (step.Fork parent child) r = tt
-early_forks s other r = tt
+early_forks s x r = grind arith
 
 pub step_forks : (s : State) (reply : Reply) (t : State) (x : Step) → IsStep s x reply t → Forks s x reply t
 step_forks s reply t x is =

@@ -1,28 +1,25 @@
 -- What a truncate and a punch leave of a file: its length, and of what they cut no page and no copy.
-use Rattle.std.proofs.Common.{◌≡◌, ⊎_elim, subst, ℕ, ◌+◌, ◌-◌, ◌<◌, ◌≤◌, ◌&&◌, Bool, true, false, None, Option, Some, Ok}
-use Rattle.std.proofs.Common.{Err, List, [], ◌∷◌, length, map, take, replicate, refl, sym, ap, ◌∙◌, arith, if◌then◌else◌, nat_le, nat_lt}
-use Rattle.std.specs.List.{slice_index_or, slice_set}
+use Rattle.std.proofs.lemmas.Grind.{common_steps}
+use Rattle.std.proofs.Common.{◌≡◌, subst, ℕ, ◌<◌, ◌≤◌, Bool, true, false, None, Option, Some, Ok}
+use Rattle.std.proofs.Common.{Err, List, [], ◌∷◌, length, map, refl, sym, ap, ◌∙◌, arith, nat_le, nat_lt}
+use Rattle.std.specs.List.{slice_set}
 use Rattle.std.specs.Str.{bytes_eq}
-use Rattle.std.proofs.lemmas.Bool.{and_parts, cases_lt, cond_both, leb-true, ltb-false, ltb-true}
-use Rattle.std.proofs.lemmas.List.{get_or-set_same, get_or_past, length-append, length-replicate, length-take}
+use Rattle.std.proofs.lemmas.Bool.{and_parts, leb-true, ltb-false, ltb-true}
+use Rattle.std.proofs.lemmas.List.{get_or_past}
 use Rattle.hp_model.specs.declared.answer.Answer.{Answer}
 use Rattle.hp_model.specs.declared.answer.Answer.TheVariants.{Done}
 use Rattle.hp_model.specs.declared.cell.Cell.{Cell}
 use Rattle.hp_model.specs.declared.cell.Cell.TheVariants.{Hole}
 use Rattle.hp_model.specs.declared.event.Event.{Event}
-use Rattle.hp_model.specs.declared.event.Event.TheVariants.{Tasks, Slot as OnSlot, Pool as OnPool}
-use Rattle.hp_model.specs.declared.event.PoolEvent.TheVariants as pool
+use Rattle.hp_model.specs.declared.event.Event.TheVariants.{Slot as OnSlot}
 use Rattle.hp_model.specs.declared.event.SlotEvent.TheVariants as slot
-use Rattle.hp_model.specs.declared.event.TableEvent.TheVariants as table
 use Rattle.hp_model.specs.declared.place.Place.{Place}
-use Rattle.hp_model.specs.declared.place.Place.TheVariants.{Gone, Live}
 use Rattle.hp_model.specs.declared.refusal.Refusal.{Refusal}
 use Rattle.hp_model.specs.declared.refusal.Refusal.TheVariants.{NoSuchFile, OutOfRange}
 use Rattle.hp_model.specs.declared.step.Step.{Step}
 use Rattle.hp_model.specs.declared.step.Step.TheVariants as step
 use Rattle.hp_model.specs.files.File.{File, Mount, cell_at, cell_punched, cells_to, map_in, new_file, with_file}
 use Rattle.hp_model.specs.files.GiveBack.{is_kept, punched, truncated}
-use Rattle.hp_model.specs.Lists.{edit_range}
 use Rattle.hp_model.specs.files.Mapping.{Map, copy_of, map_punched, no_map, place_at, without_copy}
 use Rattle.hp_model.specs.files.Page.{Copy, Page}
 use Rattle.hp_model.specs.machine.Event.{IsEvent}
@@ -30,7 +27,7 @@ use Rattle.hp_model.specs.machine.Named.{is_in, named_on}
 use Rattle.hp_model.specs.machine.Pages.{Cuts, HasLeft, IsCutFile, cell_of, pages_of_file}
 use Rattle.hp_model.specs.machine.Plan.{Answered, Choice, Outcome, Refused, Reply, Slot, gives}
 use Rattle.hp_model.specs.machine.Settled.{IsSettledState}
-use Rattle.hp_model.specs.machine.SlotEvent.{edited, file_named, has_name, is_bad_range, punch, slot_event, truncate}
+use Rattle.hp_model.specs.machine.SlotEvent.{edited, file_named, has_name, slot_event, truncate}
 use Rattle.hp_model.specs.machine.Sound.{IsSound, IsSoundFile, IsSoundMap}
 use Rattle.hp_model.specs.machine.State.{State, slot_at}
 use Rattle.hp_model.specs.machine.Step.{IsStep}
@@ -40,7 +37,6 @@ use Rattle.hp_laws.specs.Balance.{Always, left_by}
 use Rattle.hp_laws.proofs.accesses.SlotShows.{always_gives, always_unless, always_value}
 use Rattle.hp_laws.proofs.counts.MountMoves.{file_at}
 use Rattle.hp_laws.proofs.ending.Cuts.{place_ranged, ranged_in}
-use Rattle.hp_laws.proofs.lists.Looks.{get_map}
 use Rattle.hp_laws.proofs.lists.Places.{found_place}
 use Rattle.hp_laws.proofs.making.NewNumbers.{found_again}
 use Rattle.hp_laws.proofs.names.Follows.{found_filter, is_open}
@@ -51,69 +47,30 @@ use Rattle.hp_laws.proofs.steps.Whole.{by_event, is_whole, step_of}
 -- ---- one file
 
 without_none : (p : Place Copy) → copy_of (without_copy p) ≡ None
-without_none Gone = refl
-without_none (Live consumed copy) = refl
+without_none p = grind arith
 
 -- a range of a map's copies is gone
 map_cut : (a b : ℕ) (y : Map) (x : ℕ) → is_in a b x ≡ true → copy_of (place_at (map_punched a b y) x) ≡ None
-map_cut a b y x within =
-    ap copy_of (place_ranged without_copy refl a b y x)
-    ∙ ap (λ c. copy_of (if c then without_copy (place_at y x) else place_at y x)) within ∙ without_none (place_at y x)
+map_cut a b y x within = grind (arith, place_ranged, without_none)
 
 module _ (f : File) where
   -- no map changes where there is none
   no_map_punched : (a b l : ℕ) → map_in (record f { maps = map (map_punched a b) f.maps }) l ≡ map_punched a b (map_in f l)
-  no_map_punched a b l =
-      let none = nothing (edit_range without_copy (a - 0) (b - 0) []) (length-edit_range without_copy (a - 0) (b - 0) []) in
-      get_map (map_punched a b) no_map (ap (λ (ps : List (Place Copy)). record no_map { places = ps }) none) f.maps l
-    where
-      nothing : (ps : List (Place Copy)) → length ps ≡ 0 → ps ≡ []
-      nothing [] e = refl
-      nothing (p ∷ ps) e = absurd (omega (arith, e))
+  no_map_punched a b l = grind (arith, common_steps)
 
   punch_left : (a b : ℕ) → HasLeft (punched a b f) (length f.cells) (is_in a b) (λ i. cell_punched (cell_at f i))
-  punch_left a b = record {
-    pages = length-edit_range cell_punched a b f.cells;
-    cells = λ i within. (let parts = and_parts (nat_le a i) (nat_lt i b) within in
-        ranged_in cell_punched a b f.cells i Hole refl (leb-true a i parts.0) (ltb-true i b parts.1));
-    copies = λ l i within. ap (λ (y : Map). copy_of (place_at y i)) (no_map_punched a b l) ∙ map_cut a b (map_in f l) i within;
-  }
+  punch_left a b = grind (arith, length-edit_range, and_parts, ranged_in, leb-true, ltb-true, no_map_punched, map_cut)
 
   long : (n : ℕ) → length (cells_to n f.cells) ≡ n
-  long n =
-      let most = length-take n f.cells in
-      let rest = length-replicate {A = Cell Page} (n - length f.cells) Hole in
-      length-append (take n f.cells) (replicate (n - length f.cells) Hole) ∙ omega (arith, most, rest)
+  long n = grind (arith, common_steps)
 
   module _ (sound : (l : ℕ) → l < length f.maps → IsSoundMap (length f.cells) (map_in f l)) (n : ℕ) where
     -- no copy lies past the file's end
     far : (l i : ℕ) → length f.cells ≤ i → copy_of (place_at (map_in f l) i) ≡ None
-    far l i past =
-        ⊎_elim (λ low. by_copy (copy_of (place_at (map_in f l) i)) refl (sound l low))
-        (λ high. ap (λ (y : Map). copy_of (place_at y i)) (get_or_past f.maps l no_map high) ∙ nothing) (cases_lt l (length f.maps))
-      where
-        nothing : copy_of (place_at no_map i) ≡ None
-        nothing = cond_both (nat_lt i 0) Gone Gone (λ (p : Place Copy). copy_of p ≡ None) (λ e. refl) (λ e. refl)
-
-        by_copy : (o : Option Copy) → copy_of (place_at (map_in f l) i) ≡ o → IsSoundMap (length f.cells) (map_in f l) → copy_of (place_at (map_in f l) i) ≡ None
-        by_copy None is all = is
-        by_copy (Some copy) is all = (let below = (all i copy is).below in absurd (omega (arith, below, past)))
+    far l i past = grind (arith, common_steps)
 
     truncate_left : HasLeft (truncated n f) n (nat_le n) (λ i. Hole)
-    truncate_left = record {
-      pages = long n;
-      cells = λ i past. (let from = leb-true n i past in let all = long n in get_or_past (cells_to n f.cells) i Hole (omega (arith, from, all)));
-      copies = λ l i past. ap (λ (y : Map). copy_of (place_at y i)) (no_map_punched n (n + length f.cells) l) ∙ by_end l i past (nat_lt i (n + length f.cells)) refl;
-    }
-      where
-        by_end : (l i : ℕ) → nat_le n i ≡ true → (b : Bool) → nat_lt i (n + length f.cells) ≡ b → copy_of (place_at (map_punched n (n + length f.cells) (map_in f l)) i) ≡ None
-        by_end l i past true below = map_cut n (n + length f.cells) (map_in f l) i (rw (past, below) refl)
-        by_end l i past false above =
-            let high = ltb-false i (n + length f.cells) above in
-            ap copy_of (place_ranged without_copy refl n (n + length f.cells) (map_in f l) i)
-            ∙ ap (λ c. copy_of (if nat_le n i && c then without_copy (place_at (map_in f l) i) else place_at (map_in f l) i)) above
-            ∙ ap (λ c. copy_of (if c && false then without_copy (place_at (map_in f l) i) else place_at (map_in f l) i)) past
-            ∙ far l i (omega (arith, high))
+    truncate_left = grind (arith, long, leb-true, get_or_past, no_map_punched, map_cut, ltb-false, place_ranged, far)
 
 -- ---- its mount
 
@@ -150,29 +107,19 @@ module _ (size k : ℕ) (c : Choice) where
   punch_cuts : (old : Slot) (name : List ℕ) (a b : ℕ)
       → Always (CutTo name (pages_of_file (named_on old name)) (is_in a b) (λ i. cell_punched (cell_of (named_on old name) i))) (slot_event size k c old (slot.Punch name a b))
   punch_cuts None name a b = tt
-  punch_cuts (Some m) name a b =
-      let P = CutTo name (pages_of_file (file_named m name)) (is_in a b) (λ i. cell_punched (cell_of (file_named m name) i)) in
-      always_value P (λ r. tt) (file_named m name) NoSuchFile (punch m a b)
-      (λ q named. always_unless P (λ r. tt) ((is_bad_range a b, OutOfRange) ∷ []) (gives Done (Some m) (edited m q.0 (punched a b q.1)))
-      (always_gives P Done (Some m) (edited m q.0 (punched a b q.1))
-      (subst (λ o. IsCutFile (named_on (edited m q.0 (punched a b q.1)) name) (pages_of_file o) (is_in a b) (λ i. cell_punched (cell_of o i))) (sym named)
-      (edited_cut m name q named (punched a b q.1) (length q.1.cells) (is_in a b) (λ i. cell_punched (cell_at q.1 i)) refl (punch_left q.1 a b)))))
+  punch_cuts (Some m) name a b = grind (arith, always_value, always_unless, always_gives, edited_cut, punch_left)
 
 -- ---- steps
 
 module _ (s : State) (st : IsSettledState s) where
   uncut : (x : Step) (r : Refusal) (t : State) → Cuts s x (Err r) t
-  uncut (step.Truncate k name n) r t = tt
-  uncut (step.Punch k name a b) r t = tt
-  uncut other r t = tt
+  uncut x r t = grind arith
 
   module _ (t : State) (k : ℕ) (l : k < length s.slots) (name : List ℕ) (many : ℕ) (cut : ℕ → Bool) (cell : ℕ → Cell Page) where
     -- what the outcome says of the slot that it leaves
     is_cut : (x : Step) → ((r : Refusal) → Cuts s x (Err r) t) → ((a : Answer) → IsCutFile (named_on (slot_at t k) name) many cut cell → Cuts s x (Ok a) t)
         → (o : Outcome) → CutTo name many cut cell o → t.slots ≡ slice_set s.slots k (left_by (slot_at s k) o) → Cuts s x (reply_of o) t
-    is_cut x refused answered (Refused r) h slots = refused r
-    is_cut x refused answered (Answered a new) h slots =
-        answered a (subst (λ y. IsCutFile (named_on y name) many cut cell) (sym (ap (λ (xs : List Slot). slice_index_or xs k None) slots ∙ get_or-set_same s.slots k new None l)) h)
+    is_cut x refused answered o h slots = grind (arith, common_steps)
 
   event_cuts : (e : Event) (reply : Reply) (t : State) → is_whole e ≡ true → IsEvent s e reply t → Cuts s (step_of e) reply t
   event_cuts (OnSlot k (slot.Truncate name n)) reply t whole is =
@@ -187,13 +134,7 @@ module _ (s : State) (st : IsSettledState s) where
       (λ c. punch_cuts s.page_size k c (slot_at s k) name a b) is in
       subst (λ r. Cuts s (step.Punch k name a b) r t) (sym ends.replied)
       (is_cut t k l name (pages_of_file was) (is_in a b) (λ i. cell_punched (cell_of was i)) (step.Punch k name a b) (λ r. tt) (λ x h. h) ends.outcome ends.holds ends.slots)
-  event_cuts (OnSlot k (slot.ForkMaps parent child)) reply t whole is = cc
-  event_cuts (OnSlot k (slot.ExitMaps task)) reply t whole is = cc
-  event_cuts (OnSlot k other) reply t whole is = tt
-  event_cuts (Tasks (table.Add task home)) reply t whole is = tt
-  event_cuts (Tasks other) reply t whole is = tt
-  event_cuts (OnPool pool.Meminfo) reply t whole is = tt
-  event_cuts (OnPool other) reply t whole is = tt
+  event_cuts e reply t whole is = grind arith
 
   pub step_cuts : (reply : Reply) (t : State) (x : Step) → IsStep s x reply t → Cuts s x reply t
   step_cuts reply t x is = by_event s (λ x reply t. Cuts s x reply t) (λ x r early. uncut x r s) event_cuts (λ parent child reply t it. tt) (λ task reply t it. tt) reply t x is

@@ -1,23 +1,23 @@
 -- An access that is answered leaves its page there; and an owner takes a copy back only where no page could be had.
-use Rattle.std.proofs.Common.{◌≡◌, ◌⊎◌, ⊎_elim, inl, inr, subst, ℕ, ◌+◌, ◌-◌, ◌<◌, ◌&&◌, ◌||◌, ◌==◌, Bool, true, false}
-use Rattle.std.proofs.Common.{not, None, Option, Some, Ok, Err, List, length, map, is_some, refl, sym, ap, ◌∙◌, if◌then◌else◌, nat_lt}
+use Rattle.std.proofs.Common.{arith}
+use Rattle.std.proofs.lemmas.Grind.{common_steps}
+use Rattle.std.proofs.Common.{◌≡◌, ◌⊎◌, ⊎_elim, inl, inr, subst, ℕ, ◌-◌, ◌<◌, ◌&&◌, ◌||◌, Bool, true, false}
+use Rattle.std.proofs.Common.{not, None, Option, Some, Ok, Err, List, length, is_some, refl, sym, ap, ◌∙◌, if◌then◌else◌, nat_lt}
 use Rattle.std.specs.List.{slice_index_or, slice_set}
-use Rattle.std.proofs.lemmas.Bool.{cases_eq, cond_both, leb-false, ltb-true, or_left, or_right}
+use Rattle.std.proofs.lemmas.Bool.{cases_eq, cond_both, leb-false, ltb-true, or_right}
 use Rattle.std.proofs.lemmas.List.{get_or-set_other, get_or-set_same, length-map}
 use Rattle.hp_model.specs.declared.answer.Answer.{Answer}
 use Rattle.hp_model.specs.declared.answer.Answer.TheVariants.{Done}
 use Rattle.hp_model.specs.declared.cell.Cell.{Cell}
 use Rattle.hp_model.specs.declared.cell.Cell.TheVariants.{Entered, Hole, Present}
 use Rattle.hp_model.specs.declared.event.Event.{Event}
-use Rattle.hp_model.specs.declared.event.Event.TheVariants.{Tasks, Slot as OnSlot, Pool as OnPool}
-use Rattle.hp_model.specs.declared.event.PoolEvent.TheVariants as pool
+use Rattle.hp_model.specs.declared.event.Event.TheVariants.{Slot as OnSlot}
 use Rattle.hp_model.specs.declared.event.SlotEvent.{SlotEvent}
 use Rattle.hp_model.specs.declared.event.SlotEvent.TheVariants as slot
-use Rattle.hp_model.specs.declared.event.TableEvent.TheVariants as table
 use Rattle.hp_model.specs.declared.place.Place.{Place}
 use Rattle.hp_model.specs.declared.place.Place.TheVariants.{Gone, Live}
 use Rattle.hp_model.specs.declared.refusal.Refusal.{Refusal}
-use Rattle.hp_model.specs.declared.refusal.Refusal.TheVariants.{BeyondEnd, CrossesPage, NoSuchMap, OutOfRange, TakenByOwner, TooMany}
+use Rattle.hp_model.specs.declared.refusal.Refusal.TheVariants.{NoSuchMap, TakenByOwner}
 use Rattle.hp_model.specs.declared.section.PoolAnswer.{PoolAnswer}
 use Rattle.hp_model.specs.declared.section.Section.TheVariants.{GrantPage}
 use Rattle.hp_model.specs.declared.step.Intent.{Intent}
@@ -25,35 +25,34 @@ use Rattle.hp_model.specs.declared.step.Intent.TheVariants.{Read, Write}
 use Rattle.hp_model.specs.declared.step.Step.{Step}
 use Rattle.hp_model.specs.declared.step.Step.TheVariants as step
 use Rattle.hp_model.specs.files.Access.{access, new_copy, private_access, shared_access, uncopied_access}
-use Rattle.hp_model.specs.files.CopyWrite.{copy_write, is_held_once, owner_write, robbed, taken_back}
+use Rattle.hp_model.specs.files.CopyWrite.{copy_write, is_held_once, owner_write, taken_back}
 use Rattle.hp_model.specs.files.File.{File, Mount, cell_at, file_in, has_page, map_in, new_file, with_cell, with_file, with_map}
 use Rattle.hp_model.specs.files.Mapping.{Map, copy_of, is_map, is_shared, no_map, place_at, with_place}
 use Rattle.hp_model.specs.files.Page.{Copy, Page, zeros}
-use Rattle.hp_model.specs.files.Spot.{Spot, again, cell_written, copied, file_written, map_written, place_written, spot, written}
+use Rattle.hp_model.specs.files.Spot.{Spot, cell_written, copied, file_written, map_written, place_written, spot, written}
 use Rattle.hp_model.specs.files.Value.{value}
 use Rattle.hp_model.specs.Lists.{edit_at}
 use Rattle.hp_model.specs.machine.Event.{IsEvent, planned}
 use Rattle.hp_model.specs.machine.Lost.{IsLostTo, is_same_copy}
-use Rattle.hp_model.specs.machine.Machine.{pool_of, with_pool}
-use Rattle.hp_model.specs.machine.Named.{map_named, spot_on}
+use Rattle.hp_model.specs.machine.Machine.{pool_of}
+use Rattle.hp_model.specs.machine.Named.{map_named}
 use Rattle.hp_model.specs.machine.Pages.{IsTouched, Touches, can_have_page, has_its_page}
-use Rattle.hp_model.specs.machine.Plan.{Answered, Ask, Choice, Finish, Outcome, Plan, Refused, Reply, Slot, grant_page, refuse, reserved_page, with_value}
+use Rattle.hp_model.specs.machine.Plan.{Answered, Ask, Choice, Finish, Outcome, Plan, Refused, Reply, Slot, grant_page, reserved_page, with_value}
 use Rattle.hp_model.specs.machine.Promises.{LosesTo}
-use Rattle.hp_model.specs.machine.SlotEvent.{byte_access, bytes_answer, fault, is_beyond, is_unmapped, load, slot_event, store}
+use Rattle.hp_model.specs.machine.SlotEvent.{byte_access, fault, load, slot_event, store}
 use Rattle.hp_model.specs.machine.State.{State, slot_at}
 use Rattle.hp_model.specs.machine.Step.{IsStep}
 use Rattle.hp_model.specs.pool.Grant.{can_grant, is_full, rise}
 use Rattle.hp_model.specs.pool.Pool.{section}
-use Rattle.hp_model.specs.Profile.{most_bytes}
 use Rattle.hp_laws.specs.Balance.{left_by}
-use Rattle.hp_laws.proofs.accesses.Shown.{On, copy_own, kept_own, on_follows, on_grant_page, on_reserved_page, place_other, place_put, robbed_mount}
+use Rattle.hp_laws.proofs.accesses.Shown.{On, copy_own, on_follows, on_grant_page, on_reserved_page, place_other, place_put, robbed_mount}
 use Rattle.hp_laws.proofs.counts.MountMoves.{IsSpot, spot_is}
 use Rattle.hp_laws.proofs.lists.Looks.{same_edit}
 use Rattle.hp_laws.proofs.names.Keys.{Where, keys, places}
 use Rattle.hp_laws.proofs.names.Meanings.{fault_on, load_on, placed_same, store_on}
 use Rattle.hp_laws.proofs.names.Named.{map_shown}
 use Rattle.hp_laws.proofs.promises.Shortage.{At, at_any, at_if, at_test, at_then, page_granted}
-use Rattle.hp_laws.proofs.steps.Outcomes.{Always, Ends, always_if, ends_so, reply_of}
+use Rattle.hp_laws.proofs.steps.Outcomes.{Always, Ends, always_if, reply_of}
 use Rattle.hp_laws.proofs.steps.Whole.{by_event, is_whole, slot_step, step_of}
 
 -- ---- copies and pages by place
@@ -69,14 +68,10 @@ has_page_at n j x = has_page (cell_at (file_in n j) x)
 
 -- a store leaves them
 place_same : (offset : ℕ) (bytes : List ℕ) (p : Place Copy) → is_some (copy_of (place_written offset bytes p)) ≡ is_some (copy_of p)
-place_same offset bytes Gone = refl
-place_same offset bytes (Live consumed None) = refl
-place_same offset bytes (Live consumed (Some copy)) = refl
+place_same offset bytes p = grind arith
 
 cell_same : (offset : ℕ) (bytes : List ℕ) (c : Cell Page) → has_page (cell_written offset bytes c) ≡ has_page c
-cell_same offset bytes Hole = refl
-cell_same offset bytes Entered = refl
-cell_same offset bytes (Present page) = refl
+cell_same offset bytes c = grind arith
 
 module _ (s : Spot) (i offset : ℕ) (bytes : List ℕ) where
   map_same : (y : Map) (x : ℕ) → is_some (copy_of (place_at (map_written i offset bytes y) x)) ≡ is_some (copy_of (place_at y x))
@@ -121,23 +116,16 @@ module _ (u : State) (size : ℕ) (m : Mount) (s : Spot) (at : IsSpot m s) (i : 
 
   -- another file in its place, in which no map lost a copy
   put_holds : (g : File) → ((l x : ℕ) → file_copy s.file l x ≡ true → file_copy g l x ≡ true) → Holds (with_file m s.file_no g)
-  put_holds g keeps = inl (λ j l x has. ⊎_elim
-      (λ same. subst (λ k. has_copy (with_file m s.file_no g) k l x ≡ true) (sym same)
-      (ap (λ f. file_copy f l x) (get_or-set_same m.files s.file_no g (new_file None) at.file.within)
-      ∙ keeps l x (sym (ap (λ f. file_copy f l x) (at.file.is (new_file None))) ∙ subst (λ k. has_copy m k l x ≡ true) same has)))
-      (λ other. ap (λ f. file_copy f l x) (get_or-set_other m.files s.file_no j g (new_file None) other) ∙ has)
-      (cases_eq j s.file_no))
+  put_holds g keeps = grind (arith, common_steps)
 
   stays : Holds m
   stays = inl (λ j l x has. has)
 
   page_there : (intent : Intent) (n : Mount) → is_shared s.map.sharing ≡ true → has_page_at n s.file_no i ≡ true → There intent n
-  page_there Read n shared has = or_right (has_copy n s.file_no s.map_no i) (has_page_at n s.file_no i) has
-  page_there Write n shared has = ap (λ b. if b then has_page_at n s.file_no i else has_copy n s.file_no s.map_no i) shared ∙ has
+  page_there intent n shared has = grind arith
 
   copy_there : (intent : Intent) (n : Mount) → is_shared s.map.sharing ≡ false → has_copy n s.file_no s.map_no i ≡ true → There intent n
-  copy_there Read n apart has = or_left (has_copy n s.file_no s.map_no i) (has_page_at n s.file_no i) has
-  copy_there Write n apart has = ap (λ b. if b then has_page_at n s.file_no i else has_copy n s.file_no s.map_no i) apart ∙ has
+  copy_there intent n apart has = grind arith
 
   page_here : has_page (cell_at s.file i) ≡ true → has_page_at m s.file_no i ≡ true
   page_here has = ap (λ f. has_page (cell_at f i)) (at.file.is (new_file None)) ∙ has
@@ -145,13 +133,7 @@ module _ (u : State) (size : ℕ) (m : Mount) (s : Spot) (at : IsSpot m s) (i : 
   module _ (c : Choice) (home : ℕ) where
     module _ (shared : is_shared s.map.sharing ≡ true) (intent : Intent) (low : i < length s.file.cells) where
       fill_left : (node : ℕ) → Left intent (with_file m s.file_no (with_cell s.file i (Present (record { node = node; bytes = zeros size }))))
-      fill_left node =
-          let page : Page = record { node = node; bytes = zeros size } in
-          let g : File = with_cell s.file i (Present page) in (
-            put_holds g (λ l x has. has),
-            page_there intent (with_file m s.file_no g) shared
-                (ap (λ f. has_page (cell_at f i)) (get_or-set_same m.files s.file_no g (new_file None) at.file.within) ∙ ap has_page (get_or-set_same s.file.cells i (Present page) Hole low)),
-          )
+      fill_left node = grind (arith, common_steps)
 
       shared_left : (cell : Cell Page) → cell_at s.file i ≡ cell → Always (On (Left intent)) (shared_access c size m s home i cell)
       shared_left (Present page) is = (stays, page_there intent m shared (page_here (ap has_page is)))
@@ -183,8 +165,7 @@ module _ (u : State) (size : ℕ) (m : Mount) (s : Spot) (at : IsSpot m s) (i : 
               (cases_eq x i)
 
       has_left : (intent : Intent) (consumed : Bool) (copy : Copy) → place_at s.map i ≡ Live consumed (Some copy) → Left intent m
-      has_left intent consumed copy is =
-          (stays, copy_there intent m apart (ap (λ (p : Place Copy). is_some (copy_of p)) (kept_own size m s at i consumed copy is).is))
+      has_left intent consumed copy is = grind arith
 
       new_left : (intent : Intent) (consumed : Bool) → place_at s.map i ≡ Live consumed None → Always (On (Left intent)) (new_copy c size m s home i consumed)
       new_left intent consumed is =
@@ -195,15 +176,7 @@ module _ (u : State) (size : ℕ) (m : Mount) (s : Spot) (at : IsSpot m s) (i : 
 
       -- the owner keeps its copy, and no page could be had
       back_left : (consumed : Bool) (copy : Copy) → place_at s.map i ≡ Live consumed (Some copy) → can_have_page (pool_of u) (Some m) ≡ false → Left Write (robbed_mount size m s at i copy.stamp)
-      back_left consumed copy is none =
-          let f : File = record s.file { maps = map (robbed copy.stamp) s.file.maps } in
-          let long : s.map_no < length (map (robbed copy.stamp) s.file.maps) =
-          subst (λ n. s.map_no < n) (sym (length-map s.file.maps (robbed copy.stamp))) at.map.within in (
-            inr none,
-            copy_there Write (robbed_mount size m s at i copy.stamp) apart
-                (ap (λ g. file_copy g s.map_no i) (get_or-set_same m.files s.file_no (with_map f s.map_no s.map) (new_file None) at.file.within)
-                ∙ ap (λ z. is_some (copy_of (place_at z i))) (get_or-set_same f.maps s.map_no s.map no_map long) ∙ ap (λ (p : Place Copy). is_some (copy_of p)) is),
-          )
+      back_left consumed copy is none = grind (arith, length-map, copy_there, robbed_mount, get_or-set_same)
 
       -- a copy of its own, or the others lose theirs
       abbrev own_or_back : (consumed : Bool) → Copy → PoolAnswer → Bool → Outcome
@@ -256,22 +229,13 @@ module _ (u : State) (size : ℕ) (m : Mount) (s : Spot) (at : IsSpot m s) (i : 
         (λ apart. private_left apart (place_at s.map i) intent refl)
 
     fault_left : (intent : Intent) → At u (On (Left intent)) (fault c size m home i intent s)
-    fault_left intent =
-        at_test u (On (Left intent)) (is_unmapped s i) OutOfRange _ tt
-        (at_if u (On (Left intent)) (is_beyond s i) (refuse BeyondEnd) (access c size m s home i intent) (λ e. tt) (λ e. access_left intent (leb-false (length s.file.cells) i e)))
+    fault_left intent = grind (arith, at_test, On, at_if, access_left, leb-false)
 
     bytes_left : (offset count : ℕ) (intent : Intent) → At u (On (Left intent)) (byte_access c size m home i offset count intent s)
-    bytes_left offset count intent =
-        at_test u (On (Left intent)) (is_unmapped s i || (count == 0)) OutOfRange _ tt
-        (at_test u (On (Left intent)) (nat_lt size (offset + count)) CrossesPage _ tt
-        (at_test u (On (Left intent)) (nat_lt most_bytes count) TooMany _ tt
-        (at_if u (On (Left intent)) (is_beyond s i) (refuse BeyondEnd) (access c size m s home i intent) (λ e. tt) (λ e. access_left intent (leb-false (length s.file.cells) i e)))))
+    bytes_left offset count intent = grind (arith, at_test, On, at_if, access_left, leb-false)
 
     load_left : (offset count : ℕ) → At u (On (Left Read)) (load c size m home i offset count s)
-    load_left offset count =
-        at_then u (On (Left Read)) (λ n. Answered (bytes_answer offset count (value size (again n s).file (again n s).map i)) (Some n))
-        (on_follows (Left Read) (Left Read) (λ n. Answered (bytes_answer offset count (value size (again n s).file (again n s).map i)) (Some n)) (λ n h. h))
-        (byte_access c size m home i offset count Read s) (bytes_left offset count Read)
+    load_left offset count = grind (arith, at_then, On, on_follows, bytes_left)
 
     store_left : (offset : ℕ) (bytes : List ℕ) → At u (On (Left Write)) (store c size m home i offset bytes s)
     store_left offset bytes =
@@ -290,15 +254,10 @@ module _ (u : State) (size : ℕ) (m : Mount) (s : Spot) (at : IsSpot m s) (i : 
 
 module _ (u : State) where
   at_both : (P Q R : Outcome → Type 0) → ((o : Outcome) → P o → Q o → R o) → (p : Plan) → At u P p → At u Q p → At u R p
-  at_both P Q R h (Finish o) a b = h o a b
-  at_both P Q R h (Ask sec f) a b = h (f (section (pool_of u) (sec u.nr)).0) a b
+  at_both P Q R h p a b = grind arith
 
   at_ends : (P : Outcome → Type 0) (k : ℕ) (p : Plan) → At u P p → Ends P u k (planned u k p).0 (planned u k p).1
-  at_ends P k (Finish o) h = ends_so P u k o h
-  at_ends P k (Ask sec f) h =
-      let q = section (pool_of u) (sec u.nr) in
-      let e = ends_so P (with_pool u q.1) k (f q.0) h in
-      record { outcome = e.outcome; holds = e.holds; replied = e.replied; size = e.size; slots = e.slots }
+  at_ends P k p h = grind (arith, common_steps)
 
   event_ends_at : (P : Outcome → Type 0) (k : ℕ) (e : SlotEvent) (reply : Reply) (t : State) → ((c : Choice) → At u P (slot_event u.page_size k c (slot_at u k) e)) → IsEvent u (OnSlot k e) reply t
       → Ends P u k reply t
@@ -323,9 +282,7 @@ module _ (u : State) where
         (each : (s : Spot) (found : spot m (is_map task number) ≡ Some s) → At u (On (Left u size m s (spot_is m (is_map task number) s found) i intent)) (f s)) where
       joined : (s : Spot) (found : spot m (is_map task number) ≡ Some s) (o : Outcome) → On (Left u size m s (spot_is m (is_map task number) s found) i intent) o → On (λ n. keys n ≡ keys m) o
           → Ended (Some m) o
-      joined s found (Refused r) left same = tt
-      joined s found (Answered a None) left same = absurd same
-      joined s found (Answered a (Some n)) left same = record { by = s; found = found; same = same; left = left }
+      joined s found o left same = grind arith
 
       ended : At u (Ended (Some m)) (with_value (spot m (is_map task number)) NoSuchMap f)
       ended = by_spot (spot m (is_map task number)) refl all
@@ -365,22 +322,11 @@ module _ (u : State) where
 -- ---- what is told of names and numbers
 
 same_copy : (own p : Place Copy) → is_same_copy own p ≡ true → is_some (copy_of p) ≡ true
-same_copy own p same = by_copies (copy_of own) (copy_of p) same
-  where
-    by_copies : (a b : Option Copy) → (elim a [ None ↦ false | Some copy ↦ elim b [ None ↦ false | Some other ↦ other.stamp == copy.stamp ] ]) ≡ true → is_some b ≡ true
-    by_copies None b same = cc
-    by_copies (Some copy) None same = cc
-    by_copies (Some copy) (Some other) same = refl
+same_copy own p same = grind arith
 
 -- a map that is as it was has lost nothing
 nothing_lost : (o a : Option Spot) (i : ℕ) (p q : Spot) (j : ℕ) → Some q ≡ Some p → IsLostTo o a i p q j → ⊥
-nothing_lost None a i p q j same lost = absurd lost
-nothing_lost (Some o) None i p q j same lost = absurd lost
-nothing_lost (Some o) (Some a) i p q j same lost =
-    let is : q ≡ p = cc in
-    let held = same_copy (place_at o.map i) (place_at p.map j) lost.1.held in
-    let gone = ap is_some (ap (λ (y : Spot). copy_of (place_at y.map j)) (sym is) ∙ lost.1.lost) in
-    (let wrong : true ≡ false = sym held ∙ gone in cc)
+nothing_lost o a i p q j same lost = grind arith
 
 module _ (u : State) (size task number i : ℕ) (intent : Intent) (m n : Mount) (it : Through u size task number i intent m n) where
   -- a map is found where it was
@@ -417,8 +363,7 @@ module _ (u : State) (size task number i : ℕ) (intent : Intent) (m n : Mount) 
     where
       held : (o a : Option Spot) → IsLostTo o a i p q j → (is_some (copy_of (place_at p.map j)) ≡ true) × (copy_of (place_at q.map j) ≡ None)
       held None a lost = absurd lost
-      held (Some o) None lost = absurd lost
-      held (Some o) (Some a) lost = (same_copy (place_at o.map i) (place_at p.map j) lost.1.held, lost.1.lost)
+      held (Some o) a lost = grind (arith, same_copy)
 
       kept : ((j l x : ℕ) → has_copy m j l x ≡ true → has_copy n j l x ≡ true) → ⊥
       kept keeps =
@@ -451,62 +396,35 @@ module _ (s : State) where
       -- of the slot, as it was and as it is
       is_touched : (o : Outcome) → Ended s s.page_size task number i intent (slot_at s k) o → t.slots ≡ slice_set s.slots k (left_by (slot_at s k) o)
           → (a : Answer) → reply_of o ≡ Ok a → IsTouched intent (map_named t k task number) i
-      is_touched (Refused r) it slots a answered = cc
-      is_touched (Answered b None) it slots a answered = absurd it
-      is_touched (Answered b (Some n)) it slots a answered = by_slot (slot_at s k) it
-        where
-          by_slot : (x : Slot) → Ended s s.page_size task number i intent x (Answered b (Some n)) → IsTouched intent (map_named t k task number) i
-          by_slot None it = absurd it
-          by_slot (Some m) it = subst (λ y. IsTouched intent (spot_on y task number) i) (sym (left_there (Some n) slots)) (touched s s.page_size task number i intent m n it)
+      is_touched (Answered b (Some n)) it slots a answered = grind (arith, left_there, touched)
+      is_touched o it slots a answered = grind arith
 
       is_taken : (o : Outcome) → Ended s s.page_size task number i intent (slot_at s k) o → t.slots ≡ slice_set s.slots k (left_by (slot_at s k) o)
           → (v w j : ℕ) (p q : Spot) → map_named s k v w ≡ Some p → map_named t k v w ≡ Some q → IsLostTo (map_named s k task number) (map_named t k task number) i p q j
           → can_have_page (pool_of s) (slot_at s k) ≡ false
-      is_taken (Refused r) it slots v w j p q was now lost =
-          let same : slot_at t k ≡ slot_at s k = left_there (slot_at s k) slots in
-          let there : Some q ≡ Some p = sym now ∙ ap (λ y. spot_on y v w) same ∙ was in
-          absurd (nothing_lost (map_named s k task number) (map_named t k task number) i p q j there lost)
-      is_taken (Answered b None) it slots v w j p q was now lost = absurd it
-      is_taken (Answered b (Some n)) it slots v w j p q was now lost =
-          by_slot (slot_at s k) it was lost (sym (ap (λ y. spot_on y v w) (left_there (Some n) slots)) ∙ now)
-        where
-          by_slot : (x : Slot) → Ended s s.page_size task number i intent x (Answered b (Some n)) → spot_on x v w ≡ Some p
-              → IsLostTo (spot_on x task number) (map_named t k task number) i p q j → spot n (is_map v w) ≡ Some q → can_have_page (pool_of s) x ≡ false
-          by_slot None it was lost now = absurd it
-          by_slot (Some m) it was lost now =
-              taken s s.page_size task number i intent m n it v w j p q was now
-              (subst (λ y. IsLostTo (spot m (is_map task number)) (spot_on y task number) i p q j) (left_there (Some n) slots) lost)
+      is_taken o it slots v w j p q was now lost = grind (arith, left_there, nothing_lost, taken)
 
   reach : (x : Step) (reply : Reply) (t : State) → Touches x reply t → Takes s x t → Reaches s x reply t
   reach x reply t a b = record { touched = a; taken = b }
 
   untouched : (x : Step) (r : Refusal) (t : State) → Touches x (Err r) t
-  untouched (step.Fault task k number i intent) r t = tt
-  untouched (step.Load task k number i offset count) r t = tt
-  untouched (step.Store task k number i offset bytes) r t = tt
-  untouched other r t = tt
+  untouched x r t = grind arith
 
   -- where nothing changed nothing was taken
   none_taken : (x : Step) → Takes s x s
-  none_taken (step.Store task slot number i offset bytes) k v w j p q was now lost = absurd (nothing_lost (map_named s slot task number) (map_named s slot task number) i p q j (sym now ∙ was) lost.1)
-  none_taken (step.Fault task slot number i Write) k v w j p q was now lost = absurd (nothing_lost (map_named s slot task number) (map_named s slot task number) i p q j (sym now ∙ was) lost.1)
-  none_taken (step.Fault task slot number i Read) k v w j p q was now lost = absurd lost
-  none_taken other k v w j p q was now lost = absurd lost
+  none_taken x k v w j p q was now lost = grind arith
 
   -- what is told of the reply is told of an answer
   by_reply : (intent : Intent) (o : Option Spot) (i : ℕ) (x : Step) (t : State) → ((a : Answer) → IsTouched intent o i → Touches x (Ok a) t) → ((r : Refusal) → Touches x (Err r) t)
       → (reply : Reply) → ((a : Answer) → reply ≡ Ok a → IsTouched intent o i) → Touches x reply t
-  by_reply intent o i x t answered refused (Ok a) h = answered a (h a refl)
-  by_reply intent o i x t answered refused (Err r) h = refused r
+  by_reply intent o i x t answered refused reply h = grind arith
 
   -- on another slot nothing is lost
   on_slot : (t : State) (k task number i : ℕ) → ((v w j : ℕ) (p q : Spot) → map_named s k v w ≡ Some p → map_named t k v w ≡ Some q
       → IsLostTo (map_named s k task number) (map_named t k task number) i p q j → can_have_page (pool_of s) (slot_at s k) ≡ false)
       → (o v w j : ℕ) (p q : Spot) → map_named s o v w ≡ Some p → map_named t o v w ≡ Some q → (k ≡ o) × IsLostTo (map_named s k task number) (map_named t k task number) i p q j
       → can_have_page (pool_of s) (slot_at s o) ≡ false
-  on_slot t k task number i h o v w j p q was now lost =
-      subst (λ x. can_have_page (pool_of s) (slot_at s x) ≡ false) lost.0
-      (h v w j p q (subst (λ x. map_named s x v w ≡ Some p) (sym lost.0) was) (subst (λ x. map_named t x v w ≡ Some q) (sym lost.0) now) lost.1)
+  on_slot t k task number i h o v w j p q was now lost = grind arith
 
   event_reaches : (e : Event) (reply : Reply) (t : State) → is_whole e ≡ true → IsEvent s e reply t → Reaches s (step_of e) reply t
   event_reaches (OnSlot k (slot.Fault task home number i intent)) reply t whole is =
@@ -538,13 +456,7 @@ module _ (s : State) where
       (by_reply Write (map_named t k task number) i (step.Store task k number i offset bytes) t (λ a there. there) (λ r. tt) reply
       (λ a answered. is_touched t k l task number i Write ends.outcome ends.holds ends.slots a (sym ends.replied ∙ answered)))
       (on_slot t k task number i (is_taken t k l task number i Write ends.outcome ends.holds ends.slots))
-  event_reaches (OnSlot k (slot.ForkMaps parent child)) reply t whole is = cc
-  event_reaches (OnSlot k (slot.ExitMaps task)) reply t whole is = cc
-  event_reaches (OnSlot k other) reply t whole is = reach (slot_step k other) reply t tt (λ o v w j p q was now lost. absurd lost)
-  event_reaches (Tasks (table.Add task home)) reply t whole is = reach (step.Connect task home) reply t tt (λ o v w j p q was now lost. absurd lost)
-  event_reaches (Tasks other) reply t whole is = reach (step_of (Tasks other)) reply t tt (λ o v w j p q was now lost. absurd lost)
-  event_reaches (OnPool pool.Meminfo) reply t whole is = reach step.Meminfo reply t tt (λ o v w j p q was now lost. absurd lost)
-  event_reaches (OnPool other) reply t whole is = reach (step_of (OnPool other)) reply t tt (λ o v w j p q was now lost. absurd lost)
+  event_reaches e reply t whole is = grind (arith, reach, slot_step, step_of)
 
   pub step_reaches : (reply : Reply) (t : State) (x : Step) → IsStep s x reply t → Reaches s x reply t
   step_reaches reply t x is =

@@ -1,7 +1,8 @@
 -- A fork leaves its parent the maps that it has.
-use Rattle.std.proofs.Common.{◌≡◌, ℕ, ◌||◌, ◌==◌, Bool, true, false, not, Some, is_some, List, [], ◌∷◌, length, map, refl, sym, ap, ◌∙◌, arith, nat_lt}
+use Rattle.std.proofs.lemmas.Grind.{common_steps}
+use Rattle.std.proofs.Common.{◌≡◌, ℕ, ◌||◌, ◌==◌, Bool, true, false, not, Some, List, [], ◌∷◌, map, refl, sym, ap, ◌∙◌, arith}
 use Rattle.std.specs.List.{filter, list_any}
-use Rattle.std.proofs.lemmas.Bool.{eqb-true, false_from_ne_true, lt-ltb}
+use Rattle.std.proofs.lemmas.Bool.{eqb-true, false_from_ne_true}
 use Rattle.std.proofs.lemmas.List.Folds.{list_any-append}
 use Rattle.std.proofs.lemmas.Map.Views.{any-filter_same}
 use Rattle.hp_model.specs.files.File.{File, Mount}
@@ -12,24 +13,15 @@ use Rattle.hp_model.specs.machine.Event.{has_maps_of}
 use Rattle.hp_laws.proofs.names.Follows.{is_not_of}
 use Rattle.hp_laws.proofs.making.FilesMade.{any_in_files}
 
-or_true : (b : Bool) → (b || true) ≡ true
-or_true true = refl
-or_true false = refl
-
 or_false : (b : Bool) → (b || false) ≡ b
-or_false true = refl
-or_false false = refl
+or_false b = grind arith
 
 module _ (task : ℕ) where
   abbrev has : File → Bool
   has f = list_any (is_of task) f.maps
 
   with_map : (f : File) → has f ≡ true → is_kept f ≡ true
-  with_map f some = ap (λ b. is_some f.name || b) (there f.maps some) ∙ or_true (is_some f.name)
-    where
-      there : (ms : List Map) → list_any (is_of task) ms ≡ true → nat_lt 0 (length ms) ≡ true
-      there [] e = cc
-      there (x ∷ xs) e = lt-ltb 0 (length (x ∷ xs)) (omega arith)
+  with_map f some = grind (arith, common_steps)
 
 module _ (parent child : ℕ) (apart : parent ≡ child → ⊥) where
   stays : (x : Map) → is_of parent x ≡ true → is_not_of child x ≡ true

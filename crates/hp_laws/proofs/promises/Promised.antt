@@ -1,11 +1,9 @@
 -- Each step of a settled machine is as promised.
 use Rattle.std.proofs.Common.{◌≡◌, ℕ, ◌<◌, true, false, Err, length, refl, sym, ap, ◌∙◌, subst, arith}
 use Rattle.hp_model.specs.declared.event.Event.{Event}
-use Rattle.hp_model.specs.declared.event.Event.TheVariants.{Tasks, Slot as OnSlot, Pool as OnPool}
-use Rattle.hp_model.specs.declared.event.PoolEvent.TheVariants as pool
+use Rattle.hp_model.specs.declared.event.Event.TheVariants.{Slot as OnSlot}
 use Rattle.hp_model.specs.declared.event.SlotEvent.{SlotEvent}
 use Rattle.hp_model.specs.declared.event.SlotEvent.TheVariants as slot
-use Rattle.hp_model.specs.declared.event.TableEvent.TheVariants as table
 use Rattle.hp_model.specs.declared.refusal.Refusal.{Refusal}
 use Rattle.hp_model.specs.declared.step.Step.{Step}
 use Rattle.hp_model.specs.declared.step.Step.TheVariants.{Load}
@@ -53,8 +51,7 @@ record Kept (s : State) (step : Step) (reply : Reply) (t : State) : Type 0 where
   pub cut_off : is_cut_off_step s step ≡ true → is_refused reply ≡ true
 
 refused_shows : (s : State) (step : Step) (r : Refusal) → ShowsMap s step (Err r)
-refused_shows s (Load task k number i offset count) r = tt
-refused_shows s other r = tt
+refused_shows s step r = grind arith
 
 early_kept : (s : State) (step : Step) (r : Refusal) → is_early r ≡ true → Kept s step (Err r) s
 early_kept s step r early = record { reserved = λ e. early_pages r early; limits = λ k l risen. absurd (omega (arith, risen)); loads = refused_shows s step r; cut_off = λ e. refl }
@@ -79,25 +76,12 @@ module _ (s : State) (st : IsSettledState s) (reply : Reply) (t : State) where
         (λ backed. goes k event (λ c. fault_goes s.page_size k c task home number i intent (slot_at s k) backed) is),
         (λ cut. stops k event (λ c. fault_stops s.page_size k c task home number i intent (slot_at s k) cut) is),
       )
-  event_reaches (OnSlot k (slot.Load task home number i offset count)) is =
-      let event = slot.Load task home number i offset count in (
-        (λ backed. goes k event (λ c. load_goes s.page_size k c task home number i offset (slot_at s k) count backed) is),
-        (λ cut. stops k event (λ c. load_stops s.page_size k c task home number i offset (slot_at s k) count cut) is),
-      )
-  event_reaches (OnSlot k (slot.Store task home number i offset bytes)) is =
-      let event = slot.Store task home number i offset bytes in (
-        (λ backed. goes k event (λ c. store_goes s.page_size k c task home number i offset (slot_at s k) bytes backed) is),
-        (λ cut. stops k event (λ c. store_stops s.page_size k c task home number i offset (slot_at s k) bytes cut) is),
-      )
-  event_reaches (OnSlot k other) is = ((λ e. cc), (λ e. cc))
-  event_reaches (Tasks (table.Add task home)) is = ((λ e. cc), (λ e. cc))
-  event_reaches (Tasks other) is = ((λ e. cc), (λ e. cc))
-  event_reaches (OnPool pool.Meminfo) is = ((λ e. cc), (λ e. cc))
-  event_reaches (OnPool other) is = ((λ e. cc), (λ e. cc))
+  event_reaches (OnSlot k (slot.Load task home number i offset count)) is = grind (arith, goes, load_goes, stops, load_stops)
+  event_reaches (OnSlot k (slot.Store task home number i offset bytes)) is = grind (arith, goes, store_goes, stops, store_stops)
+  event_reaches e is = grind arith
 
   loaded : (task k number i offset count : ℕ) (o : Outcome) → Loads s.page_size (slot_at s k) (map_named s k task number) i offset count o → ShowsMap s (Load task k number i offset count) (reply_of o)
-  loaded task k number i offset count (Refused r) h = tt
-  loaded task k number i offset count (Answered a new) h = h.loaded a new refl
+  loaded task k number i offset count o h = grind arith
 
   event_shows : (e : Event) → IsEvent s e reply t → ShowsMap s (step_of e) reply
   event_shows (OnSlot k (slot.Load task home number i offset count)) is =
@@ -105,11 +89,7 @@ module _ (s : State) (st : IsSettledState s) (reply : Reply) (t : State) where
       let ends = event_ends (Loads s.page_size old (spot_on old task number) i offset count) s k (slot.Load task home number i offset count) reply t
       (λ c. load_loads s.page_size k c old task home number i offset count) is in
       subst (λ r. ShowsMap s (Load task k number i offset count) r) (sym ends.replied) (loaded task k number i offset count ends.outcome ends.holds)
-  event_shows (OnSlot k other) is = tt
-  event_shows (Tasks (table.Add task home)) is = tt
-  event_shows (Tasks other) is = tt
-  event_shows (OnPool pool.Meminfo) is = tt
-  event_shows (OnPool other) is = tt
+  event_shows e is = grind arith
 
   event_kept : (e : Event) → IsEvent s e reply t → Kept s (step_of e) reply t
   event_kept e is = record { reserved = (event_reaches e is).0; limits = λ k l risen. limits_hold s e reply t k l st is risen; loads = event_shows e is; cut_off = (event_reaches e is).1 }

@@ -1,11 +1,11 @@
 -- A step that is refused for want of pages lacks what it asks for: past its mount's limit, or more than the pool can commit.
-use Rattle.std.proofs.Common.{◌≡◌, subst, ℕ, ◌-◌, ◌&&◌, ◌||◌, ◌==◌, Bool, true, false, not, Option, None, Some, is_some, Result, Ok, Err, List, [], ◌∷◌}
-use Rattle.std.proofs.Common.{◌++◌, length, refl, sym, ap, ◌∙◌, if◌then◌else◌, nat_le, nat_lt}
+use Rattle.std.proofs.Common.{arith}
+use Rattle.std.proofs.Common.{◌≡◌, subst, ℕ, ◌-◌, ◌&&◌, ◌==◌, Bool, true, false, not, Option, None, Some, Result, Ok, Err, List, [], ◌∷◌}
+use Rattle.std.proofs.Common.{◌++◌, length, refl, sym, ap, ◌∙◌, if◌then◌else◌}
 use Rattle.std.proofs.lemmas.Bool.{and_parts, cond_both, eqb-true}
 use Rattle.std.specs.List.{range_with_len}
 use Rattle.hp_model.specs.declared.answer.Answer.TheVariants.{Done}
 use Rattle.hp_model.specs.declared.cell.Cell.{Cell}
-use Rattle.hp_model.specs.declared.cell.Cell.TheVariants.{Hole, Entered, Present}
 use Rattle.hp_model.specs.declared.event.Event.{Event}
 use Rattle.hp_model.specs.declared.event.Event.TheVariants.{Tasks, Slot as OnSlot, Pool as OnPool}
 use Rattle.hp_model.specs.declared.event.PoolEvent.TheVariants as pool
@@ -14,12 +14,11 @@ use Rattle.hp_model.specs.declared.event.SlotEvent.TheVariants as slot
 use Rattle.hp_model.specs.declared.event.TableEvent.TheVariants as table
 use Rattle.hp_model.specs.declared.limits.Limits.{Limits}
 use Rattle.hp_model.specs.declared.place.Place.{Place}
-use Rattle.hp_model.specs.declared.place.Place.TheVariants.{Gone, Live}
+use Rattle.hp_model.specs.declared.place.Place.TheVariants.{Live}
 use Rattle.hp_model.specs.declared.refusal.Refusal.{Refusal}
-use Rattle.hp_model.specs.declared.refusal.Refusal.TheVariants.{BadOption, MinOverSize, SlotTaken, MountFull, NoPages, NoSuchFile, NoSuchMap, NoSuchSlot}
-use Rattle.hp_model.specs.declared.refusal.Refusal.TheVariants.{NoSuchNode, OutOfMemory, OutOfRange, TakenByOwner, TaskExists, TooMany}
+use Rattle.hp_model.specs.declared.refusal.Refusal.TheVariants.{SlotTaken, NoPages, NoSuchFile, NoSuchMap}
 use Rattle.hp_model.specs.declared.section.PoolAnswer.{PoolAnswer}
-use Rattle.hp_model.specs.declared.section.Section.TheVariants.{Grant, GrantAndReturn, GrantPage, ReadAndGrant, FillPages}
+use Rattle.hp_model.specs.declared.section.Section.TheVariants.{GrantPage, FillPages}
 use Rattle.hp_model.specs.declared.step.Intent.{Intent}
 use Rattle.hp_model.specs.declared.step.Intent.TheVariants.{Read, Write}
 use Rattle.hp_model.specs.declared.step.Reserving.{Reserving}
@@ -27,58 +26,45 @@ use Rattle.hp_model.specs.declared.step.Sharing.{Sharing}
 use Rattle.hp_model.specs.declared.step.Step.{Step}
 use Rattle.hp_model.specs.declared.step.Step.TheVariants as step
 use Rattle.hp_model.specs.files.Access.{access, new_copy, private_access, shared_access, uncopied_access}
-use Rattle.hp_model.specs.files.CopyWrite.{copy_write, is_held_once}
-use Rattle.hp_model.specs.files.File.{File, Mount, cell_at, has_page, is_entered, new_file, with_file}
+use Rattle.hp_model.specs.files.CopyWrite.{copy_write}
+use Rattle.hp_model.specs.files.File.{File, Mount, cell_at}
 use Rattle.hp_model.specs.files.MakeMap.{asked}
-use Rattle.hp_model.specs.files.Mapping.{copy_of, is_map, is_shared, is_unconsumed, place_at}
+use Rattle.hp_model.specs.files.Mapping.{is_map, is_shared, place_at}
 use Rattle.hp_model.specs.files.MountCounts.{committed_of}
-use Rattle.hp_model.specs.files.Options.{Wanted, checked, is_below_min, limits, limits_of, wanted_of}
+use Rattle.hp_model.specs.files.Options.{Wanted, limits, wanted_of}
 use Rattle.hp_model.specs.files.Page.{Copy, Page}
-use Rattle.hp_model.specs.files.Reserved.{is_reserved}
 use Rattle.hp_model.specs.files.Spot.{Spot, again, spot, written}
 use Rattle.hp_model.specs.files.Value.{value}
-use Rattle.hp_model.specs.machine.Event.{IsEvent, has_maps_of, planned, with_outcome}
-use Rattle.hp_model.specs.machine.Machine.{pool_of, with_pool}
+use Rattle.hp_model.specs.machine.Event.{IsEvent, has_maps_of, planned}
+use Rattle.hp_model.specs.machine.Machine.{pool_of}
 use Rattle.hp_model.specs.machine.Plan.{Answered, Ask, Choice, Finish, Outcome, Plan, Refused, Reply, Slot, and_then, continued, gives, grant}
-use Rattle.hp_model.specs.machine.Plan.{grant_page, refuse, unless, when_granted, with_value}
+use Rattle.hp_model.specs.machine.Plan.{refuse, unless, when_granted, with_value}
 use Rattle.hp_model.specs.machine.Promises.{is_for_pages}
-use Rattle.hp_model.specs.machine.Short.{IsMountShort, IsRemountShort, IsRemountShortOn, IsShort, IsShortOn, MeetsShortage, asked_of, asks, has_own, is_backed, owns_copy, page_for}
-use Rattle.hp_model.specs.machine.SlotEvent.{anon_tests, create_tests, edited, fork_tests, is_bad_range, mount_section, punch, read}
-use Rattle.hp_model.specs.machine.SlotEvent.{read_tests, stat, fill, preallocate, preallocate_tests, preallocated, unentered}
-use Rattle.hp_model.specs.machine.SlotEvent.{truncate, umount_tests, unlink, unmap, byte_access, byte_tests, bytes_answer, fault, fault_tests}
-use Rattle.hp_model.specs.machine.SlotEvent.{committed_with, file_named, load, map_anon, map_file, map_tests, mount_outcome, mount_pages, remount_outcome, slot_event, store}
+use Rattle.hp_model.specs.machine.Short.{IsMountShort, IsRemountShortOn, IsShort, IsShortOn, MeetsShortage, asked_of, asks, has_own, page_for}
+use Rattle.hp_model.specs.machine.SlotEvent.{mount_section}
+use Rattle.hp_model.specs.machine.SlotEvent.{fill, preallocate, preallocate_tests, unentered}
+use Rattle.hp_model.specs.machine.SlotEvent.{byte_access, byte_tests, bytes_answer, fault, fault_tests}
+use Rattle.hp_model.specs.machine.SlotEvent.{committed_with, file_named, load, map_file, map_tests, mount_outcome, mount_pages, remount_outcome, slot_event, store}
 use Rattle.hp_model.specs.machine.State.{State, slot_at}
 use Rattle.hp_model.specs.machine.Step.{Answer_with, IsScript, IsScripted, IsStep, Script, exit_slots, fork_slots, or_undone, undone, when_done}
-use Rattle.hp_model.specs.machine.Table.{Table, added, home_of, is_crowded, is_known, or_refused, table_event, when_known}
+use Rattle.hp_model.specs.machine.Table.{Table, table_event}
 use Rattle.hp_model.specs.pool.Resize.{pool_event}
-use Rattle.hp_model.specs.Profile.{most_file_pages, most_overcommit}
 use Rattle.hp_model.specs.declared.event.PoolEvent.{PoolEvent}
 use Rattle.hp_model.specs.declared.event.TableEvent.{TableEvent}
 use Rattle.hp_model.specs.pool.Grant.{can_grant, is_full, rise}
 use Rattle.hp_model.specs.pool.Pool.{section}
 use Rattle.hp_model.specs.pool.PoolCounts.{Pool}
-use Rattle.hp_model.specs.files.GiveBack.{punched, truncated, unlinked, unmapped_from, without_task}
-use Rattle.hp_model.specs.files.Fork.{forked}
 use Rattle.hp_laws.specs.Laws.{KeepsGoing}
 use Rattle.hp_laws.proofs.making.Remounts.{remount_ends, remount_told, told_granted}
 use Rattle.hp_laws.proofs.accesses.SlotShows.{always_gives}
 use Rattle.hp_laws.proofs.steps.Outcomes.{Always, either_way, reply_of}
 use Rattle.hp_laws.proofs.steps.Whole.{by_event, early_pages, is_early, is_whole, slot_step, step_of}
-use Rattle.hp_model.specs.files.Fill.{lacking, range_filled, rising_nodes}
+use Rattle.hp_model.specs.files.Fill.{lacking}
 
 -- ---- limits
 
--- what options are refused is no refusal for pages
-checked_plain : (l : Limits) (r : Refusal) → checked l ≡ Err r → is_for_pages r ≡ false
-checked_plain l r e = by_test (is_below_min l.max l.min) e
-  where
-    by_test : (b : Bool) → (if b then Err MinOverSize else Ok l) ≡ Err r → is_for_pages r ≡ false
-    by_test true e = (let same : MinOverSize ≡ r = cc in ap is_for_pages (sym same))
-    by_test false e = cc
-
 limits_plain : (nr size : ℕ) (w : Option Wanted) (r : Refusal) → limits nr size w ≡ Err r → is_for_pages r ≡ false
-limits_plain nr size None r e = (let same : BadOption ≡ r = cc in ap is_for_pages (sym same))
-limits_plain nr size (Some w) r e = checked_plain (limits_of nr size w) r e
+limits_plain nr size w r e = grind arith
 
 -- ---- outcomes at the state's pool
 
@@ -89,8 +75,7 @@ module _ (s : State) where
   At P (Ask sec f) = P (f (section (pool_of s) (sec s.nr)).0)
 
   pub at_any : (P : Outcome → Type 0) (p : Plan) → Always P p → At P p
-  at_any P (Finish o) all = all
-  at_any P (Ask sec f) all = all (section (pool_of s) (sec s.nr)).0
+  at_any P p all = grind arith
 
   pub at_if : (P : Outcome → Type 0) (b : Bool) (p q : Plan) → (b ≡ true → At P p) → (b ≡ false → At P q) → At P (if b then p else q)
   at_if P b p q h k = cond_both b p q (At P) h k
@@ -99,17 +84,10 @@ module _ (s : State) where
   at_test P b r p stops h = cond_both b (refuse r) p (At P) (λ e. stops) (λ e. h)
 
   pub at_then : (P : Outcome → Type 0) (f : Mount → Outcome) → ((o : Outcome) → P o → P (continued f o)) → (p : Plan) → At P p → At P (and_then f p)
-  at_then P f h (Finish o) at = h o at
-  at_then P f h (Ask sec g) at = h (g (section (pool_of s) (sec s.nr)).0) at
-
-  settled_reply : (u : State) (k : ℕ) (o : Outcome) → (with_outcome u k o).0 ≡ reply_of o
-  settled_reply u k (Refused r) = refl
-  settled_reply u k (Answered a new) = refl
+  at_then P f h p at = grind arith
 
   planned_at : (P : Outcome → Type 0) (k : ℕ) (p : Plan) → At P p → (o : Outcome) × P o × ((planned s k p).0 ≡ reply_of o)
-  planned_at P k (Finish o) at = (o, at, settled_reply s k o)
-  planned_at P k (Ask sec f) at =
-      let q = section (pool_of s) (sec s.nr) in (f q.0, at, settled_reply (with_pool s q.1) k (f q.0))
+  planned_at P k p at = grind arith
 
   event_at : (P : Outcome → Type 0) (k : ℕ) (e : SlotEvent) (reply : Reply) (t : State) → ((c : Choice) → At P (slot_event s.page_size k c (slot_at s k) e)) → IsEvent s (OnSlot k e) reply t
       → (o : Outcome) × P o × (reply ≡ reply_of o)
@@ -125,11 +103,7 @@ module _ (s : State) where
 
   granted_lacks : (m : Mount) (pages : ℕ) (b : Bool) (o : Outcome) → is_full m pages ≡ false → can_grant (rise m pages) (pool_of s) ≡ b → Lacks m pages o → (a : PoolAnswer)
       → a.granted ≡ b → Lacks m pages (when_granted o a)
-  granted_lacks m pages true o room can h a e = subst (λ b. Lacks m pages (if b then o else Refused NoPages)) (sym e) h
-  granted_lacks m pages false o room can h a e = subst (λ b. Lacks m pages (if b then o else Refused NoPages)) (sym e) (room, can)
-
-  grant_granted : (home d : ℕ) → (section (pool_of s) (Grant home d)).0.granted ≡ can_grant d (pool_of s)
-  grant_granted home d = cond_both (can_grant d (pool_of s)) _ _ (λ (x : PoolAnswer × Pool). x.0.granted ≡ can_grant d (pool_of s)) (λ e. sym e) (λ e. sym e)
+  granted_lacks m pages b o room can h a e = grind arith
 
   pub page_granted : (home d : ℕ) → (section (pool_of s) (GrantPage home d)).0.granted ≡ can_grant d (pool_of s)
   page_granted home d = cond_both (can_grant d (pool_of s)) _ _ (λ (x : PoolAnswer × Pool). x.0.granted ≡ can_grant d (pool_of s)) (λ e. sym e) (λ e. sym e)
@@ -138,29 +112,10 @@ module _ (s : State) where
   fill_granted d n = cond_both (can_grant d (pool_of s)) _ _ (λ (x : PoolAnswer × Pool). x.0.granted ≡ can_grant d (pool_of s)) (λ e. sym e) (λ e. sym e)
 
   fill_lacks : (c : Choice) (size : ℕ) (m : Mount) (a b : ℕ) (f : ℕ × File) → At (Lacks m (unentered a b f.1)) (fill c size m a b f)
-  fill_lacks c size m a b f =
-      let pages = unentered a b f.1 in
-      let n = lacking a b f.1 in
-      let q = (section (pool_of s) (FillPages (rise m pages) n)).0 in
-      let o : Outcome = Answered Done (Some (with_file m f.0 (range_filled size a b (rising_nodes n q.pages) f.1))) in
-      at_if (Lacks m pages) (is_full m pages) (refuse MountFull) _ (λ full. full)
-      (λ room. at_test (Lacks m pages) c.refused OutOfMemory (Ask (λ nr. FillPages (rise m pages) n) (preallocated size m a b f)) tt
-      (granted_lacks m pages (can_grant (rise m pages) (pool_of s)) o room refl tt q (fill_granted (rise m pages) n)))
+  fill_lacks c size m a b f = grind (arith, at_if, at_test, granted_lacks, fill_granted)
 
   grant_lacks : (c : Choice) (m : Mount) (home pages : ℕ) (o : Outcome) → Lacks m pages o → At (Lacks m pages) (grant c m home pages o)
-  grant_lacks c m home pages o h =
-      at_if (Lacks m pages) (is_full m pages) (refuse MountFull) _ (λ full. full)
-      (λ room. at_test (Lacks m pages) c.refused OutOfMemory _ tt
-      (at_if (Lacks m pages) (rise m pages == 0) (Finish o) (Ask (λ nr. Grant home (rise m pages)) (when_granted o)) (λ e. h)
-      (λ e. granted_lacks m pages (can_grant (rise m pages) (pool_of s)) o room refl h (section (pool_of s) (Grant home (rise m pages))).0 (grant_granted home (rise m pages)))))
-
-  page_lacks : (c : Choice) (m : Mount) (home pages : ℕ) (f : ℕ → Outcome) → pages ≡ 1 → ((n : ℕ) → Lacks m pages (f n)) → At (Lacks m pages) (grant_page c m home f)
-  page_lacks c m home pages f one h =
-      let q = (section (pool_of s) (GrantPage home (rise m 1))).0 in
-      subst (λ n. At (Lacks m n) (grant_page c m home f)) (sym one)
-      (at_if (Lacks m 1) (is_full m 1) (refuse MountFull) _ (λ full. full)
-      (λ room. at_test (Lacks m 1) c.refused OutOfMemory (Ask (λ nr. GrantPage home (rise m 1)) (λ a. when_granted (f a.node) a)) tt
-      (granted_lacks m 1 (can_grant (rise m 1) (pool_of s)) (f q.node) room refl (subst (λ n. Lacks m n (f q.node)) one (h q.node)) q (page_granted home (rise m 1)))))
+  grant_lacks c m home pages o h = grind arith
 
   -- ---- accesses
 
@@ -171,81 +126,22 @@ module _ (s : State) where
     abbrev Wants : Intent → Outcome → Type 0
     Wants intent o = Lacks m (page_for intent (Some p) i) o
 
-    abbrev page_if : Bool → ℕ
-    page_if b = if b then 0 else 1
-
-    one_page : (t : Intent) → is_backed t (Some p) i ≡ false → (not (is_shared p.map.sharing) && has_own t p i) ≡ false → page_for t (Some p) i ≡ 1
-    one_page t unbacked none = ap (λ b. page_if (b || (not (is_shared p.map.sharing) && has_own t p i))) unbacked ∙ ap page_if none
-
     shared_lacks : (t : Intent) (cell : Cell Page) → is_shared p.map.sharing ≡ true → cell_at p.file i ≡ cell → At (Wants t) (shared_access c size m p home i cell)
-    shared_lacks t (Present page) shared is = tt
-    shared_lacks t Entered shared is = tt
-    shared_lacks t Hole shared is = page_lacks c m home (pages t) _ (one_page t (unbacked t) (ap (λ b. not b && has_own t p i) shared)) (λ n. tt)
-      where
-        free : is_reserved p.file p.map i ≡ false
-        free = ap (λ b. if b then is_entered (cell_at p.file i) else (p.map.owner && is_unconsumed (place_at p.map i))) shared ∙ ap is_entered is
-
-        unbacked : (t : Intent) → is_backed t (Some p) i ≡ false
-        unbacked Read = free
-        unbacked Write = ap (λ b. b || owns_copy p.map i) free ∙ ap (λ b. not b && (p.map.owner && is_some (copy_of (place_at p.map i)))) shared
-
-    and_false : (b : Bool) → (b && false) ≡ false
-    and_false true = refl
-    and_false false = refl
-
-    unspent : (consumed : Bool) (o : Option Copy) → is_unconsumed {C = Copy} (Live consumed o) ≡ not consumed
-    unspent true o = refl
-    unspent false o = refl
+    shared_lacks t cell shared is = grind arith
 
     module _ (apart : is_shared p.map.sharing ≡ false) where
-      own_reserve : is_reserved p.file p.map i ≡ (p.map.owner && is_unconsumed (place_at p.map i))
-      own_reserve = ap (λ b. if b then is_entered (cell_at p.file i) else (p.map.owner && is_unconsumed (place_at p.map i))) apart
-
-      none_own : (t : Intent) → has_own t p i ≡ false → (not (is_shared p.map.sharing) && has_own t p i) ≡ false
-      none_own t e = ap (λ b. not (is_shared p.map.sharing) && b) e ∙ and_false (not (is_shared p.map.sharing))
-
       new_lacks : (t : Intent) (consumed : Bool) → place_at p.map i ≡ Live consumed None → has_own t p i ≡ false → At (Wants t) (new_copy c size m p home i consumed)
-      new_lacks t consumed is none =
-          at_if (Wants t) (p.map.owner && not consumed) _ _ (λ e. tt) (λ e. page_lacks c m home (pages t) _ (one_page t (unbacked e t) (none_own t none)) (λ n. tt))
-        where
-          free : (p.map.owner && not consumed) ≡ false → is_reserved p.file p.map i ≡ false
-          free e = own_reserve ∙ ap (λ q. p.map.owner && is_unconsumed q) is ∙ ap (λ b. p.map.owner && b) (unspent consumed None) ∙ e
-
-          unbacked : (p.map.owner && not consumed) ≡ false → (t : Intent) → is_backed t (Some p) i ≡ false
-          unbacked e Read = free e
-          unbacked e Write =
-              ap (λ b. b || owns_copy p.map i) (free e) ∙ ap (λ q. not (is_shared p.map.sharing) && (p.map.owner && is_some (copy_of q))) is
-              ∙ ap (λ b. not (is_shared p.map.sharing) && b) (and_false p.map.owner) ∙ and_false (not (is_shared p.map.sharing))
+      new_lacks t consumed is none = grind arith
 
       uncopied_lacks : (t : Intent) (consumed : Bool) → place_at p.map i ≡ Live consumed None → At (Wants t) (uncopied_access c size m p home i consumed t)
-      uncopied_lacks Write consumed is = new_lacks Write consumed is (ap (λ q. has_once (copy_of q)) is)
-        where
-          has_once : Option Copy → Bool
-          has_once o = elim o [ None ↦ false | Some copy ↦ is_held_once p.file copy.stamp ]
-      uncopied_lacks Read consumed is =
-          at_if (Wants Read) (has_page (cell_at p.file i)) (Finish (Answered Done (Some m))) (new_copy c size m p home i consumed) (λ e. tt)
-          (λ e. new_lacks Read consumed is (ap (λ q. is_some (copy_of q) || has_page (cell_at p.file i)) is ∙ e))
+      uncopied_lacks Write consumed is = grind (arith, new_lacks)
+      uncopied_lacks Read consumed is = grind (arith, at_if, new_lacks)
 
       write_lacks : (consumed : Bool) (copy : Copy) → place_at p.map i ≡ Live consumed (Some copy) → At (Wants Write) (copy_write c m p home i consumed copy)
-      write_lacks consumed copy is =
-          at_if (Wants Write) (is_held_once p.file copy.stamp) _ _ (λ e. tt)
-          (λ more. at_if (Wants Write) p.map.owner _ _
-          (λ owner. at_if (Wants Write) (is_full m 1) _ _ (λ full. tt) (λ room. cond_both (section (pool_of s) (GrantPage home (rise m 1))).0.granted _ _ (Wants Write) (λ e. tt) (λ e. tt)))
-          (λ other. page_lacks c m home (pages Write) _ (one_page Write (unbacked other) (none_own Write (once more))) (λ n. tt)))
-        where
-          once : is_held_once p.file copy.stamp ≡ false → has_own Write p i ≡ false
-          once more = ap (λ q. elim (copy_of q) [ None ↦ false | Some y ↦ is_held_once p.file y.stamp ]) is ∙ more
-
-          unbacked : p.map.owner ≡ false → is_backed Write (Some p) i ≡ false
-          unbacked other =
-              ap (λ b. b || owns_copy p.map i) (own_reserve ∙ ap (λ b. b && is_unconsumed (place_at p.map i)) other)
-              ∙ ap (λ b. not (is_shared p.map.sharing) && (b && is_some (copy_of (place_at p.map i)))) other ∙ and_false (not (is_shared p.map.sharing))
+      write_lacks consumed copy is = grind arith
 
       private_lacks : (t : Intent) (q : Place Copy) → place_at p.map i ≡ q → At (Wants t) (private_access c size m p home i q t)
-      private_lacks t Gone is = tt
-      private_lacks Read (Live consumed (Some copy)) is = tt
-      private_lacks Write (Live consumed (Some copy)) is = write_lacks consumed copy is
-      private_lacks t (Live consumed None) is = at_test (Wants t) p.map.unmapped TakenByOwner (uncopied_access c size m p home i consumed t) tt (uncopied_lacks t consumed is)
+      private_lacks t q is = grind (arith, write_lacks, at_test, uncopied_lacks)
 
     access_lacks : (t : Intent) → At (Wants t) (access c size m p home i t)
     access_lacks t = at_if (Wants t) (is_shared p.map.sharing) _ _ (λ e. shared_lacks t (cell_at p.file i) e refl) (λ e. private_lacks e t (place_at p.map i) refl)
@@ -264,13 +160,10 @@ module _ (s : State) where
       at_test P x.0 x.1 (unless xs p) (h x.1 (no_not (is_for_pages x.1) both.0)) (at_tests P h xs both.1 p at)
     where
       no_not : (b : Bool) → not b ≡ true → b ≡ false
-      no_not true e = cc
-      no_not false e = refl
+      no_not b e = grind arith
 
   plain_short : (m : Mount) (pages : ℕ) (r : Refusal) → is_for_pages r ≡ false → IsShort (pool_of s) m pages r
-  plain_short m pages NoPages e = cc
-  plain_short m pages MountFull e = cc
-  plain_short m pages other e = tt
+  plain_short m pages r e = grind arith
 
   -- ---- events that ask for pages
 
@@ -279,19 +172,12 @@ module _ (s : State) where
   ShortOn old x (Answered a new) = Unit {0}
 
   after_lacks : (m : Mount) (pages : ℕ) (f : Mount → Outcome) → ((n : Mount) → Lacks m pages (f n)) → (o : Outcome) → Lacks m pages o → Lacks m pages (continued f o)
-  after_lacks m pages f h (Refused r) lacks = lacks
-  after_lacks m pages f h (Answered a None) lacks = tt
-  after_lacks m pages f h (Answered a (Some n)) lacks = h n
+  after_lacks m pages f h o lacks = grind arith
 
   -- the outcomes of a mount, by the pages that its step asks for
   module _ (m : Mount) (x : Step) where
-    as_short : (o : Outcome) → Lacks m (asks m x) o → ShortOn (Some m) x o
-    as_short (Refused r) lacks = lacks
-    as_short (Answered a new) lacks = tt
-
     at_short : (p : Plan) → At (Lacks m (asks m x)) p → At (ShortOn (Some m) x) p
-    at_short (Finish o) at = as_short o at
-    at_short (Ask sec f) at = as_short (f (section (pool_of s) (sec s.nr)).0) at
+    at_short p at = grind arith
 
   module _ (c : Choice) (size k : ℕ) where
     of_map : (old : Slot) (task home : ℕ) (name : List ℕ) (a n : ℕ) (sharing : Sharing) (reserving : Reserving)
@@ -321,10 +207,7 @@ module _ (s : State) where
     of_anon : (old : Slot) (task home n : ℕ) (sharing : Sharing) (reserving : Reserving)
         → At (ShortOn old (step.Anon task n sharing reserving)) (slot_event size k c old (slot.Anon task home n sharing reserving))
     of_anon None task home n sharing reserving = refl
-    of_anon (Some m) task home n sharing reserving =
-        let pages = asked sharing reserving 0 n (new_file None) in
-        at_short m (step.Anon task n sharing reserving) (map_anon c m task home n sharing reserving)
-        (at_tests (Lacks m pages) (plain_short m pages) (anon_tests m task n) refl _ (grant_lacks c m home pages _ tt))
+    of_anon (Some m) task home n sharing reserving = grind (arith, at_short, at_tests, plain_short, grant_lacks)
 
     of_fault : (old : Slot) (task home number i : ℕ) (t : Intent) → At (ShortOn old (step.Fault task k number i t)) (slot_event size k c old (slot.Fault task home number i t))
     of_fault None task home number i t = refl
@@ -373,34 +256,15 @@ module _ (s : State) where
     MountShort options (Answered a new) = Unit {0}
 
     section_told : (d : ℕ) → (a : PoolAnswer) → a ≡ (section (pool_of s) (mount_section c d)).0 → (a.nr ≡ s.nr) × (a.granted ≡ can_grant d (pool_of s))
-    section_told d a is = subst (λ (x : PoolAnswer). (x.nr ≡ s.nr) × (x.granted ≡ can_grant d (pool_of s))) (sym is) (by_kind c.after_grant)
-      where
-        by_kind : (late : Bool) → ((section (pool_of s) (if late then GrantAndReturn d else ReadAndGrant d)).0.nr ≡ s.nr)
-            × ((section (pool_of s) (if late then GrantAndReturn d else ReadAndGrant d)).0.granted ≡ can_grant d (pool_of s))
-        by_kind true = cond_both (can_grant d (pool_of s)) _ _ (λ (x : PoolAnswer × Pool). (x.0.nr ≡ s.nr) × (x.0.granted ≡ can_grant d (pool_of s))) (λ e. (refl, sym e)) (λ e. (refl, sym e))
-        by_kind false = cond_both (can_grant d (pool_of s)) _ _ (λ (x : PoolAnswer × Pool). (x.0.nr ≡ s.nr) × (x.0.granted ≡ can_grant d (pool_of s))) (λ e. (refl, sym e)) (λ e. (refl, sym e))
+    section_told d a is = grind arith
 
     -- what the answer leads to, by the limits
     mount_leads : (options : List ℕ) (x : Result Limits Refusal) → limits s.nr size (wanted_of options) ≡ x → (a : PoolAnswer) → a.granted ≡ can_grant (mount_pages c x) (pool_of s)
         → MountShort options (mount_outcome c a x)
-    mount_leads options (Err r) is a told = subst (λ y. IsMountShort (pool_of s) y r) (sym is) (limits_plain s.nr size (wanted_of options) r is)
-    mount_leads options (Ok l) is a told = by_refused c.refused refl
-      where
-        by_granted : (late b : Bool) → b ≡ can_grant l.min (pool_of s)
-            → MountShort options (if not b then Refused NoPages else if late then Refused OutOfMemory else Answered Done (Some (record { limits = l; files = [] })))
-        by_granted late false e = subst (λ y. IsMountShort (pool_of s) y NoPages) (sym is) (sym e)
-        by_granted true true e = subst (λ y. IsMountShort (pool_of s) y OutOfMemory) (sym is) refl
-        by_granted false true e = tt
-
-        by_refused : (refused : Bool) → c.refused ≡ refused
-            → MountShort options (if refused then Refused OutOfMemory else if not a.granted then Refused NoPages else if c.after_grant then Refused OutOfMemory
-            else Answered Done (Some (record { limits = l; files = [] })))
-        by_refused true e = subst (λ y. IsMountShort (pool_of s) y OutOfMemory) (sym is) refl
-        by_refused false e = by_granted c.after_grant a.granted (told ∙ ap (λ b. can_grant (if b then 0 else l.min) (pool_of s)) e)
+    mount_leads options x is a told = grind (arith, limits_plain)
 
     taken_short : (p : Pool) (x : Result Limits Refusal) → IsMountShort p x SlotTaken
-    taken_short p (Ok l) = refl
-    taken_short p (Err r) = refl
+    taken_short p x = grind arith
 
     of_mount : (old : Slot) (options : List ℕ) → At (MountShort options) (slot_event size k c old (slot.Mount options))
     of_mount (Some m) options = taken_short (pool_of s) (limits s.nr size (wanted_of options))
@@ -418,24 +282,11 @@ module _ (s : State) where
     given : (old new : Slot) → At KeepsGoing (gives Done old new)
     given old new = at_any KeepsGoing (gives Done old new) (always_gives KeepsGoing Done old new tt)
 
-    of_name : (m : Mount) (name : List ℕ) (f : ℕ × File → Plan) → ((q : ℕ × File) → At KeepsGoing (f q)) → At KeepsGoing (with_value (file_named m name) NoSuchFile f)
-    of_name m name f h = by_file (file_named m name)
-      where
-        by_file : (o : Option (ℕ × File)) → At KeepsGoing (with_value o NoSuchFile f)
-        by_file None = refl
-        by_file (Some q) = h q
-
     of_unmap : (old : Slot) (task number a b : ℕ) → At KeepsGoing (slot_event size k c old (slot.Unmap task number a b))
-    of_unmap None task number a b = refl
-    of_unmap (Some m) task number a b = by_spot (spot m (is_map task number))
-      where
-        by_spot : (o : Option Spot) → At KeepsGoing (with_value o NoSuchMap (unmap m task number a b))
-        by_spot None = refl
-        by_spot (Some p) = goes_tests ((is_bad_range a b, OutOfRange) ∷ []) refl _ (given (Some m) (Some (unmapped_from task number a b m)))
+    of_unmap old task number a b = grind arith
 
     of_fork : (old : Slot) (parent child : ℕ) → At KeepsGoing (slot_event size k c old (slot.ForkMaps parent child))
-    of_fork None parent child = refl
-    of_fork (Some m) parent child = goes_tests (fork_tests c m parent child) refl _ (given (Some m) (Some (forked parent child m)))
+    of_fork old parent child = grind arith
 
     abbrev is_plain : SlotEvent → Bool
     is_plain (slot.Mount options) = false
@@ -449,31 +300,9 @@ module _ (s : State) where
     is_plain e = true
 
     goes_event : (old : Slot) (e : SlotEvent) → is_plain e ≡ true → At KeepsGoing (slot_event size k c old e)
-    goes_event None (slot.Mount options) plain = cc
-    goes_event None (slot.Remount options) plain = cc
-    goes_event None e plain = refl
-    goes_event (Some m) (slot.Mount options) plain = cc
-    goes_event (Some m) (slot.Remount options) plain = cc
-    goes_event (Some m) (slot.Preallocate name a b) plain = cc
-    goes_event (Some m) (slot.Map task home name a n sharing reserving) plain = cc
-    goes_event (Some m) (slot.Anon task home n sharing reserving) plain = cc
-    goes_event (Some m) (slot.Fault task home number i t) plain = cc
-    goes_event (Some m) (slot.Load task home number i offset count) plain = cc
-    goes_event (Some m) (slot.Store task home number i offset bytes) plain = cc
-    goes_event (Some m) slot.Umount plain = goes_tests (umount_tests k m) refl _ (given (Some m) None)
-    goes_event (Some m) (slot.Create name) plain = goes_tests (create_tests c m name) refl _ tt
-    goes_event (Some m) (slot.Unlink name) plain = of_name m name (unlink m) (λ q. given (Some m) (edited m q.0 (unlinked q.1)))
-    goes_event (Some m) (slot.Truncate name n) plain =
-        of_name m name (truncate m n) (λ q. goes_tests ((nat_lt most_file_pages n, OutOfRange) ∷ []) refl _ (given (Some m) (edited m q.0 (truncated n q.1))))
-    goes_event (Some m) (slot.Punch name a b) plain =
-        of_name m name (punch m a b) (λ q. goes_tests ((is_bad_range a b, OutOfRange) ∷ []) refl _ (given (Some m) (edited m q.0 (punched a b q.1))))
-    goes_event (Some m) (slot.Read name i offset count) plain = of_name m name (read size m i offset count) (λ q. goes_tests (read_tests size i offset count q.1) refl _ tt)
-    goes_event (Some m) slot.Ls plain = goes_tests ((c.refused, OutOfMemory) ∷ []) refl _ tt
-    goes_event (Some m) (slot.Stat name) plain = of_name m name (stat m) (λ q. tt)
+    goes_event None e plain = grind arith
     goes_event (Some m) slot.Df plain = tt
-    goes_event (Some m) (slot.Unmap task number a b) plain = of_unmap (Some m) task number a b
-    goes_event (Some m) (slot.ForkMaps parent child) plain = of_fork (Some m) parent child
-    goes_event (Some m) (slot.ExitMaps task) plain = given (Some m) (Some (without_task task m))
+    goes_event (Some m) e plain = grind (arith, goes_tests, given, of_unmap, of_fork)
 
   -- ---- steps of one event
 
@@ -483,24 +312,14 @@ module _ (s : State) where
   is_remount e = false
 
   at_weaker : (P Q : Outcome → Type 0) → ((o : Outcome) → P o → Q o) → (p : Plan) → At P p → At Q p
-  at_weaker P Q h (Finish o) at = h o at
-  at_weaker P Q h (Ask sec f) at = h (f (section (pool_of s) (sec s.nr)).0) at
+  at_weaker P Q h p at = grind arith
 
   abbrev Meets : ℕ → SlotEvent → Outcome → Type 0
   Meets k e o = MeetsShortage s (slot_step k e) (reply_of o)
 
   module _ (c : Choice) (k : ℕ) where
     plain_meets : (e : SlotEvent) → is_plain c s.page_size k e ≡ true → (o : Outcome) → KeepsGoing o → Meets k e o
-    plain_meets (slot.Mount options) plain o h = cc
-    plain_meets (slot.Remount options) plain o h = cc
-    plain_meets (slot.Preallocate name a b) plain o h = cc
-    plain_meets (slot.Map task home name a n sharing reserving) plain o h = cc
-    plain_meets (slot.Anon task home n sharing reserving) plain o h = cc
-    plain_meets (slot.Fault task home number i t) plain o h = cc
-    plain_meets (slot.Load task home number i offset count) plain o h = cc
-    plain_meets (slot.Store task home number i offset bytes) plain o h = cc
-    plain_meets e plain (Refused r) h = h
-    plain_meets e plain (Answered a new) h = tt
+    plain_meets e plain o h = grind arith
 
     turn : (e : SlotEvent) (P : Outcome → Type 0) → ((o : Outcome) → P o → Meets k e o) → At P (slot_event s.page_size k c (slot_at s k) e)
         → At (Meets k e) (slot_event s.page_size k c (slot_at s k) e)
@@ -510,58 +329,37 @@ module _ (s : State) where
     of_plain e plain = turn e KeepsGoing (plain_meets e plain) (goes_event c s.page_size k (slot_at s k) e plain)
 
     mount_meets : (options : List ℕ) (o : Outcome) → MountShort c s.page_size k options o → Meets k (slot.Mount options) o
-    mount_meets options (Refused r) h = h
-    mount_meets options (Answered a new) h = tt
+    mount_meets options o h = grind arith
 
     map_meets : (task home : ℕ) (name : List ℕ) (a n : ℕ) (sharing : Sharing) (reserving : Reserving) (o : Outcome)
         → ShortOn (slot_at s k) (step.Map task k name a n sharing reserving) o → Meets k (slot.Map task home name a n sharing reserving) o
-    map_meets task home name a n sharing reserving (Refused r) h = h
-    map_meets task home name a n sharing reserving (Answered x new) h = tt
+    map_meets task home name a n sharing reserving o h = grind arith
 
     fill_meets : (name : List ℕ) (a b : ℕ) (o : Outcome) → ShortOn (slot_at s k) (step.Preallocate k name a b) o → Meets k (slot.Preallocate name a b) o
-    fill_meets name a b (Refused r) h = h
-    fill_meets name a b (Answered x new) h = tt
+    fill_meets name a b o h = grind arith
 
     anon_meets : k ≡ 0 → (task home n : ℕ) (sharing : Sharing) (reserving : Reserving) (o : Outcome)
         → ShortOn (slot_at s k) (step.Anon task n sharing reserving) o → Meets k (slot.Anon task home n sharing reserving) o
-    anon_meets here task home n sharing reserving (Refused r) h = subst (λ j. IsShortOn (pool_of s) (slot_at s j) (step.Anon task n sharing reserving) r) here h
-    anon_meets here task home n sharing reserving (Answered x new) h = tt
+    anon_meets here task home n sharing reserving o h = grind arith
 
     fault_meets : (task home number i : ℕ) (t : Intent) (o : Outcome) → ShortOn (slot_at s k) (step.Fault task k number i t) o → Meets k (slot.Fault task home number i t) o
-    fault_meets task home number i t (Refused r) h = h
-    fault_meets task home number i t (Answered x new) h = tt
+    fault_meets task home number i t o h = grind arith
 
     load_meets : (task home number i offset count : ℕ) (o : Outcome) → ShortOn (slot_at s k) (step.Load task k number i offset count) o → Meets k (slot.Load task home number i offset count) o
-    load_meets task home number i offset count (Refused r) h = h
-    load_meets task home number i offset count (Answered x new) h = tt
+    load_meets task home number i offset count o h = grind arith
 
     store_meets : (task home number i offset : ℕ) (bytes : List ℕ) (o : Outcome)
         → ShortOn (slot_at s k) (step.Store task k number i offset bytes) o → Meets k (slot.Store task home number i offset bytes) o
-    store_meets task home number i offset bytes (Refused r) h = h
-    store_meets task home number i offset bytes (Answered x new) h = tt
+    store_meets task home number i offset bytes o h = grind arith
 
     meets : (e : SlotEvent) → is_remount e ≡ false → is_whole (OnSlot k e) ≡ true → At (Meets k e) (slot_event s.page_size k c (slot_at s k) e)
-    meets (slot.Mount options) other whole =
-        turn (slot.Mount options) (MountShort c s.page_size k options) (mount_meets options) (of_mount c s.page_size k (slot_at s k) options)
-    meets (slot.Map task home name a n sharing reserving) other whole =
-        turn (slot.Map task home name a n sharing reserving) (ShortOn (slot_at s k) (step.Map task k name a n sharing reserving))
-        (map_meets task home name a n sharing reserving) (of_map c s.page_size k (slot_at s k) task home name a n sharing reserving)
-    meets (slot.Preallocate name a b) other whole =
-        turn (slot.Preallocate name a b) (ShortOn (slot_at s k) (step.Preallocate k name a b)) (fill_meets name a b) (of_preallocate c s.page_size k (slot_at s k) name a b)
-    meets (slot.Anon task home n sharing reserving) other whole =
-        turn (slot.Anon task home n sharing reserving) (ShortOn (slot_at s k) (step.Anon task n sharing reserving))
-        (anon_meets (eqb-true k 0 whole) task home n sharing reserving) (of_anon c s.page_size k (slot_at s k) task home n sharing reserving)
-    meets (slot.Fault task home number i t) other whole =
-        turn (slot.Fault task home number i t) (ShortOn (slot_at s k) (step.Fault task k number i t)) (fault_meets task home number i t)
-        (of_fault c s.page_size k (slot_at s k) task home number i t)
-    meets (slot.Load task home number i offset count) other whole =
-        turn (slot.Load task home number i offset count) (ShortOn (slot_at s k) (step.Load task k number i offset count))
-        (load_meets task home number i offset count) (of_load c s.page_size k (slot_at s k) task home number i offset count)
-    meets (slot.Store task home number i offset bytes) other whole =
-        turn (slot.Store task home number i offset bytes) (ShortOn (slot_at s k) (step.Store task k number i offset bytes))
-        (store_meets task home number i offset bytes) (of_store c s.page_size k (slot_at s k) task home number i offset bytes)
-    meets (slot.Remount options) other whole = cc
-    meets e other whole = of_plain e refl
+    meets (slot.Map task home name a n sharing reserving) other whole = grind (arith, turn, map_meets, of_map)
+    meets (slot.Preallocate name a b) other whole = grind (arith, turn, fill_meets, of_preallocate)
+    meets (slot.Anon task home n sharing reserving) other whole = grind (arith, turn, anon_meets, eqb-true, of_anon)
+    meets (slot.Fault task home number i t) other whole = grind (arith, turn, fault_meets, of_fault)
+    meets (slot.Load task home number i offset count) other whole = grind (arith, turn, load_meets, of_load)
+    meets (slot.Store task home number i offset bytes) other whole = grind (arith, turn, store_meets, of_store)
+    meets e other whole = grind (arith, turn, mount_meets, of_mount, of_plain)
 
 -- ---- the table and the pool
 
@@ -570,40 +368,16 @@ abbrev Plain : Reply → Type 0
 Plain (Ok a) = Unit {0}
 Plain (Err r) = is_for_pages r ≡ false
 
-or_plain : (s : State) (ts : List (Bool × Refusal)) → plain s ts ≡ true → (old : Table) (next : Reply × Table) → Plain next.0 → Plain (or_refused ts old next).0
-or_plain s [] e old next h = h
-or_plain s (x ∷ xs) e old next h =
-    let both = and_parts (not (is_for_pages x.1)) (plain s xs) e in
-    cond_both x.0 (Err x.1, old) (or_refused xs old next) (λ (y : Reply × Table). Plain y.0) (λ on. no_not (is_for_pages x.1) both.0) (λ off. or_plain s xs both.1 old next h)
-  where
-    no_not : (b : Bool) → not b ≡ true → b ≡ false
-    no_not true e = cc
-    no_not false e = refl
-
-known_plain : (old : Table) (o : Option ℕ) (f : ℕ → Reply × Table) → ((home : ℕ) → Plain (f home).0) → Plain (when_known old o f).0
-known_plain old None f h = refl
-known_plain old (Some home) f h = h home
-
 table_plain : (s : State) (nodes : ℕ) (old : Table) (e : TableEvent) → Plain (table_event nodes old e).0
-table_plain s nodes old (table.Add task home) =
-    or_plain s ((nat_le nodes home, NoSuchNode) ∷ (is_known old task, TaskExists) ∷ (is_crowded old, TooMany) ∷ []) refl old (Ok Done, added old task home) tt
-table_plain s nodes old (table.Find task) = known_plain old (home_of old task) _ (λ home. tt)
-table_plain s nodes old (table.FindAndAdd parent child) =
-    known_plain old (home_of old parent) _
-    (λ home. or_plain s ((is_known old child, TaskExists) ∷ (is_crowded old, TooMany) ∷ []) refl old (Ok Done, added old child home) tt)
-table_plain s nodes old (table.Remove task) = known_plain old (home_of old task) _ (λ home. tt)
+table_plain s nodes old e = grind arith
 
 pool_plain : (p : Pool) (e : PoolEvent) → Plain (pool_event p e).0
-pool_plain p (pool.Nr n) = tt
-pool_plain p (pool.Overcommit n) = cond_both (nat_le n most_overcommit) _ _ (λ (y : Reply × Pool). Plain y.0) (λ e. tt) (λ e. refl)
-pool_plain p pool.Meminfo = tt
-pool_plain p pool.Nodes = tt
+pool_plain p e = grind arith
 
 -- ---- a fork and an exit
 
 reply_plain : (o : Outcome) → KeepsGoing o → Plain (reply_of o)
-reply_plain (Refused r) h = h
-reply_plain (Answered a new) h = tt
+reply_plain o h = grind arith
 
 module _ (reply : Reply) (t : State) where
   -- what all ends of the rest lead to
@@ -629,17 +403,14 @@ module _ (reply : Reply) (t : State) where
       by_reply (Ok a) mid h next it = next it
 
   when_plain : (r : Reply) (mid : State) (next : Script) → Plain r → ((u : State) → IsScript u next reply t → Plain reply) → IsScript mid (when_done r next) reply t → Plain reply
-  when_plain (Err r) mid next h go is = subst Plain (sym is.0) h
-  when_plain (Ok a) mid next h go is = go mid is
+  when_plain r mid next h go is = grind arith
 
   module _ (s : State) where
     table_reply : (e : TableEvent) (r : Reply) (mid : State) → IsEvent s (Tasks e) r mid → Plain r
     table_reply e r mid is = subst Plain (ap (λ (q : Reply × State). q.0) is.2) (table_plain s (length s.nodes) s.table e)
 
     fork_plain : (parent child : ℕ) → IsScripted s (step.Fork parent child) reply t → Plain reply
-    fork_plain parent child is =
-        when_plain is.0 is.1 (fork_slots (range_with_len 0 (length s.slots)) [] parent child) (table_reply (table.FindAndAdd parent child) is.0 is.1 is.2)
-        (λ u it. forks_plain parent child (range_with_len 0 (length s.slots)) [] u it) is.3
+    fork_plain parent child is = grind (arith, when_plain, table_reply, forks_plain)
 
     exit_plain : (task : ℕ) → IsScripted s (step.Exit task) reply t → Plain reply
     exit_plain task is =
@@ -661,31 +432,16 @@ module _ (s : State) where
   none_asked x = true
 
   by_plain : (x : Step) → none_asked x ≡ true → (reply : Reply) → Plain reply → MeetsShortage s x reply
-  by_plain (step.Mount k options) none reply h = cc
-  by_plain (step.Remount k options) none reply h = cc
-  by_plain (step.Preallocate k name a b) none reply h = cc
-  by_plain (step.Map task k name a n sharing reserving) none reply h = cc
-  by_plain (step.Anon task n sharing reserving) none reply h = cc
-  by_plain (step.Fault task k number i t) none reply h = cc
-  by_plain (step.Load task k number i offset count) none reply h = cc
-  by_plain (step.Store task k number i offset bytes) none reply h = cc
-  by_plain x none (Ok a) h = tt
-  by_plain x none (Err r) h = h
+  by_plain x none reply h = grind arith
 
   plain_on : (old : Slot) (x : Step) (r : Refusal) → is_for_pages r ≡ false → IsShortOn (pool_of s) old x r
-  plain_on None x r e = e
-  plain_on (Some m) x r e = plain_short s m (asks m x) r e
+  plain_on old x r e = grind arith
 
   plain_mount : (l : Result Limits Refusal) (r : Refusal) → is_for_pages r ≡ false → IsMountShort (pool_of s) l r
-  plain_mount (Ok l) NoPages e = cc
-  plain_mount (Ok l) other e = e
-  plain_mount (Err x) r e = e
+  plain_mount l r e = grind arith
 
   plain_remount : (old : Slot) (l : Result Limits Refusal) (r : Refusal) → is_for_pages r ≡ false → IsRemountShortOn (pool_of s) old l r
-  plain_remount None l r e = e
-  plain_remount (Some m) (Ok l) NoPages e = cc
-  plain_remount (Some m) (Ok l) other e = e
-  plain_remount (Some m) (Err x) r e = e
+  plain_remount old l r e = grind arith
 
   -- what a remount of an open slot lacks
   remount_short : (k : ℕ) (options : List ℕ) (m : Mount) (reply : Reply) (t : State) → slot_at s k ≡ Some m → IsEvent s (OnSlot k (slot.Remount options)) reply t
@@ -700,10 +456,7 @@ module _ (s : State) where
       by_granted : (l : Limits) → limits s.nr s.page_size (wanted_of options) ≡ Ok l → (b : Bool)
           → (b ≡ false → can_grant (committed_with m l.min - committed_of m) (pool_of s) ≡ false)
           → MeetsShortage s (step.Remount k options) (reply_of (if b then Answered Done (Some (record m { limits = l })) else Refused NoPages))
-      by_granted l wanted true lacks = tt
-      by_granted l wanted false lacks =
-          subst (λ old. IsRemountShortOn (pool_of s) old (limits s.nr s.page_size (wanted_of options)) NoPages) (sym there)
-          (subst (λ x. IsRemountShort (pool_of s) m x NoPages) (sym wanted) (lacks refl))
+      by_granted l wanted b lacks = grind arith
 
       by_limits : (first : Bool) (x : Result Limits Refusal) → limits s.nr s.page_size (wanted_of options) ≡ x → (a : PoolAnswer)
           → ((l : Limits) → limits s.nr s.page_size (wanted_of options) ≡ Ok l → a.granted ≡ false → can_grant (committed_with m l.min - committed_of m) (pool_of s) ≡ false)
@@ -715,10 +468,7 @@ module _ (s : State) where
   event_remount : (k : ℕ) (options : List ℕ) (old : Slot) → slot_at s k ≡ old → (reply : Reply) (t : State) → IsEvent s (OnSlot k (slot.Remount options)) reply t
       → MeetsShortage s (step.Remount k options) reply
   event_remount k options (Some m) there reply t is = remount_short k options m reply t there is
-  event_remount k options None there reply t is =
-      let e = subst (λ (x : Slot). planned s k (slot_event s.page_size k is.0 x (slot.Remount options)) ≡ (reply, t)) there is.2 in
-      subst (λ r. MeetsShortage s (step.Remount k options) r) (ap (λ (q : Reply × State). q.0) e)
-      (plain_remount (slot_at s k) (limits s.nr s.page_size (wanted_of options)) NoSuchSlot refl)
+  event_remount k options None there reply t is = grind (arith, plain_remount)
 
   event_other : (k : ℕ) (e : SlotEvent) (reply : Reply) (t : State) → is_remount s e ≡ false → is_whole (OnSlot k e) ≡ true → IsEvent s (OnSlot k e) reply t
       → MeetsShortage s (slot_step k e) reply
@@ -727,27 +477,15 @@ module _ (s : State) where
 
   early_short : (x : Step) (r : Refusal) → is_early r ≡ true → MeetsShortage s x (Err r)
   early_short (step.Mount k options) r early = plain_mount (limits s.nr s.page_size (wanted_of options)) r (early_pages r early)
-  early_short (step.Remount k options) r early = plain_remount (slot_at s k) (limits s.nr s.page_size (wanted_of options)) r (early_pages r early)
-  early_short (step.Preallocate k name a b) r early = plain_on (slot_at s k) (step.Preallocate k name a b) r (early_pages r early)
-  early_short (step.Map task k name a n sharing reserving) r early = plain_on (slot_at s k) (step.Map task k name a n sharing reserving) r (early_pages r early)
-  early_short (step.Anon task n sharing reserving) r early = plain_on (slot_at s 0) (step.Anon task n sharing reserving) r (early_pages r early)
-  early_short (step.Fault task k number i t) r early = plain_on (slot_at s k) (step.Fault task k number i t) r (early_pages r early)
-  early_short (step.Load task k number i offset count) r early = plain_on (slot_at s k) (step.Load task k number i offset count) r (early_pages r early)
-  early_short (step.Store task k number i offset bytes) r early = plain_on (slot_at s k) (step.Store task k number i offset bytes) r (early_pages r early)
-  early_short x r early = early_pages r early
+  early_short x r early = grind (arith, plain_remount, early_pages, plain_on)
 
   event_short : (e : Event) (reply : Reply) (t : State) → is_whole e ≡ true → IsEvent s e reply t → MeetsShortage s (step_of e) reply
   event_short (OnSlot k (slot.Remount options)) reply t whole is = event_remount k options (slot_at s k) refl reply t is
   event_short (OnSlot k e) reply t whole is = event_other k e reply t refl whole is
-  event_short (Tasks (table.Add task home)) reply t whole is = by_plain (step.Connect task home) refl reply (table_reply reply t s (table.Add task home) reply t is)
-  event_short (Tasks (table.Find task)) reply t whole is = by_plain (step.Attach task) refl reply (table_reply reply t s (table.Find task) reply t is)
   event_short (Tasks (table.FindAndAdd parent child)) reply t whole is = cc
-  event_short (Tasks (table.Remove task)) reply t whole is = cc
-  event_short (OnPool (pool.Nr n)) reply t whole is = by_plain (step.Nr n) refl reply (subst Plain (ap (λ (q : Reply × State). q.0) is.2) (pool_plain (pool_of s) (pool.Nr n)))
-  event_short (OnPool (pool.Overcommit n)) reply t whole is =
-      by_plain (step.Overcommit n) refl reply (subst Plain (ap (λ (q : Reply × State). q.0) is.2) (pool_plain (pool_of s) (pool.Overcommit n)))
-  event_short (OnPool pool.Meminfo) reply t whole is = by_plain step.Meminfo refl reply (subst Plain (ap (λ (q : Reply × State). q.0) is.2) (pool_plain (pool_of s) pool.Meminfo))
-  event_short (OnPool pool.Nodes) reply t whole is = by_plain step.Nodes refl reply (subst Plain (ap (λ (q : Reply × State). q.0) is.2) (pool_plain (pool_of s) pool.Nodes))
+  event_short (Tasks e) reply t whole is = grind (arith, by_plain, table_reply)
+  event_short (OnPool (pool.Overcommit n)) reply t whole is = grind (arith, by_plain, pool_plain)
+  event_short (OnPool e) reply t whole is = grind (arith, by_plain, pool_plain)
 
   pub step_short : (reply : Reply) (t : State) (x : Step) → IsStep s x reply t → MeetsShortage s x reply
   step_short reply t x is =

@@ -1,21 +1,19 @@
 -- What an event of the pool alone tells is within the limits of a reply's text.
-use Rattle.std.proofs.Common.{◌≡◌, ◌*◌, ◌≤◌, List, [], ◌∷◌, ◌++◌, Ok, Err, length, map, replicate, sym, ap, subst, ◌∙◌, arith, nat_le}
+use Rattle.std.proofs.Common.{◌≡◌, ◌*◌, ◌≤◌, List, [], ◌∷◌, ◌++◌, length, map, replicate, sym, ap, subst, ◌∙◌, arith}
 use Rattle.std.specs.List.{All}
 use Rattle.std.proofs.lemmas.Bool.{cond_both}
 use Rattle.std.proofs.lemmas.List.Elements.{All-cons, All-head, All-replicate, All-tail, All-take}
 use Rattle.std.proofs.lemmas.List.Sums.{sum_by-cons}
-use Rattle.hp_model.specs.declared.answer.Answer.TheVariants.{Done}
 use Rattle.hp_model.specs.declared.answer.NodeCount.{NodeCount}
 use Rattle.hp_model.specs.declared.event.PoolEvent.{PoolEvent}
 use Rattle.hp_model.specs.declared.event.PoolEvent.TheVariants as pool
 use Rattle.hp_model.specs.declared.node.NodeRow.{NodeRow}
-use Rattle.hp_model.specs.declared.refusal.Refusal.TheVariants.{OutOfRange}
 use Rattle.hp_model.specs.machine.Plan.{Reply}
 use Rattle.hp_model.specs.machine.Settled.{IsSettledPool}
 use Rattle.hp_model.specs.pool.NodeRows.{IsRow, frames_of, total_of}
 use Rattle.hp_model.specs.pool.PoolCounts.{Pool}
 use Rattle.hp_model.specs.pool.Resize.{no_count, node_count, pool_event}
-use Rattle.hp_model.specs.Profile.{most_overcommit, most_frames, most_frames_in_all}
+use Rattle.hp_model.specs.Profile.{most_frames, most_frames_in_all}
 use Rattle.hp_model.specs.text.Writing.{IsWithinLimits}
 
 record Few (rows : List NodeRow) : Type 0 where
@@ -59,24 +57,15 @@ module _ (p : Pool) (st : IsSettledPool p) (nodes : length p.nodes.rows ≤ 4) w
   nr_small = (let most = most_frames_in in let below = in_pool.total in let total = st.total in omega (arith, most, below, total))
 
   pub meminfo_small : IsWithinLimits (pool_event p pool.Meminfo).0
-  meminfo_small =
-      let most = most_frames_in in
-      let below = in_pool.total in
-      let total = st.total in
-      (omega (arith, most, below, total), omega arith, omega arith, omega arith)
+  meminfo_small = grind (arith, most_frames_in, in_pool)
 
   pub nodes_small : IsWithinLimits (pool_event p pool.Nodes).0
   nodes_small = (nodes, All-take IsSmallRow 4 (map node_count p.nodes.rows ++ replicate 4 no_count) (rows_small p.nodes.rows st.rows))
 
 -- the event is told by the pool that it leaves
 pub event_small : (p q : Pool) (e : PoolEvent) (reply : Reply) → pool_event p e ≡ (reply, q) → IsSettledPool q → length q.nodes.rows ≤ 4 → IsWithinLimits reply
-event_small p q (pool.Nr n) reply is st nodes =
-    subst IsWithinLimits (ap (λ (x : Reply × Pool). x.0) is)
-    (let few = nr_small q st nodes in let same = ap (λ (x : Reply × Pool). x.1.nr) is in omega (arith, few, same))
-event_small p q (pool.Overcommit n) reply is st nodes =
-    subst IsWithinLimits (ap (λ (x : Reply × Pool). x.0) is)
-    (cond_both (nat_le n most_overcommit) (Ok Done, record p { overcommit = n }) (Err OutOfRange, p) (λ (x : Reply × Pool). IsWithinLimits x.0) (λ e. tt) (λ e. tt))
-event_small p q pool.Meminfo reply is st nodes =
-    subst IsWithinLimits (ap (λ (x : Pool). (pool_event x pool.Meminfo).0) (sym (ap (λ (x : Reply × Pool). x.1) is)) ∙ ap (λ (x : Reply × Pool). x.0) is) (meminfo_small q st nodes)
+event_small p q (pool.Nr n) reply is st nodes = grind (arith, nr_small)
+event_small p q (pool.Overcommit n) reply is st nodes = grind (arith, cond_both)
+event_small p q pool.Meminfo reply is st nodes = grind (arith, meminfo_small)
 event_small p q pool.Nodes reply is st nodes =
     subst IsWithinLimits (ap (λ (x : Pool). (pool_event x pool.Nodes).0) (sym (ap (λ (x : Reply × Pool). x.1) is)) ∙ ap (λ (x : Reply × Pool). x.0) is) (nodes_small q st nodes)

@@ -1,6 +1,7 @@
 -- What each step of a settled machine answers is within the limits of a reply's text.
-use Rattle.std.proofs.Common.{◌≡◌, subst, ℕ, suc, ◌+◌, ◌^◌, ◌<◌, ◌≤◌, ◌||◌, ◌==◌, ◌∙◌, Bool, true, false, not, Option, None, Some}
-use Rattle.std.proofs.Common.{Ok, Err, List, [], ◌∷◌, ◌++◌, length, refl, sym, ap, arith, cond, nat_lt, nat_le}
+use Rattle.std.proofs.lemmas.Grind.{common_steps}
+use Rattle.std.proofs.Common.{◌≡◌, subst, ℕ, suc, ◌+◌, ◌^◌, ◌<◌, ◌≤◌, ◌∙◌, Bool, true, false, not, None, Some}
+use Rattle.std.proofs.Common.{Ok, List, [], ◌∷◌, ◌++◌, length, refl, sym, ap, arith, cond}
 use Rattle.std.specs.List.{filter, position_or_len, range_with_len}
 use Rattle.std.proofs.lemmas.Bool.{cond_both, leb-false, ltb-false, or_parts}
 use Rattle.std.proofs.lemmas.List.{length-map}
@@ -15,44 +16,35 @@ use Rattle.hp_model.specs.declared.event.PoolEvent.TheVariants as pool
 use Rattle.hp_model.specs.declared.event.SlotEvent.{SlotEvent}
 use Rattle.hp_model.specs.declared.event.SlotEvent.TheVariants as slot
 use Rattle.hp_model.specs.declared.event.TableEvent.TheVariants as table
-use Rattle.hp_model.specs.declared.refusal.Refusal.{Refusal}
-use Rattle.hp_model.specs.declared.refusal.Refusal.TheVariants.{MountFull, OutOfMemory, OutOfRange, CrossesPage, TooMany, BeyondEnd}
-use Rattle.hp_model.specs.declared.refusal.Refusal.TheVariants.{NoSuchNode, TaskExists}
-use Rattle.hp_model.specs.declared.step.Intent.TheVariants.{Read, Write}
+use Rattle.hp_model.specs.declared.refusal.Refusal.TheVariants.{MountFull, OutOfMemory}
 use Rattle.hp_model.specs.declared.step.Step.{Step}
 use Rattle.hp_model.specs.declared.step.Step.TheVariants.{Exit, Fork}
-use Rattle.hp_model.specs.files.Access.{access}
 use Rattle.hp_model.specs.machine.Event.{IsEvent, has_maps_of}
 use Rattle.hp_model.specs.files.Fork.{forked}
 use Rattle.hp_model.specs.files.GiveBack.{punched, truncated, unlinked, unmapped_from, without_task}
 use Rattle.hp_model.specs.files.File.{Mount, maps_of, new_file, with_file}
 use Rattle.hp_model.specs.files.Fill.{lacking, range_filled, rising_nodes}
 use Rattle.hp_model.specs.pool.Grant.{is_full, rise}
-use Rattle.hp_model.specs.Lists.{is_among}
 use Rattle.hp_model.specs.machine.Machine.{pool_of, rows_of}
-use Rattle.hp_model.specs.files.MakeMap.{asked, mapped, next_number, numbers_of, with_new}
-use Rattle.hp_model.specs.files.Mapping.{is_of, is_map}
-use Rattle.hp_model.specs.pool.PoolCounts.{Pool}
-use Rattle.hp_model.specs.machine.Plan.{Reply, Slot, Outcome, Refused, Answered, Plan, Choice, continued, gives}
-use Rattle.hp_model.specs.Profile.{most_overcommit, most_bytes, most_map_pages, most_maps}
+use Rattle.hp_model.specs.files.MakeMap.{asked, mapped, next_number, with_new}
+use Rattle.hp_model.specs.files.Mapping.{is_map}
+use Rattle.hp_model.specs.machine.Plan.{Reply, Slot, Outcome, Refused, Answered, Plan, Choice, gives}
+use Rattle.hp_model.specs.Profile.{most_bytes}
 use Rattle.hp_model.specs.machine.Promises.{is_usage}
 use Rattle.hp_model.specs.pool.Resize.{pool_event}
 use Rattle.hp_model.specs.machine.Settled.{IsSettledState}
 use Rattle.hp_model.specs.machine.SlotEvent.{edited}
-use Rattle.hp_model.specs.machine.SlotEvent.{are_too_many_maps, byte_access, bytes_answer, is_beyond}
-use Rattle.hp_model.specs.machine.SlotEvent.{is_new_task_over, is_unmapped, load, slot_event, store, unentered}
-use Rattle.hp_model.specs.files.Spot.{Spot, again, written}
+use Rattle.hp_model.specs.machine.SlotEvent.{load, slot_event, store, unentered}
+use Rattle.hp_model.specs.files.Spot.{Spot}
 use Rattle.hp_model.specs.machine.State.{Node, State, slot_at}
 use Rattle.hp_model.specs.machine.Step.{Answer_with, Do, IsScript, IsStep, Script, Where_mapped, exit_slots, fork_slots, or_undone, script, when_done}
-use Rattle.hp_model.specs.machine.Table.{Table, added, home_of, is_crowded, is_known, or_refused, removed, table_event, when_known}
-use Rattle.hp_model.specs.files.Value.{value}
+use Rattle.hp_model.specs.machine.Table.{Table, table_event}
 use Rattle.hp_model.specs.text.Writing.{IsWithinLimits}
 use Rattle.hp_laws.proofs.counts.MountMoves.{IsSpot, spot_is}
-use Rattle.hp_laws.proofs.steps.Outcomes.{either_way, Always, always_test, always_then, always_weaker, event_ends, reply_of}
-use Rattle.hp_laws.proofs.accesses.Shown.{On, Same, Result, on_weaker, read_same, write_done}
+use Rattle.hp_laws.proofs.steps.Outcomes.{either_way, Always, always_weaker, event_ends, reply_of}
 use Rattle.hp_laws.proofs.steps.Whole.{by_event, is_whole, step_of}
 use Rattle.hp_laws.proofs.accesses.EndsDone.{fault_done}
-use Rattle.hp_laws.proofs.accesses.SlotShows.{always_fill, always_gives, always_grant, always_mount, always_remounting, bytes_on}
+use Rattle.hp_laws.proofs.accesses.SlotShows.{always_fill, always_gives, always_grant, always_mount, always_remounting}
 use Rattle.hp_laws.proofs.steps.Walk.{AreFewMaps, Walks, tells_all, walk_all}
 use Rattle.hp_laws.proofs.promises.SmallPool.{meminfo_small, most_frames_in, nodes_small}
 
@@ -66,8 +58,7 @@ count_le p [] = omega arith
 count_le p (x ∷ xs) = cond_both (not (p x)) (1 + position_or_len p xs) 0 (λ n. n ≤ suc (length xs)) (λ e. (let rest = count_le p xs in omega (arith, rest))) (λ e. omega arith)
 
 filter_head : {X : Type 0} (b : Bool) (x : X) (ys : List X) (n : ℕ) → length ys ≤ n → length (cond b (x ∷ ys) ys) ≤ suc n
-filter_head true x ys n le = omega (arith, le)
-filter_head false x ys n le = omega (arith, le)
+filter_head b x ys n le = grind arith
 
 filter_le : {X : Type 0} (p : X → Bool) (xs : List X) → length (filter p xs) ≤ length xs
 filter_le p [] = omega arith
@@ -75,13 +66,7 @@ filter_le p (x ∷ xs) = filter_head (p x) x (filter p xs) (length xs) (filter_l
 
 -- a map's number is at most two above the number of maps
 number_le : (task : ℕ) (m : Mount) → next_number task m ≤ length (maps_of m) + 2
-number_le task m =
-    let ns : List ℕ = numbers_of task (maps_of m) in
-    let at = count_le (λ n. not (is_among n ns)) (range_with_len 1 (length ns + 1)) in
-    let long = length-range_with_len 1 (length ns + 1) in
-    let few = filter_le (is_of task) (maps_of m) in
-    let same = length-map (filter (is_of task) (maps_of m)) (λ x. x.number) in
-    omega (arith, at, long, few, same)
+number_le task m = grind (arith, count_le, length-range_with_len, filter_le, length-map)
 
 pub rows_many : (s : State) (a : ℕ) (xs : List Node) → length (rows_of s a xs) ≡ length xs
 rows_many s a [] = refl
@@ -93,16 +78,11 @@ module _ (s : State) (st : IsSettledState s) where
 
   pool_small : (e : PoolEvent) → IsWithinLimits (pool_event (pool_of s) e).0
   pool_small (pool.Nr n) = omega (arith, most_frames_in (pool_of s) st.pool few_rows)
-  pool_small (pool.Overcommit n) = cond_both (nat_le n most_overcommit) (Ok Done, record (pool_of s) { overcommit = n })
-      (Err OutOfRange, pool_of s) (λ (q : Reply × Pool). IsWithinLimits q.0) (λ e. tt) (λ e. tt)
+  pool_small (pool.Overcommit n) = grind (arith, cond_both)
   pool_small pool.Meminfo = meminfo_small (pool_of s) st.pool few_rows
   pool_small pool.Nodes = nodes_small (pool_of s) st.pool few_rows
 
 -- ---- the task table
-
-or_small : (ts : List (Bool × Refusal)) (old new : Table) → IsWithinLimits (or_refused ts old (Ok Done, new)).0
-or_small [] old new = tt
-or_small (x ∷ ts) old new = cond_both x.0 (Err x.1, old) (or_refused ts old (Ok Done, new)) (λ (q : Reply × Table). IsWithinLimits q.0) (λ e. tt) (λ e. or_small ts old new)
 
 -- ---- events on a slot
 
@@ -121,35 +101,7 @@ mount_plain : (size k : ℕ) (c : Choice) (options : List ℕ) → Always Plain 
 mount_plain size k c options = always_mount Plain (λ r. tt) (λ l. tt) c size options
 
 few_maps : (m : Mount) (task n : ℕ) → AreFewMaps m task n → next_number task m < 2 ^ 64
-few_maps m task n e =
-    let parts = or_parts (nat_lt most_map_pages n) (are_too_many_maps m task) e in
-    let more = or_parts (nat_le most_maps (length (maps_of m))) (is_new_task_over m task) parts.1 in
-    let few = leb-false most_maps (length (maps_of m)) more.0 in
-    let number = number_le task m in omega (arith, few, number)
-
-module _ (size : ℕ) (c : Choice) (m : Mount) (home i : ℕ) (s : Spot) (at : IsSpot m s) (offset count : ℕ) where
-  abbrev FewBytes : Mount → Type 0
-  FewBytes n = count ≤ most_bytes
-
-  load_bytes : Always (On FewBytes) (byte_access c size m home i offset count Read s)
-  load_bytes =
-      always_test (On FewBytes) (is_unmapped s i || (count == 0)) OutOfRange _ tt
-      (λ a. always_test (On FewBytes) (nat_lt size (offset + count)) CrossesPage _ tt
-      (λ b. always_test (On FewBytes) (nat_lt most_bytes count) TooMany _ tt
-      (λ d. always_test (On FewBytes) (is_beyond s i) BeyondEnd (access c size m s home i Read) tt
-      (λ f. always_weaker (On (Same size m s at i)) (On FewBytes) (on_weaker (Same size m s at i) FewBytes (λ n h. ltb-false most_bytes count d)) (access c size m s home i Read)
-      (read_same size m s at i c home (leb-false (length s.file.cells) i f))))))
-
-  load_ends : (o : Outcome) → On FewBytes o → Plain (continued (λ n. Answered (bytes_answer offset count (value size (again n s).file (again n s).map i)) (Some n)) o)
-  load_ends (Refused r) on = tt
-  load_ends (Answered a None) on = absurd on
-  load_ends (Answered a (Some n)) on = on
-
-store_ends : (size : ℕ) (m : Mount) (s : Spot) (at : IsSpot m s) (i offset : ℕ) (bytes : List ℕ) (o : Outcome) → On (Result size m s at i) o
-    → Plain (continued (λ n. Answered Done (Some (written n s i offset bytes))) o)
-store_ends size m s at i offset bytes (Refused r) on = tt
-store_ends size m s at i offset bytes (Answered a None) on = absurd on
-store_ends size m s at i offset bytes (Answered a (Some n)) on = tt
+few_maps m task n e = grind (arith, or_parts, leb-false, number_le)
 
 abbrev PlainUnlessTold : SlotEvent → Plan → Type 0
 PlainUnlessTold e p = tells_all e ≡ false → Always Plain p
@@ -159,15 +111,10 @@ module _ (size k : ℕ) (c : Choice) (m : Mount) where
   done_plain new = always_gives Plain Done (Some m) new tt
 
   load_plain : (s : Spot) → IsSpot m s → (home i offset count : ℕ) → Always Plain (load c size m home i offset count s)
-  load_plain s at home i offset count =
-      always_then (On (λ n. count ≤ most_bytes)) Plain (λ n. Answered (bytes_answer offset count (value size (again n s).file (again n s).map i)) (Some n))
-      (load_ends size c m home i s at offset count) (byte_access c size m home i offset count Read s) (load_bytes size c m home i s at offset count)
+  load_plain s at home i offset count = grind (arith, common_steps)
 
   store_plain : (s : Spot) → IsSpot m s → (home i offset : ℕ) (bytes : List ℕ) → Always Plain (store c size m home i offset bytes s)
-  store_plain s at home i offset bytes =
-      always_then (On (Result size m s at i)) Plain (λ n. Answered Done (Some (written n s i offset bytes))) (store_ends size m s at i offset bytes)
-      (byte_access c size m home i offset (length bytes) Write s)
-      (bytes_on size c m home i (Result size m s at i) offset (length bytes) Write s (write_done size m s at i c home))
+  store_plain s at home i offset bytes = grind arith
 
   plain_walks : Walks size k c m PlainUnlessTold
   plain_walks = record {
@@ -203,11 +150,7 @@ slot_plain size k c (Some m) e apart =
     walk_all size k c m PlainUnlessTold (plain_walks size k c m) (λ options refl. always_remounting Plain (λ r. tt) m (λ l. tt) size options) (λ refl. done_plain size k c m None) e apart
 
 plain_small : (o : Outcome) → Plain o → Small o
-plain_small (Refused r) h = tt
-plain_small (Answered Done slot) h = tt
-plain_small (Answered (MapNo n) slot) h = h
-plain_small (Answered (Bytes count bytes) slot) h = h
-plain_small (Answered other slot) h = absurd h
+plain_small o h = grind arith
 
 pub slot_small : (size k : ℕ) (c : Choice) (old : Slot) (e : SlotEvent) → tells_all e ≡ false → Always Small (slot_event size k c old e)
 slot_small size k c old e apart = always_weaker Plain Small plain_small (slot_event size k c old e) (slot_plain size k c old e apart)
@@ -221,18 +164,7 @@ is_told (OnSlot k e) = tells_all e
 is_told other = false
 
 table_small : (n : ℕ) (x : Table) (e : TableEvent) → is_told (Tasks e) ≡ false → IsWithinLimits (table_event n x e).0
-table_small n x (table.Add task home) e = or_small ((nat_le n home, NoSuchNode) ∷ (is_known x task, TaskExists) ∷ (is_crowded x, TooMany) ∷ []) x (added x task home)
-table_small n x (table.Find task) e = cc
-table_small n x (table.FindAndAdd parent child) e = by_home (home_of x parent)
-  where
-    by_home : (o : Option ℕ) → IsWithinLimits (when_known x o (λ home. or_refused ((is_known x child, TaskExists) ∷ (is_crowded x, TooMany) ∷ []) x (Ok Done, added x child home))).0
-    by_home None = tt
-    by_home (Some home) = or_small ((is_known x child, TaskExists) ∷ (is_crowded x, TooMany) ∷ []) x (added x child home)
-table_small n x (table.Remove task) e = by_home (home_of x task)
-  where
-    by_home : (o : Option ℕ) → IsWithinLimits (when_known x o (λ home. (Ok Done, removed x task))).0
-    by_home None = tt
-    by_home (Some home) = tt
+table_small n x e e' = grind arith
 
 module _ (s : State) (st : IsSettledState s) where
   pub event_small : (e : Event) (reply : Reply) (t : State) → IsEvent s e reply t → is_told e ≡ false → IsWithinLimits reply
@@ -256,16 +188,14 @@ script_small (Where_mapped k task mapped other) all s reply t is =
     either_way (has_maps_of task (slot_at s k)) (λ it. script_small mapped all.0 s reply t it) (λ it. script_small other all.1 s reply t it) is
 
 when_small : (r : Reply) (next : Script) → Replies next → Replies (when_done r next)
-when_small (Err r) next all = tt
-when_small (Ok a) next all = all
+when_small r next all = grind arith
 
 exits_small : (ks : List ℕ) (task : ℕ) (next : Script) → Replies next → Replies (exit_slots ks task next)
 exits_small [] task next all = all
 exits_small (k ∷ ks) task next all = ((λ r. exits_small ks task next all), exits_small ks task next all)
 
 or_undone_small : (done : List ℕ) (child : ℕ) (r : Reply) (next : Script) → Replies next → Replies (or_undone done child r next)
-or_undone_small done child (Err r) next all = exits_small done child _ (λ reply. tt)
-or_undone_small done child (Ok a) next all = all
+or_undone_small done child r next all = grind (arith, exits_small)
 
 forks_small : (ks done : List ℕ) (parent child : ℕ) → Replies (fork_slots ks done parent child)
 forks_small [] done parent child = tt
@@ -275,13 +205,7 @@ forks_small (k ∷ ks) done parent child =
 -- ---- each step
 
 told_same : (e : Event) → is_whole e ≡ true → is_usage (step_of e) ≡ is_told e
-told_same (Tasks (table.Add task home)) whole = refl
-told_same (Tasks (table.Find task)) whole = refl
-told_same (Tasks other) whole = cc
-told_same (OnSlot k slot.Df) whole = refl
-told_same (OnSlot k other) whole = refl
-told_same (OnPool pool.Meminfo) whole = refl
-told_same (OnPool other) whole = refl
+told_same e whole = grind arith
 
 module _ (s : State) (st : IsSettledState s) where
   abbrev SmallUnlessTold : Step → Reply → State → Type 0
@@ -298,8 +222,4 @@ module _ (s : State) (st : IsSettledState s) where
       (exits_small (range_with_len 0 (length s.slots)) task (Answer_with (Ok Done)) tt)) s reply t it) reply t step is
 
 pub within_limits : (s : State) (step : Step) (reply : Reply) (t : State) → IsSettledState s → IsStep s step reply t → (is_usage step ≡ true → IsWithinLimits reply) → IsWithinLimits reply
-within_limits s step reply t st is usage = by_kind (is_usage step) refl
-  where
-    by_kind : (b : Bool) → is_usage step ≡ b → IsWithinLimits reply
-    by_kind true told = usage told
-    by_kind false apart = step_small s st reply t step is apart
+within_limits s step reply t st is usage = grind (arith, step_small)

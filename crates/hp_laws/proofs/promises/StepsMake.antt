@@ -1,11 +1,10 @@
 -- A step makes no name and no number but its own, and leaves no file that nobody has.
-use Rattle.std.proofs.Common.{◌≡◌, ⊎_elim, subst, ℕ, ◌<◌, ◌&&◌, ◌==◌, Bool, true, false, None, Some, Ok, Err, List, length, refl, sym, ap, ◌∙◌}
-use Rattle.std.specs.List.{slice_index_or, slice_set}
-use Rattle.std.specs.Str.{bytes_eq}
-use Rattle.std.proofs.lemmas.Bool.{cases_eq, cases_lt, eq-eqb, eqb-true, false_from_ne_true, ltb-true}
-use Rattle.std.proofs.lemmas.List.{get_or-set_other, get_or-set_same, get_or_past}
+use Rattle.std.proofs.Common.{arith}
+use Rattle.std.proofs.lemmas.Grind.{common_steps}
+use Rattle.std.proofs.Common.{◌≡◌, ⊎_elim, subst, ℕ, ◌<◌, ◌==◌, Bool, true, false, None, Ok, Err, List, length, refl, sym, ap, ◌∙◌}
+use Rattle.std.specs.List.{slice_set}
+use Rattle.std.proofs.lemmas.Bool.{eqb-true, false_from_ne_true, ltb-true}
 use Rattle.hp_model.specs.declared.answer.Answer.{Answer}
-use Rattle.hp_model.specs.declared.answer.Answer.TheVariants.{MapNo}
 use Rattle.hp_model.specs.declared.event.Event.{Event}
 use Rattle.hp_model.specs.declared.event.Event.TheVariants.{Tasks, Slot as OnSlot, Pool as OnPool}
 use Rattle.hp_model.specs.declared.event.SlotEvent.{SlotEvent}
@@ -18,8 +17,6 @@ use Rattle.hp_model.specs.machine.Named.{map_named}
 use Rattle.hp_model.specs.machine.Plan.{Answered, Outcome, Refused, Reply, Slot}
 use Rattle.hp_model.specs.machine.Promises.{IsForkLeft}
 use Rattle.hp_model.specs.machine.Settled.{IsSettledState}
-use Rattle.hp_model.specs.machine.SlotEvent.{has_name}
-use Rattle.hp_model.specs.machine.Sound.{IsSound}
 use Rattle.hp_model.specs.machine.State.{State, slot_at}
 use Rattle.hp_model.specs.machine.Step.{IsScript, IsScripted, IsStep, Script, script}
 use Rattle.hp_laws.specs.Balance.{left_by}
@@ -28,7 +25,6 @@ use Rattle.hp_laws.proofs.ending.GoneAfter.{exit_gone}
 use Rattle.hp_laws.proofs.ending.RefusedForks.{fork_refused}
 use Rattle.hp_laws.proofs.making.OnlyMade.{MakesNo, NoMore, any_file, has_map, made_by, more_made, name_absent, name_none}
 use Rattle.hp_laws.proofs.making.OnlyMade.{new_by, no_more, no_more_then, number_absent, number_none, slot_makes, without_more}
-use Rattle.hp_laws.proofs.sections.PoolTied.{left_sound}
 use Rattle.hp_laws.proofs.steps.Outcomes.{event_ends, reply_of}
 use Rattle.hp_laws.proofs.steps.Whole.{by_event, is_whole, slot_step, step_of}
 
@@ -36,11 +32,7 @@ use Rattle.hp_laws.proofs.steps.Whole.{by_event, is_whole, slot_step, step_of}
 
 -- what holds of the slot that is set, and of each as it was, holds of all slots
 pub each_slot : (s t : State) (k : ℕ) (n : Slot) → k < length s.slots → t.slots ≡ slice_set s.slots k n → (Q : ℕ → Slot → Type 0) → Q k n → ((o : ℕ) → Q o (slot_at s o)) → (o : ℕ) → Q o (slot_at t o)
-each_slot s t k n l slots Q here rest o =
-    subst (λ (xs : List Slot). Q o (slice_index_or xs o None)) (sym slots)
-    (⊎_elim (λ same. subst (λ i. Q i (slice_index_or (slice_set s.slots k n) i None)) (sym same) (subst (λ x. Q k x) (sym (get_or-set_same s.slots k n None l)) here))
-    (λ other. subst (λ x. Q o x) (sym (get_or-set_other s.slots k o n None other)) (rest o))
-    (cases_eq o k))
+each_slot s t k n l slots Q here rest o = grind (arith, common_steps)
 
 -- no slot of t has more than that of s
 abbrev AllNoMore : (made : ℕ → List ℕ → Bool) → (new : ℕ → ℕ → ℕ → Bool) → (s t : State) → Type 0
@@ -53,39 +45,16 @@ pub record Makes (s : State) (step : Step) (reply : Reply) (t : State) : Type 0 
   pub only : MakesOnly s step reply t
 
 makes : (s : State) (step : Step) (reply : Reply) (t : State) → AllNoMore (is_made_name step reply) (is_made_number step reply) s t → Makes s step reply t
-makes s step reply t all = record {
-  held = λ o. (all o).held;
-  only = record {
-    names = λ o name off none. name_none name (slot_at t o)
-        (false_from_ne_true (any_file (has_name name) (slot_at t o))
-        (λ on. (let was = (all o).names name off on in let not = name_absent name (slot_at s o) none in cc)));
-    numbers = λ o task number off none. number_none task number (slot_at t o)
-        (false_from_ne_true (any_file (has_map task number) (slot_at t o))
-        (λ on. (let was = (all o).numbers task number off on in let not = number_absent task number (slot_at s o) none in cc)));
-  };
-}
+makes s step reply t all = grind (arith, name_none, false_from_ne_true, any_file, name_absent, number_none, has_map, number_absent)
 
 same_makes : (s : State) (step : Step) (reply : Reply) (t : State) → t.slots ≡ s.slots → Makes s step reply t
-same_makes s step reply t same =
-    makes s step reply t (λ o. subst (λ (xs : List Slot). NoMore (is_made_name step reply o) (is_made_number step reply o) (slot_at s o) (slice_index_or xs o None)) (sym same)
-    (no_more (is_made_name step reply o) (is_made_number step reply o) (slot_at s o)))
-
--- on its own slot a step makes what its event makes
-at_own : (k : ℕ) (b : Bool) → ((k == k) && b) ≡ false → b ≡ false
-at_own k b off = sym (ap (λ c. c && b) (eq-eqb k k refl)) ∙ off
+same_makes s step reply t same = grind arith
 
 name_made : (k : ℕ) (e : SlotEvent) (a : Answer) → is_whole (OnSlot k e) ≡ true → (name : List ℕ) → is_made_name (slot_step k e) (Ok a) k name ≡ false → made_by e name ≡ false
-name_made k (slot.Create made) a whole name off = at_own k (bytes_eq made name) off
-name_made k other a whole name off = refl
+name_made k e a whole name off = grind arith
 
 number_made : (k : ℕ) (e : SlotEvent) (a : Answer) → is_whole (OnSlot k e) ≡ true → (task number : ℕ) → is_made_number (slot_step k e) (Ok a) k task number ≡ false → new_by e a task number ≡ false
-number_made k (slot.Map owner home name a n sharing reserving) (MapNo made) whole task number off = at_own k ((owner == task) && (made == number)) off
-number_made k (slot.Map owner home name a n sharing reserving) other whole task number off = refl
-number_made k (slot.Anon owner home n sharing reserving) (MapNo made) whole task number off =
-    sym (ap (λ c. c && ((owner == task) && (made == number))) (eq-eqb 0 k (sym (eqb-true k 0 whole)))) ∙ off
-number_made k (slot.Anon owner home n sharing reserving) other whole task number off = refl
-number_made k (slot.ForkMaps parent child) a whole task number off = cc
-number_made k other a whole task number off = refl
+number_made k e a whole task number off = grind arith
 
 module _ (s : State) where
   slot_step_makes : (k : ℕ) (e : SlotEvent) (reply : Reply) (t : State) → is_whole (OnSlot k e) ≡ true → IsEvent s (OnSlot k e) reply t → Makes s (slot_step k e) reply t
@@ -94,11 +63,7 @@ module _ (s : State) where
       subst (λ r. Makes s (slot_step k e) r t) (sym ends.replied) (by_outcome ends.outcome ends.holds ends.slots)
     where
       by_outcome : (o : Outcome) → MakesNo e (slot_at s k) o → t.slots ≡ slice_set s.slots k (left_by (slot_at s k) o) → Makes s (slot_step k e) (reply_of o) t
-      by_outcome (Refused r) h slots =
-          makes s (slot_step k e) (Err r) t
-          (each_slot s t k (slot_at s k) (ltb-true k (length s.slots) is.1.0) slots (λ o x. NoMore (is_made_name (slot_step k e) (Err r) o) (is_made_number (slot_step k e) (Err r) o) (slot_at s o) x)
-          (no_more (is_made_name (slot_step k e) (Err r) k) (is_made_number (slot_step k e) (Err r) k) (slot_at s k))
-          (λ o. no_more (is_made_name (slot_step k e) (Err r) o) (is_made_number (slot_step k e) (Err r) o) (slot_at s o)))
+      by_outcome (Refused r) h slots = grind (arith, common_steps, makes, slot_step, each_slot, ltb-true, NoMore, no_more)
       by_outcome (Answered a new) h slots =
           makes s (slot_step k e) (Ok a) t
           (each_slot s t k new (ltb-true k (length s.slots) is.1.0) slots (λ o x. NoMore (is_made_name (slot_step k e) (Ok a) o) (is_made_number (slot_step k e) (Ok a) o) (slot_at s o) x)
@@ -107,8 +72,7 @@ module _ (s : State) where
 
   event_makes : (e : Event) (reply : Reply) (t : State) → is_whole e ≡ true → IsEvent s e reply t → Makes s (step_of e) reply t
   event_makes (OnSlot k e) reply t whole is = slot_step_makes k e reply t whole is
-  event_makes (Tasks e) reply t whole is = same_makes s (step_of (Tasks e)) reply t (sym (ap (λ (q : Reply × State). q.1.slots) is.2))
-  event_makes (OnPool e) reply t whole is = same_makes s (step_of (OnPool e)) reply t (sym (ap (λ (q : Reply × State). q.1.slots) is.2))
+  event_makes e reply t whole is = grind (arith, same_makes, step_of)
 
 -- ---- a fork and an exit
 
@@ -131,9 +95,7 @@ of_event gone s k e reply t numbers names is =
         (more_made (made_by e) (λ name. false) (new_by e a) (λ task number. gone == task) (slot_at s k) new (λ name off. names name) (numbers a) h) as_was
 
 task_event : (gone : ℕ) (s : State) (e : Event) (reply : Reply) (t : State) → IsOf gone e → IsEvent s e reply t → OfTask gone s t
-task_event gone s (Tasks e) reply t of is = λ o.
-    subst (λ (xs : List Slot). NoMore (λ name. false) (λ task number. gone == task) (slot_at s o) (slice_index_or xs o None)) (ap (λ (q : Reply × State). q.1.slots) is.2)
-    (no_more (λ name. false) (λ task number. gone == task) (slot_at s o))
+task_event gone s (Tasks e) reply t of is = grind (arith, NoMore, no_more)
 task_event gone s (OnSlot k (slot.ExitMaps task)) reply t of is = of_event gone s k (slot.ExitMaps task) reply t (λ a t u off. refl) (λ name. refl) is
 task_event gone s (OnSlot k (slot.ForkMaps parent child)) reply t of is =
     of_event gone s k (slot.ForkMaps parent child) reply t (λ a t u off. ap (λ c. c == t) of ∙ off) (λ name. refl) is
@@ -180,8 +142,4 @@ module _ (s : State) (st : IsSettledState s) where
 -- ---- what stands once
 
 pub once : (t : State) → IsSettledState t → (slot : ℕ) → AreOnce (slot_at t slot)
-once t st k = ⊎_elim (λ low. by_slot (slot_at t k) (left_sound t k low st)) (λ past. subst AreOnce (sym (get_or_past t.slots k None past)) tt) (cases_lt k (length t.slots))
-  where
-    by_slot : (x : Slot) → IsSound x → AreOnce x
-    by_slot None sound = tt
-    by_slot (Some m) sound = record { names = sound.names; numbers = sound.numbers }
+once t st k = grind (arith, common_steps)

@@ -1,30 +1,26 @@
 -- A step that does not lower nr leaves surplus pages within overcommit, or no more than there were.
-use Rattle.std.proofs.Common.{◌≡◌, ⊎_elim, ℕ, ◌+◌, ◌≤◌, ◌==◌, true, Err, refl, sym, ap, ◌∙◌, max, arith, nat_le, length}
-use Rattle.std.proofs.lemmas.Bool.{cond_both, eqb-true, leb-true, or_cases}
+use Rattle.std.proofs.Common.{◌≡◌, ℕ, ◌+◌, ◌≤◌, true, refl, sym, ap, ◌∙◌, max, arith, length}
+use Rattle.std.proofs.lemmas.Bool.{cond_both}
 use Rattle.hp_model.specs.declared.event.Event.{Event}
 use Rattle.hp_model.specs.declared.event.Event.TheVariants.{Tasks, Slot as OnSlot, Pool as OnPool}
 use Rattle.hp_model.specs.declared.event.PoolEvent.{PoolEvent}
-use Rattle.hp_model.specs.declared.event.PoolEvent.TheVariants.{Meminfo, Nodes, Nr, Overcommit}
 use Rattle.hp_model.specs.declared.event.SlotEvent.{SlotEvent}
 use Rattle.hp_model.specs.declared.event.TableEvent.{TableEvent}
-use Rattle.hp_model.specs.declared.refusal.Refusal.TheVariants.{OutOfRange}
 use Rattle.hp_model.specs.declared.section.PoolAnswer.{PoolAnswer}
 use Rattle.hp_model.specs.declared.section.Section.{Section}
-use Rattle.hp_model.specs.declared.section.Section.TheVariants.{Grant, GrantAndReturn, GrantPage, GiveBack, ReadAndGiveBack, ReadAndGrant, TakePage, FillPages}
 use Rattle.hp_model.specs.declared.step.Step.{Step}
 use Rattle.hp_model.specs.declared.step.Step.TheVariants.{Exit, Fork}
 use Rattle.hp_model.specs.machine.Event.{IsEvent}
 use Rattle.hp_model.specs.machine.Machine.{committed_pages, counts_in, pool_of}
-use Rattle.hp_model.specs.machine.Plan.{Ask, Finish, Plan, Reply}
+use Rattle.hp_model.specs.machine.Plan.{Plan, Reply}
 use Rattle.hp_model.specs.machine.Settled.{IsSettledState}
 use Rattle.hp_model.specs.machine.SlotEvent.{slot_event}
 use Rattle.hp_model.specs.machine.State.{State, slot_at}
 use Rattle.hp_model.specs.machine.Step.{IsScripted, IsStep, script}
-use Rattle.hp_model.specs.pool.Grant.{can_grant, most}
+use Rattle.hp_model.specs.pool.Grant.{can_grant}
 use Rattle.hp_model.specs.pool.Pool.{section}
 use Rattle.hp_model.specs.pool.PoolCounts.{Pool}
 use Rattle.hp_model.specs.pool.Resize.{pool_event}
-use Rattle.hp_model.specs.Profile.{most_overcommit}
 use Rattle.hp_model.proofs.RowMoves.{puts_are}
 use Rattle.hp_laws.specs.Laws.{pool_after, pool_left}
 use Rattle.hp_laws.proofs.ending.Fades.{IsOf, exit_of, fork_of, script_keeps}
@@ -39,20 +35,10 @@ abbrev Within : Pool → PoolAnswer × Pool → Type 0
 Within p q = q.1.committed ≤ max p.committed (p.nr + p.overcommit)
 
 granted_within : (p : Pool) (d : ℕ) → can_grant d p ≡ true → p.committed + d ≤ max p.committed (p.nr + p.overcommit)
-granted_within p d e =
-    ⊎_elim (λ none. (let zero_d = eqb-true d 0 none in omega (arith, zero_d)))
-    (λ fits. (let le = leb-true (p.committed + d) (most p) fits in omega (arith, le)))
-    (or_cases (d == 0) (nat_le (p.committed + d) (most p)) e)
+granted_within p d e = grind arith
 
 section_within : (p : Pool) (x : Section) → Within p (section p x)
-section_within p (Grant home d) = cond_both (can_grant d p) _ _ (Within p) (λ e. granted_within p d e) (λ e. omega arith)
-section_within p (GrantPage home d) = cond_both (can_grant d p) _ _ (Within p) (λ e. granted_within p d e) (λ e. omega arith)
-section_within p (TakePage home) = omega arith
-section_within p (FillPages d n) = cond_both (can_grant d p) _ _ (Within p) (λ e. granted_within p d e) (λ e. omega arith)
-section_within p (GiveBack puts k) = (let same = ap (λ (q : Pool). q.committed) (puts_are puts p) in omega (arith, same))
-section_within p (ReadAndGrant d) = cond_both (can_grant d p) _ _ (Within p) (λ e. granted_within p d e) (λ e. omega arith)
-section_within p (ReadAndGiveBack k) = omega arith
-section_within p (GrantAndReturn d) = cond_both (can_grant d p) _ _ (Within p) (λ e. omega arith) (λ e. omega arith)
+section_within p x = grind (arith, cond_both, granted_within, puts_are)
 
 -- ---- events
 
@@ -63,17 +49,10 @@ record Commits (s t : State) : Type 0 where
 
 -- by the pool that is left
 by_pool : (s t : State) (q : Pool) → pool_of t ≡ q → q.nr ≡ s.nr → q.overcommit ≡ s.overcommit → q.committed ≤ max (committed_pages s) (s.nr + s.overcommit) → Commits s t
-by_pool s t q same nr overcommit le = record {
-  nr = ap (λ (p : Pool). p.nr) same ∙ nr;
-  overcommit = ap (λ (p : Pool). p.overcommit) same ∙ overcommit;
-  committed = (let c = ap (λ (p : Pool). p.committed) same in omega (arith, c, le));
-}
+by_pool s t q same nr overcommit le = grind arith
 
 plan_commits : (s t : State) (p : Plan) → pool_of t ≡ pool_after s p → Commits s t
-plan_commits s t (Finish o) same = by_pool s t (pool_of s) same refl refl (omega arith)
-plan_commits s t (Ask sec f) same =
-    let numbers = section_numbers (pool_of s) (sec s.nr) in
-    by_pool s t (section (pool_of s) (sec s.nr)).1 same numbers.0 numbers.1 (section_within (pool_of s) (sec s.nr))
+plan_commits s t p same = grind (arith, by_pool, section_numbers, section_within)
 
 event_tied : (s : State) → IsSettledState s → (e : Event) (reply : Reply) (t : State) (is : IsEvent s e reply t) → pool_of t ≡ pool_left is.0 s e
 event_tied s st e reply t is = ap (λ (x : Reply × State). pool_of x.1) (sym is.2) ∙ (pool_is_tied is.0 s e is.1 st).0
@@ -98,16 +77,11 @@ same_bounded : (s t : State) → committed_pages t ≡ committed_pages s → IsB
 same_bounded s t same = λ le. omega (arith, same, le)
 
 pool_committed : (p : Pool) (e : PoolEvent) → (pool_event p e).1.committed ≡ p.committed
-pool_committed p (Nr n) = refl
-pool_committed p (Overcommit n) = cond_both (nat_le n most_overcommit) _ (Err OutOfRange, p) (λ (x : Reply × Pool). x.1.committed ≡ p.committed) (λ e. refl) (λ e. refl)
-pool_committed p Meminfo = refl
-pool_committed p Nodes = refl
+pool_committed p e = grind arith
 
 event_bounded : (s : State) → IsSettledState s → (e : Event) (reply : Reply) (t : State) → IsEvent s e reply t → IsBounded s t
 event_bounded s st (OnSlot k e) reply t is = bounded s t (slot_commits s st k e reply t is)
-event_bounded s st (Tasks e) reply t is = bounded s t (table_commits s st e reply t is)
-event_bounded s st (OnPool e) reply t is =
-    same_bounded s t (ap (λ (p : Pool). p.committed) (event_tied s st (OnPool e) reply t is) ∙ pool_committed (pool_of s) e)
+event_bounded s st e reply t is = grind (arith, bounded, table_commits, same_bounded, event_tied, pool_committed)
 
 -- of scripts that end maps of a task
 abbrev Goes : (s t : State) → Type 0
@@ -119,16 +93,7 @@ goes_event gone s (OnSlot k e) reply t of is st = (event_settled s (OnSlot k e) 
 goes_event gone s (OnPool e) reply t of is st = absurd of
 
 goes_then : (s m t : State) → Goes s m → Goes m t → Goes s t
-goes_then s m t a b st =
-    let first = a st in
-    let second = b first.0 in
-    let nr = first.1.nr in
-    let over = first.1.overcommit in
-    let c = first.1.committed in
-    let d = second.1.committed in (
-      second.0,
-      record { nr = second.1.nr ∙ nr; overcommit = second.1.overcommit ∙ over; committed = omega (arith, nr, over, c, d) },
-    )
+goes_then s m t a b st = grind arith
 
 goes_same : (s : State) → Goes s s
 goes_same s st = (st, record { nr = refl; overcommit = refl; committed = omega arith })

@@ -1,69 +1,59 @@
 -- A step is refused by the first of its tests that fails; one that fails none is done, where there are pages and memory.
+use Rattle.std.proofs.Common.{arith}
+use Rattle.std.proofs.lemmas.Grind.{common_steps}
 use Rattle.std.specs.List.{range_with_len}
-use Rattle.std.proofs.Common.{◌≡◌, ◌⊎◌, inl, inr, subst, ℕ, ◌+◌, ◌&&◌, ◌||◌, ◌==◌, Bool, true, false, not, None, Option, Some, is_some, Result as ResultOf, Ok, Err, List, [], ◌∷◌}
-use Rattle.std.proofs.Common.{◌++◌, length, refl, sym, ap, ◌∙◌, if◌then◌else◌, nat_le, nat_lt}
-use Rattle.std.proofs.lemmas.Bool.{cond_both, ltb-false}
+use Rattle.std.proofs.Common.{◌≡◌, ◌⊎◌, inl, subst, ℕ, ◌+◌, ◌&&◌, ◌||◌, ◌==◌, Bool, true, false, not, None, Option, Some, is_some, Result as ResultOf, Ok, Err, List, [], ◌∷◌}
+use Rattle.std.proofs.Common.{◌++◌, length, refl, sym, ap, ◌∙◌, if◌then◌else◌, nat_lt}
+use Rattle.std.proofs.lemmas.Bool.{ltb-false}
 use Rattle.std.proofs.lemmas.List.{get_or_past}
-use Rattle.hp_model.specs.declared.answer.Answer.TheVariants.{Done, Home}
-use Rattle.hp_model.specs.declared.cell.Cell.{Cell}
-use Rattle.hp_model.specs.declared.cell.Cell.TheVariants.{Hole, Entered, Present}
+use Rattle.hp_model.specs.declared.answer.Answer.TheVariants.{Done}
 use Rattle.hp_model.specs.declared.event.Event.TheVariants.{Tasks, Slot as OnSlot, Pool as OnPool}
 use Rattle.hp_model.specs.declared.event.PoolEvent.TheVariants as pool
 use Rattle.hp_model.specs.declared.event.SlotEvent.{SlotEvent}
 use Rattle.hp_model.specs.declared.event.SlotEvent.TheVariants as slot
 use Rattle.hp_model.specs.declared.event.TableEvent.TheVariants as table
 use Rattle.hp_model.specs.declared.limits.Limits.{Limits}
-use Rattle.hp_model.specs.declared.place.Place.{Place}
-use Rattle.hp_model.specs.declared.place.Place.TheVariants.{Gone, Live}
 use Rattle.hp_model.specs.declared.refusal.Refusal.{Refusal}
-use Rattle.hp_model.specs.declared.refusal.Refusal.TheVariants.{BadName, BeyondEnd, CrossesPage, FileExists, MountFull, NoPages, NoSuchFile, NoSuchMap, NoSuchNode, NoSuchSlot, NoSuchTask}
-use Rattle.hp_model.specs.declared.refusal.Refusal.TheVariants.{NoInodes, OutOfMemory, OutOfRange, SlotTaken, TakenByOwner, TaskExists, TooMany}
+use Rattle.hp_model.specs.declared.refusal.Refusal.TheVariants.{BeyondEnd, CrossesPage, NoPages, NoSuchFile, NoSuchMap, NoSuchSlot, NoSuchTask}
+use Rattle.hp_model.specs.declared.refusal.Refusal.TheVariants.{OutOfRange, SlotTaken, TakenByOwner, TooMany}
 use Rattle.hp_model.specs.declared.step.Intent.{Intent}
-use Rattle.hp_model.specs.declared.step.Intent.TheVariants.{Read, Write}
+use Rattle.hp_model.specs.declared.step.Intent.TheVariants.{Read}
 use Rattle.hp_model.specs.declared.step.Sharing.{Sharing}
-use Rattle.hp_model.specs.declared.step.Sharing.TheVariants.{Private, Shared}
 use Rattle.hp_model.specs.declared.step.Step.{Step}
 use Rattle.hp_model.specs.declared.step.Step.TheVariants as step
-use Rattle.hp_model.specs.files.Access.{access, new_copy, private_access, shared_access, uncopied_access}
-use Rattle.hp_model.specs.files.CopyWrite.{copy_write, is_held_once, owner_write, taken_back}
-use Rattle.hp_model.specs.files.File.{Mount, cell_at, has_page, maps_of, new_file}
-use Rattle.hp_model.specs.files.Fork.{forked}
-use Rattle.hp_model.specs.files.Mapping.{copy_of, is_live, is_map, is_shared, place_at}
+use Rattle.hp_model.specs.files.Access.{access, private_access, shared_access}
+use Rattle.hp_model.specs.files.File.{Mount, cell_at, new_file}
+use Rattle.hp_model.specs.files.Mapping.{copy_of, is_map, is_shared, place_at}
 use Rattle.hp_model.specs.files.Options.{limits, wanted_of}
-use Rattle.hp_model.specs.files.Page.{Copy, Page}
-use Rattle.hp_model.specs.files.Spot.{Spot, again, spot, written}
+use Rattle.hp_model.specs.files.Spot.{Spot, again, spot}
 use Rattle.hp_model.specs.files.Value.{value}
-use Rattle.hp_model.specs.machine.Event.{IsEvent, has_maps_of, planned, with_outcome, with_table}
-use Rattle.hp_model.specs.machine.Plan.{Answered, Ask, Choice, Finish, Outcome, Plan, Refused, Reply, Slot, continued, gives, grant, grant_page, refuse, unless, when_granted, with_value}
-use Rattle.hp_model.specs.machine.SlotEvent.{anon_tests, byte_access, byte_tests, bytes_answer, edited, fault, fault_tests, file_named}
-use Rattle.hp_model.specs.machine.SlotEvent.{is_bad_range, is_beyond, is_name, is_unmapped, load, fill, preallocate, preallocate_tests}
-use Rattle.hp_model.specs.machine.SlotEvent.{map_file, map_tests, mount_outcome, mount_pages, mount_section, punch, read, read_tests}
-use Rattle.hp_model.specs.machine.SlotEvent.{remount_outcome, slot_event, stat, store, truncate, umount_tests, unlink, unmap}
+use Rattle.hp_model.specs.machine.Event.{IsEvent, has_maps_of, planned, with_outcome}
+use Rattle.hp_model.specs.machine.Plan.{Answered, Choice, Outcome, Plan, Refused, Reply, Slot, continued, gives, grant, refuse, unless, with_value}
+use Rattle.hp_model.specs.machine.SlotEvent.{anon_tests, byte_access, byte_tests, bytes_answer, fault, fault_tests, file_named}
+use Rattle.hp_model.specs.machine.SlotEvent.{is_beyond, is_unmapped, load}
+use Rattle.hp_model.specs.machine.SlotEvent.{map_file, map_tests, mount_outcome, mount_pages, mount_section}
+use Rattle.hp_model.specs.machine.SlotEvent.{remount_outcome, slot_event, store}
 use Rattle.hp_model.specs.machine.State.{State, slot_at}
-use Rattle.hp_model.specs.machine.Step.{Answer_with, IsScript, IsScripted, IsStep, Script, exit_slots, finding, fork_slots, home_in, on_slot, only, or_undone, undone, when_done}
-use Rattle.hp_model.specs.machine.Table.{Table, added, home_of, is_crowded, is_known, or_refused, removed, when_known}
+use Rattle.hp_model.specs.machine.Step.{Answer_with, IsScript, IsScripted, IsStep, Script, finding, fork_slots, on_slot, only, or_undone, undone}
+use Rattle.hp_model.specs.machine.Table.{Table, home_of, or_refused}
 use Rattle.hp_model.specs.machine.Tests.{IsForkRefusedBy, IsRefusedBy, MeetsTests, cut_off_test, failed, failed_at, failed_by}
 use Rattle.hp_model.specs.machine.Tests.{failed_mount, failed_on, failed_remount, first_failed, if_there, is_short, refused_limits}
-use Rattle.hp_model.specs.files.GiveBack.{punched, truncated, unlinked, unmapped_from}
-use Rattle.hp_model.specs.files.MakeMap.{asked, tasks_of, with_new}
+use Rattle.hp_model.specs.files.MakeMap.{asked}
 use Rattle.hp_model.specs.machine.Machine.{pool_of, with_pool}
-use Rattle.hp_model.specs.pool.Grant.{is_full, is_over, rise}
 use Rattle.hp_model.specs.declared.section.PoolAnswer.{PoolAnswer}
-use Rattle.hp_model.specs.declared.section.Section.TheVariants.{Grant, GrantPage}
 use Rattle.hp_model.specs.pool.Pool.{section}
 use Rattle.hp_model.specs.pool.PoolCounts.{Pool}
 use Rattle.hp_model.specs.pool.Resize.{pool_event}
 use Rattle.hp_model.specs.declared.step.Reserving.{Reserving}
 use Rattle.hp_model.specs.declared.event.PoolEvent.{PoolEvent}
-use Rattle.hp_model.specs.Profile.{most_bytes, most_file_pages, most_files, most_maps, most_overcommit, most_tasks}
+use Rattle.hp_model.specs.Profile.{most_bytes}
 use Rattle.hp_laws.proofs.ending.Fades.{exits_done}
 use Rattle.hp_laws.proofs.ending.RefusedForks.{either_with}
 use Rattle.hp_laws.proofs.promises.Shortage.{exits_lead}
 use Rattle.hp_laws.proofs.steps.SlotsBalanced.{tells_nr}
-use Rattle.hp_laws.proofs.steps.Outcomes.{Always, always_if, always_then, event_ends, only_goes, outcome_if, reply_of}
+use Rattle.hp_laws.proofs.steps.Outcomes.{Always, always_if, always_then, event_ends, only_goes, reply_of}
 use Rattle.hp_laws.proofs.making.Remounts.{remount_ends, remount_told}
 use Rattle.hp_laws.proofs.accesses.SlotShows.{always_gives}
-use Rattle.hp_model.specs.files.Fill.{lacking}
 
 -- ---- outcomes
 
@@ -76,8 +66,7 @@ Short o = Fits None o
 
 fits_test : (b : Bool) (r : Refusal) (ts : List (Bool × Refusal)) (p : Plan) → (b ≡ false → Always (Fits (first_failed ts)) p)
     → Always (Fits (if b then Some r else first_failed ts)) (if b then refuse r else p)
-fits_test true r ts p h = refl
-fits_test false r ts p h = h refl
+fits_test b r ts p h = grind arith
 
 fits_tests : (ts us : List (Bool × Refusal)) (p : Plan) → Always (Fits (first_failed us)) p → Always (Fits (first_failed (ts ++ us))) (unless ts p)
 fits_tests [] us p h = h
@@ -85,24 +74,16 @@ fits_tests (t ∷ ts) us p h = fits_test t.0 t.1 (ts ++ us) (unless ts p) (λ e.
 
 fits_there : {X : Type 0} (o : Option X) (r : Refusal) (g : X → Option Refusal) (f : X → Plan) → ((x : X) → Always (Fits (g x)) (f x))
     → Always (Fits (if_there o r g)) (with_value o r f)
-fits_there None r g f h = refl
-fits_there (Some x) r g f h = h x
+fits_there o r g f h = grind arith
 
 short_test : (b : Bool) (r : Refusal) (p : Plan) → Short (Refused r) → Always Short p → Always Short (if b then refuse r else p)
-short_test true r p e h = e
-short_test false r p e h = h
+short_test b r p e h = grind arith
 
 granted_short : (b : Bool) (o : Outcome) → Short o → Short (if b then o else Refused NoPages)
-granted_short true o h = h
-granted_short false o h = refl
+granted_short b o h = grind arith
 
 grant_short : (c : Choice) (m : Mount) (home k : ℕ) (o : Outcome) → Short o → Always Short (grant c m home k o)
-grant_short c m home k o h =
-    short_test _ MountFull _ refl (short_test c.refused OutOfMemory _ refl
-    (always_if Short (rise m k == 0) (Finish o) (Ask (λ nr. Grant home (rise m k)) (when_granted o)) (λ e. h) (λ e a. granted_short a.granted o h)))
-
-page_short : (c : Choice) (m : Mount) (home : ℕ) (f : ℕ → Outcome) → ((n : ℕ) → Short (f n)) → Always Short (grant_page c m home f)
-page_short c m home f h = short_test _ MountFull _ refl (short_test c.refused OutOfMemory _ refl (λ a. granted_short a.granted (f a.node) (h a.node)))
+grant_short c m home k o h = grind arith
 
 gives_short : (old new : Slot) → Always Short (gives Done old new)
 gives_short old new = always_gives Short Done old new refl
@@ -110,60 +91,19 @@ gives_short old new = always_gives Short Done old new refl
 -- ---- accesses
 
 module _ (c : Choice) (size : ℕ) (m : Mount) (s : Spot) (home i : ℕ) where
-  shared_short : (cell : Cell Page) → Always Short (shared_access c size m s home i cell)
-  shared_short (Present page) = refl
-  shared_short Entered = λ a. refl
-  shared_short Hole = page_short c m home _ (λ n. refl)
-
-  new_short : (consumed : Bool) → Always Short (new_copy c size m s home i consumed)
-  new_short consumed = always_if Short (s.map.owner && not consumed) _ _ (λ e a. refl) (λ e. page_short c m home _ (λ n. refl))
-
-  uncopied_short : (consumed : Bool) (intent : Intent) → Always Short (uncopied_access c size m s home i consumed intent)
-  uncopied_short consumed Write = new_short consumed
-  uncopied_short consumed Read = always_if Short (has_page (cell_at s.file i)) _ _ (λ e. refl) (λ e. new_short consumed)
-
-  owner_short : (stamp : ℕ) (fresh : ℕ → Outcome) → ((n : ℕ) → Short (fresh n)) → Always Short (owner_write m s home stamp fresh)
-  owner_short stamp fresh h =
-      always_if Short (is_full m 1) (Finish (taken_back m s stamp)) (Ask (λ nr. GrantPage home (rise m 1)) (λ a. if a.granted then fresh a.node else taken_back m s stamp))
-      (λ f. refl) (λ f a. outcome_if Short a.granted (fresh a.node) (taken_back m s stamp) (h a.node) refl)
-
-  write_short : (consumed : Bool) (copy : Copy) → Always Short (copy_write c m s home i consumed copy)
-  write_short consumed copy =
-      always_if Short (is_held_once s.file copy.stamp) _ _ (λ e. refl)
-      (λ e. always_if Short s.map.owner _ _ (λ o. owner_short copy.stamp _ (λ n. refl)) (λ o. page_short c m home _ (λ n. refl)))
-
-  marked_fits : (b : Bool) (q : Plan) → Always Short q → Always (Fits (first_failed ((b && true, TakenByOwner) ∷ []))) (if b then refuse TakenByOwner else q)
-  marked_fits true q h = refl
-  marked_fits false q h = h
-
-  copied_fits : (b : Bool) (q : Plan) → Always Short q → Always (Fits (first_failed ((b && false, TakenByOwner) ∷ []))) q
-  copied_fits true q h = h
-  copied_fits false q h = h
-
-  private_fits : (p : Place Copy) (intent : Intent) → not (is_live p) ≡ false
-      → Always (Fits (first_failed ((s.map.unmapped && not (is_some (copy_of p)), TakenByOwner) ∷ []))) (private_access c size m s home i p intent)
-  private_fits Gone intent live = cc
-  private_fits (Live consumed (Some copy)) Read live = copied_fits s.map.unmapped (Finish (Answered Done (Some m))) refl
-  private_fits (Live consumed (Some copy)) Write live = copied_fits s.map.unmapped (copy_write c m s home i consumed copy) (write_short consumed copy)
-  private_fits (Live consumed None) intent live = marked_fits s.map.unmapped (uncopied_access c size m s home i consumed intent) (uncopied_short consumed intent)
-
   kind_fits : (kind : Sharing) (intent : Intent) → is_unmapped s i ≡ false
       → Always (Fits (first_failed ((not (is_shared kind) && (s.map.unmapped && not (is_some (copy_of (place_at s.map i)))), TakenByOwner) ∷ [])))
       (if is_shared kind then shared_access c size m s home i (cell_at s.file i) else private_access c size m s home i (place_at s.map i) intent)
-  kind_fits Shared intent live = shared_short (cell_at s.file i)
-  kind_fits Private intent live = private_fits (place_at s.map i) intent live
+  kind_fits kind intent live = grind arith
 
   access_fits : (intent : Intent) → is_unmapped s i ≡ false → Always (Fits (first_failed (cut_off_test i s))) (access c size m s home i intent)
   access_fits intent live = kind_fits s.map.sharing intent live
 
   fault_fits : (intent : Intent) → Always (Fits (first_failed (fault_tests i s ++ cut_off_test i s))) (fault c size m home i intent s)
-  fault_fits intent =
-      fits_test (is_unmapped s i) OutOfRange ((is_beyond s i, BeyondEnd) ∷ cut_off_test i s) _
-      (λ live. fits_tests ((is_beyond s i, BeyondEnd) ∷ []) (cut_off_test i s) (access c size m s home i intent) (access_fits intent live))
+  fault_fits intent = grind (arith, common_steps)
 
   or_not : (a b : Bool) → (a || b) ≡ false → a ≡ false
-  or_not true b e = e
-  or_not false b e = refl
+  or_not a b e = grind arith
 
   bytes_fit : (offset count : ℕ) (intent : Intent) → Always (Fits (first_failed (byte_tests size i offset count s ++ cut_off_test i s))) (byte_access c size m home i offset count intent s)
   bytes_fit offset count intent =
@@ -173,13 +113,7 @@ module _ (c : Choice) (size : ℕ) (m : Mount) (s : Spot) (home i : ℕ) where
 
   -- what is done after an answer
   after_fits : (x : Option Refusal) (f : Mount → Outcome) → ((n : Mount) → Short (f n)) → ((n : Mount) (r : Refusal) → reply_of (f n) ≡ Err r → ⊥) → (o : Outcome) → Fits x o → Fits x (continued f o)
-  after_fits x f h done (Refused r) fits = fits
-  after_fits x f h done (Answered a None) fits = by_failed x fits
-    where
-      by_failed : (x : Option Refusal) → Fits x (Answered a None) → Fits x (Answered a None)
-      by_failed x fits = fits
-  after_fits None f h done (Answered a (Some n)) fits = h n
-  after_fits (Some r) f h done (Answered a (Some n)) fits = cc
+  after_fits x f h done o fits = grind arith
 
   load_fits : (offset count : ℕ) → Always (Fits (first_failed (byte_tests size i offset count s ++ cut_off_test i s))) (load c size m home i offset count s)
   load_fits offset count =
@@ -188,10 +122,7 @@ module _ (c : Choice) (size : ℕ) (m : Mount) (s : Spot) (home i : ℕ) where
       always_then (Fits x) (Fits x) f (after_fits x f (λ n. refl) (λ n r e. cc)) (byte_access c size m home i offset count Read s) (bytes_fit offset count Read)
 
   store_fits : (offset : ℕ) (bytes : List ℕ) → Always (Fits (first_failed (byte_tests size i offset (length bytes) s ++ cut_off_test i s))) (store c size m home i offset bytes s)
-  store_fits offset bytes =
-      let x = first_failed (byte_tests size i offset (length bytes) s ++ cut_off_test i s) in
-      let f : Mount → Outcome = λ n. Answered Done (Some (written n s i offset bytes)) in
-      always_then (Fits x) (Fits x) f (after_fits x f (λ n. refl) (λ n r e. cc)) (byte_access c size m home i offset (length bytes) Write s) (bytes_fit offset (length bytes) Write)
+  store_fits offset bytes = grind arith
 
 -- ---- events
 
@@ -203,57 +134,37 @@ module _ (size k : ℕ) (c : Choice) where
   fits_tested ts p h = fits_tests ts [] p h
 
   of_umount : (old : Slot) → Decides old (step.Umount k) slot.Umount
-  of_umount None = refl
-  of_umount (Some m) = fits_tested (umount_tests k m) (gives Done (Some m) None) (gives_short (Some m) None)
+  of_umount old = grind (arith, common_steps)
 
   of_create : (old : Slot) (name : List ℕ) → Decides old (step.Create k name) (slot.Create name)
   of_create None name = refl
-  of_create (Some m) name =
-      let done : Plan = Finish (Answered Done (Some (with_new m (new_file (Some name))))) in
-      fits_tests ((not (is_name name), BadName) ∷ (is_some (file_named m name), FileExists) ∷ (nat_le most_files (length m.files), TooMany)
-      ∷ (is_over m.limits.inodes (length m.files + 1), NoInodes) ∷ []) ((false, OutOfMemory) ∷ []) (unless ((c.refused, OutOfMemory) ∷ []) done)
-      (short_test c.refused OutOfMemory done refl refl)
+  of_create (Some m) name = grind (arith, fits_tests, short_test)
 
   of_unlink : (old : Slot) (name : List ℕ) → Decides old (step.Unlink k name) (slot.Unlink name)
-  of_unlink None name = refl
-  of_unlink (Some m) name = fits_there (file_named m name) NoSuchFile (λ f. None) (unlink m) (λ f. gives_short (Some m) (edited m f.0 (unlinked f.1)))
+  of_unlink old name = grind arith
 
   of_truncate : (old : Slot) (name : List ℕ) (n : ℕ) → Decides old (step.Truncate k name n) (slot.Truncate name n)
-  of_truncate None name n = refl
-  of_truncate (Some m) name n =
-      let ts : List (Bool × Refusal) = (nat_lt most_file_pages n, OutOfRange) ∷ [] in
-      fits_there (file_named m name) NoSuchFile (λ f. first_failed ts) (truncate m n) (λ f. fits_tested ts _ (gives_short (Some m) (edited m f.0 (truncated n f.1))))
+  of_truncate old name n = grind arith
 
   of_punch : (old : Slot) (name : List ℕ) (a b : ℕ) → Decides old (step.Punch k name a b) (slot.Punch name a b)
   of_punch None name a b = refl
-  of_punch (Some m) name a b =
-      let ts : List (Bool × Refusal) = (is_bad_range a b, OutOfRange) ∷ [] in
-      fits_there (file_named m name) NoSuchFile (λ f. first_failed ts) (punch m a b) (λ f. fits_tested ts _ (gives_short (Some m) (edited m f.0 (punched a b f.1))))
+  of_punch (Some m) name a b = grind (arith, fits_there, fits_tested, gives_short)
 
   of_preallocate : (old : Slot) (name : List ℕ) (a b : ℕ) → Decides old (step.Preallocate k name a b) (slot.Preallocate name a b)
   of_preallocate None name a b = refl
-  of_preallocate (Some m) name a b =
-      fits_there (file_named m name) NoSuchFile (λ f. first_failed (preallocate_tests a b)) (preallocate c size m a b)
-      (λ f. fits_tested (preallocate_tests a b) _ (always_if Short (lacking a b f.1 == 0) (Finish (Answered Done (Some m))) (fill c size m a b f) (λ e. refl)
-      (λ e. short_test _ MountFull _ refl (short_test c.refused OutOfMemory _ refl (λ answer. granted_short answer.granted _ refl)))))
+  of_preallocate (Some m) name a b = grind (arith, fits_there, fits_tested, always_if, short_test, granted_short)
 
   of_read : (old : Slot) (name : List ℕ) (i offset count : ℕ) → Decides old (step.Read k name i offset count) (slot.Read name i offset count)
-  of_read None name i offset count = refl
-  of_read (Some m) name i offset count =
-      fits_there (file_named m name) NoSuchFile (λ f. first_failed (read_tests size i offset count f.1)) (read size m i offset count)
-      (λ f. fits_tested (read_tests size i offset count f.1) _ refl)
+  of_read old name i offset count = grind (arith, common_steps)
 
   of_ls : (old : Slot) → Decides old (step.Ls k) slot.Ls
-  of_ls None = refl
-  of_ls (Some m) = short_test c.refused OutOfMemory _ refl refl
+  of_ls old = grind arith
 
   of_stat : (old : Slot) (name : List ℕ) → Decides old (step.Stat k name) (slot.Stat name)
-  of_stat None name = refl
-  of_stat (Some m) name = fits_there (file_named m name) NoSuchFile (λ f. None) (stat m) (λ f. refl)
+  of_stat old name = grind arith
 
   of_df : (old : Slot) → Decides old (step.Df k) slot.Df
-  of_df None = refl
-  of_df (Some m) = refl
+  of_df old = grind arith
 
   of_map : (old : Slot) (task home : ℕ) (name : List ℕ) (a n : ℕ) (sharing : Sharing) (reserving : Reserving)
       → Decides old (step.Map task k name a n sharing reserving) (slot.Map task home name a n sharing reserving)
@@ -268,10 +179,7 @@ module _ (size k : ℕ) (c : Choice) where
 
   of_unmap : (old : Slot) (task number a b : ℕ) → Decides old (step.Unmap task k number a b) (slot.Unmap task number a b)
   of_unmap None task number a b = refl
-  of_unmap (Some m) task number a b =
-      let ts : List (Bool × Refusal) = (is_bad_range a b, OutOfRange) ∷ [] in
-      fits_there (spot m (is_map task number)) NoSuchMap (λ s. first_failed ts) (unmap m task number a b)
-      (λ s. fits_tested ts _ (gives_short (Some m) (Some (unmapped_from task number a b m))))
+  of_unmap (Some m) task number a b = grind (arith, fits_there, fits_tested, gives_short)
 
   of_fault : (old : Slot) (task home number i : ℕ) (intent : Intent) → Decides old (step.Fault task k number i intent) (slot.Fault task home number i intent)
   of_fault None task home number i intent = refl
@@ -300,8 +208,7 @@ table_meets (x ∷ ts) old after = by_test x.0 (table_meets ts old after)
   where
     by_test : (b : Bool) → IsRefusedBy (first_failed ts) (or_refused ts old (Ok Done, after)).0
         → IsRefusedBy (if b then Some x.1 else first_failed ts) (if◌then◌else◌ {A = Reply × Table} b (Err x.1, old) (or_refused ts old (Ok Done, after))).0
-    by_test true rest = refl
-    by_test false rest = rest
+    by_test b rest = grind arith
 
 module _ (s : State) (reply : Reply) (t : State) where
   slot_meets : (k : ℕ) (x : Step) (e : SlotEvent) → ((c : Choice) → Decides s.page_size k c (slot_at s k) x e) → IsScript s (on_slot (length s.slots) k e) reply t → IsRefusedBy (failed_at s k x) reply
@@ -316,60 +223,33 @@ module _ (s : State) (reply : Reply) (t : State) where
 
   task_meets : (task : ℕ) (x : Option Refusal) (next : ℕ → Script) → ((home : ℕ) → IsScript s (next home) reply t → IsRefusedBy x reply) → IsScript s (finding task next) reply t
       → IsRefusedBy (if_there (home_of s.table task) NoSuchTask (λ home. x)) reply
-  task_meets task x next h is = by_home (home_of s.table task) is.0 is.1 is.2.2 is.3
-    where
-      by_home : (o : Option ℕ) (r : Reply) (mid : State) → with_table s (when_known s.table o (λ home. (Ok (Home home), s.table))) ≡ (r, mid) → IsScript mid (home_in r next) reply t
-          → IsRefusedBy (if_there o NoSuchTask (λ home. x)) reply
-      by_home None r mid e go = (let first = ap (λ (q : Reply × State). q.0) e in (subst (λ y. IsScript mid (home_in y next) reply t) (sym first) go).0)
-      by_home (Some home) r mid e go =
-          let first = ap (λ (q : Reply × State). q.0) e in
-          let second : s ≡ mid = ap (λ (q : Reply × State). q.1) e in
-          h home (subst (λ y. IsScript y (next home) reply t) (sym second) (subst (λ y. IsScript mid (home_in y next) reply t) (sym first) go))
+  task_meets task x next h is = grind arith
 
   access_meets : (task k : ℕ) (x : Step) (e : ℕ → SlotEvent) → ((home : ℕ) (c : Choice) → Decides s.page_size k c (slot_at s k) x (e home))
       → IsScript s (finding task (λ home. on_slot (length s.slots) k (e home))) reply t → IsRefusedBy (failed_by s task k x) reply
   access_meets task k x e all is = task_meets task (failed_at s k x) (λ home. on_slot (length s.slots) k (e home)) (λ home it. slot_meets k x (e home) (all home) it) is
 
   attach_meets : (task : ℕ) → IsEvent s (Tasks (table.Find task)) reply t → IsRefusedBy (failed s (step.Attach task)) reply
-  attach_meets task is = by_home (home_of s.table task) (ap (λ (q : Reply × State). q.0) is.2)
-    where
-      by_home : (o : Option ℕ) → (when_known s.table o (λ home. (Ok (Home home), s.table))).0 ≡ reply → IsRefusedBy (if_there o NoSuchTask (λ home. None)) reply
-      by_home None e = sym e
-      by_home (Some home) e = subst (λ r. is_short r ≡ true) e refl
+  attach_meets task is = grind arith
 
   abbrev ks : List ℕ
   ks = range_with_len 0 (length s.slots)
 
   exit_meets : (task : ℕ) → IsScripted s (step.Exit task) reply t → IsRefusedBy (failed s (step.Exit task)) reply
-  exit_meets task is = by_home (home_of s.table task) is.0 is.1 is.2.2 is.3
-    where
-      never : (r : Reply) (mid : State) → IsScript mid (exit_slots ks task (Answer_with (Ok Done))) r t → is_short r ≡ true
-      never (Ok a) mid go = refl
-      never (Err r) mid go = absurd (exits_done task r t ks mid go)
-
-      by_home : (o : Option ℕ) (q : Reply) (mid : State) → with_table s (when_known s.table o (λ home. (Ok Done, removed s.table task))) ≡ (q, mid)
-          → IsScript mid (when_done q (exit_slots ks task (Answer_with (Ok Done)))) reply t → IsRefusedBy (if_there o NoSuchTask (λ home. None)) reply
-      by_home None q mid e go =
-          let first = ap (λ (x : Reply × State). x.0) e in (subst (λ x. IsScript mid (when_done x (exit_slots ks task (Answer_with (Ok Done)))) reply t) (sym first) go).0
-      by_home (Some home) q mid e go =
-          let first = ap (λ (x : Reply × State). x.0) e in
-          never reply mid (subst (λ x. IsScript mid (when_done x (exit_slots ks task (Answer_with (Ok Done)))) reply t) (sym first) go)
+  exit_meets task is = grind (arith, exits_done)
 
   pool_meets : (e : PoolEvent) (r : Reply) → (pool_event (pool_of s) e).0 ≡ r → IsEvent s (OnPool e) reply t → reply ≡ r
   pool_meets e r same is = sym (ap (λ (q : Reply × State). q.0) is.2) ∙ same
 
   overcommit_meets : (n : ℕ) (b : Bool) (p q : Pool) → IsRefusedBy (if not b then Some OutOfRange else None) (if◌then◌else◌ {A = Reply × Pool} b (Ok Done, p) (Err OutOfRange, q)).0
-  overcommit_meets n true p q = refl
-  overcommit_meets n false p q = refl
+  overcommit_meets n b p q = grind arith
 
   remount_meets : (k : ℕ) (options : List ℕ) → IsScripted s (step.Remount k options) reply t → IsRefusedBy (failed s (step.Remount k options)) reply
   remount_meets k options is = by_test (nat_lt k (length s.slots)) refl is
     where
       by_limits : (m : Mount) (first : Bool) (a : PoolAnswer) (l : ResultOf Limits Refusal)
           → IsRefusedBy (if first then Some SlotTaken else refused_limits l) (reply_of (if first then Refused SlotTaken else remount_outcome m a l))
-      by_limits m true a l = refl
-      by_limits m false a (Err r) = refl
-      by_limits m false a (Ok l) = granted_short a.granted (Answered Done (Some (record m { limits = l }))) refl
+      by_limits m first a l = grind arith
 
       by_slot : (old : Slot) → slot_at s k ≡ old → IsEvent s (OnSlot k (slot.Remount options)) reply t
           → IsRefusedBy (if_there old NoSuchSlot (λ m. failed_remount k (limits s.nr s.page_size (wanted_of options)))) reply
@@ -392,19 +272,10 @@ module _ (s : State) (reply : Reply) (t : State) where
   mount_meets k options is = by_test (nat_lt k (length s.slots)) is
     where
       by_limits : (c : Choice) (a : PoolAnswer) (l : ResultOf Limits Refusal) → IsRefusedBy (refused_limits l) (reply_of (mount_outcome c a l))
-      by_limits c a (Err r) = refl
-      by_limits c a (Ok l) = by_tests c.refused a.granted c.after_grant
-        where
-          by_tests : (refused granted late : Bool) → Short (if refused then Refused OutOfMemory else if not granted then Refused NoPages
-              else if late then Refused OutOfMemory else Answered Done (Some (record { limits = l; files = [] })))
-          by_tests true granted late = refl
-          by_tests false false late = refl
-          by_tests false true true = refl
-          by_tests false true false = refl
+      by_limits c a l = grind arith
 
       settled_reply : (u : State) (o : Outcome) → (with_outcome u k o).0 ≡ reply_of o
-      settled_reply u (Refused r) = refl
-      settled_reply u (Answered a new) = refl
+      settled_reply u o = grind arith
 
       by_slot : (c : Choice) (old : Slot) → planned s k (slot_event s.page_size k c old (slot.Mount options)) ≡ (reply, t)
           → IsRefusedBy (failed_mount old (limits s.nr s.page_size (wanted_of options))) reply
@@ -428,17 +299,6 @@ module _ (s : State) (reply : Reply) (t : State) where
   abbrev Forked : Reply → Type 0
   Forked r = (is_short r ≡ true) ⊎ (r ≡ Err TooMany)
 
-  abbrev ForkedTo : Outcome → Type 0
-  ForkedTo (Refused r) = Forked (Err r)
-  ForkedTo (Answered a new) = Unit {0}
-
-  fork_event : (parent child : ℕ) (size k : ℕ) (c : Choice) (m : Mount) → Always ForkedTo (slot_event size k c (Some m) (slot.ForkMaps parent child))
-  fork_event parent child size k c m =
-      cond_both (nat_lt most_maps (length (maps_of (forked parent child m))) || nat_lt most_tasks (length (tasks_of (forked parent child m)))) (refuse TooMany)
-      (if c.refused then refuse OutOfMemory else gives Done (Some m) (Some (forked parent child m))) (Always ForkedTo) (λ e. inr refl)
-      (λ e. cond_both c.refused (refuse OutOfMemory) (gives Done (Some m) (Some (forked parent child m))) (Always ForkedTo) (λ e. inl refl)
-      (λ e. always_gives ForkedTo Done (Some m) (Some (forked parent child m)) tt))
-
   undone_meets : (done : List ℕ) (child : ℕ) (r : Refusal) → Forked (Err r) → (u : State) → IsScript u (undone done child r) reply t → Forked reply
   undone_meets done child r h u is = exits_lead reply t (Forked reply) child done _ (λ v it. subst Forked (sym it.3.0) h) u is
 
@@ -449,16 +309,8 @@ module _ (s : State) (reply : Reply) (t : State) where
       (λ has it. by_reply it.0 it.1 (by_slot (slot_at u k) refl has it.0 it.1 it.2) (λ next. slots_meet parent child ks (done ++ k ∷ []) it.1 next) it.3)
       (λ none it. slots_meet parent child ks done u it) is
     where
-      by_outcome : (o : Outcome) (r : Reply) → ForkedTo o → r ≡ reply_of o → Forked r
-      by_outcome (Refused x) r h e = subst Forked (sym e) h
-      by_outcome (Answered a new) r h e = inl (ap is_short e)
-
       by_slot : (old : Slot) → slot_at u k ≡ old → has_maps_of parent old ≡ true → (r : Reply) (v : State) → IsEvent u (OnSlot k (slot.ForkMaps parent child)) r v → Forked r
-      by_slot None there has r v is = cc
-      by_slot (Some m) there has r v is =
-          let ends = event_ends ForkedTo u k (slot.ForkMaps parent child) r v
-          (λ c. subst (λ x. Always ForkedTo (slot_event u.page_size k c x (slot.ForkMaps parent child))) (sym there) (fork_event parent child u.page_size k c m)) is in
-          by_outcome ends.outcome r ends.holds ends.replied
+      by_slot old there has r v is = grind (arith, common_steps)
 
       by_reply : (r : Reply) (mid : State) → Forked r → (IsScript mid (fork_slots ks (done ++ k ∷ []) parent child) reply t → Forked reply)
           → IsScript mid (or_undone done child r (fork_slots ks (done ++ k ∷ []) parent child)) reply t → Forked reply
@@ -466,30 +318,10 @@ module _ (s : State) (reply : Reply) (t : State) where
       by_reply (Ok a) mid h next it = next it
 
   fork_meets : (parent child : ℕ) → IsScripted s (step.Fork parent child) reply t → IsForkRefusedBy (failed s (step.Fork parent child)) reply
-  fork_meets parent child is = by_home (home_of s.table parent) is.0 is.1 is.2.2 is.3
-    where
-      by_tests : (home : ℕ) (known crowded : Bool) (q : Reply) (mid : State)
-          → with_table s (or_refused ((known, TaskExists) ∷ (crowded, TooMany) ∷ []) s.table (Ok Done, added s.table child home)) ≡ (q, mid)
-          → IsScript mid (when_done q (fork_slots ks [] parent child)) reply t → IsForkRefusedBy (first_failed ((known, TaskExists) ∷ (crowded, TooMany) ∷ [])) reply
-      by_tests home true crowded q mid e go =
-          (subst (λ y. IsScript mid (when_done y (fork_slots ks [] parent child)) reply t) (sym (ap (λ (x : Reply × State). x.0) e)) go).0
-      by_tests home false true q mid e go =
-          (subst (λ y. IsScript mid (when_done y (fork_slots ks [] parent child)) reply t) (sym (ap (λ (x : Reply × State). x.0) e)) go).0
-      by_tests home false false q mid e go =
-          slots_meet parent child ks [] mid (subst (λ y. IsScript mid (when_done y (fork_slots ks [] parent child)) reply t) (sym (ap (λ (x : Reply × State). x.0) e)) go)
-
-      by_home : (o : Option ℕ) (q : Reply) (mid : State)
-          → with_table s (when_known s.table o (λ home. or_refused ((is_known s.table child, TaskExists) ∷ (is_crowded s.table, TooMany) ∷ []) s.table (Ok Done, added s.table child home))) ≡ (q, mid)
-          → IsScript mid (when_done q (fork_slots ks [] parent child)) reply t
-          → IsForkRefusedBy (if_there o NoSuchTask (λ home. first_failed ((is_known s.table child, TaskExists) ∷ (is_crowded s.table, TooMany) ∷ []))) reply
-      by_home None q mid e go =
-          (subst (λ y. IsScript mid (when_done y (fork_slots ks [] parent child)) reply t) (sym (ap (λ (x : Reply × State). x.0) e)) go).0
-      by_home (Some home) q mid e go = by_tests home (is_known s.table child) (is_crowded s.table) q mid e go
+  fork_meets parent child is = grind (arith, slots_meet)
 
   scripted_meets : (x : Step) → IsScripted s x reply t → MeetsTests s x reply
-  scripted_meets (step.Connect task home) is =
-      subst (λ r. IsRefusedBy (failed s (step.Connect task home)) r) (ap (λ (q : Reply × State). q.0) (only_goes s (Tasks (table.Add task home)) reply t is).2)
-      (table_meets ((nat_le (length s.nodes) home, NoSuchNode) ∷ (is_known s.table task, TaskExists) ∷ (is_crowded s.table, TooMany) ∷ []) s.table (added s.table task home))
+  scripted_meets (step.Connect task home) is = grind (arith, only_goes, table_meets)
   scripted_meets (step.Attach task) is = attach_meets task (only_goes s (Tasks (table.Find task)) reply t is)
   scripted_meets (step.Fork parent child) is = fork_meets parent child is
   scripted_meets (step.Exit task) is = exit_meets task is
@@ -500,20 +332,16 @@ module _ (s : State) (reply : Reply) (t : State) where
   scripted_meets (step.Unlink k name) is = slot_meets k (step.Unlink k name) (slot.Unlink name) (λ c. of_unlink s.page_size k c (slot_at s k) name) is
   scripted_meets (step.Truncate k name n) is = slot_meets k (step.Truncate k name n) (slot.Truncate name n) (λ c. of_truncate s.page_size k c (slot_at s k) name n) is
   scripted_meets (step.Punch k name a b) is = slot_meets k (step.Punch k name a b) (slot.Punch name a b) (λ c. of_punch s.page_size k c (slot_at s k) name a b) is
-  scripted_meets (step.Preallocate k name a b) is =
-      slot_meets k (step.Preallocate k name a b) (slot.Preallocate name a b) (λ c. of_preallocate s.page_size k c (slot_at s k) name a b) is
-  scripted_meets (step.Read k name i offset count) is =
-      slot_meets k (step.Read k name i offset count) (slot.Read name i offset count) (λ c. of_read s.page_size k c (slot_at s k) name i offset count) is
+  scripted_meets (step.Preallocate k name a b) is = grind (arith, slot_meets, of_preallocate)
+  scripted_meets (step.Read k name i offset count) is = grind (arith, slot_meets, of_read)
   scripted_meets (step.Ls k) is = slot_meets k (step.Ls k) slot.Ls (λ c. of_ls s.page_size k c (slot_at s k)) is
   scripted_meets (step.Stat k name) is = slot_meets k (step.Stat k name) (slot.Stat name) (λ c. of_stat s.page_size k c (slot_at s k) name) is
   scripted_meets (step.Df k) is = slot_meets k (step.Df k) slot.Df (λ c. of_df s.page_size k c (slot_at s k)) is
   scripted_meets (step.Map task k name a n sharing reserving) is =
       access_meets task k (step.Map task k name a n sharing reserving) (λ home. slot.Map task home name a n sharing reserving)
       (λ home c. of_map s.page_size k c (slot_at s k) task home name a n sharing reserving) is
-  scripted_meets (step.Anon task n sharing reserving) is =
-      access_meets task 0 (step.Anon task n sharing reserving) (λ home. slot.Anon task home n sharing reserving) (λ home c. of_anon s.page_size 0 c (slot_at s 0) task home n sharing reserving) is
-  scripted_meets (step.Unmap task k number a b) is =
-      access_meets task k (step.Unmap task k number a b) (λ home. slot.Unmap task number a b) (λ home c. of_unmap s.page_size k c (slot_at s k) task number a b) is
+  scripted_meets (step.Anon task n sharing reserving) is = grind (arith, common_steps, access_meets, of_anon)
+  scripted_meets (step.Unmap task k number a b) is = grind (arith, common_steps, access_meets, of_unmap)
   scripted_meets (step.Fault task k number i intent) is =
       access_meets task k (step.Fault task k number i intent) (λ home. slot.Fault task home number i intent) (λ home c. of_fault s.page_size k c (slot_at s k) task home number i intent) is
   scripted_meets (step.Load task k number i offset count) is =
@@ -523,9 +351,7 @@ module _ (s : State) (reply : Reply) (t : State) where
       access_meets task k (step.Store task k number i offset bytes) (λ home. slot.Store task home number i offset bytes)
       (λ home c. of_store s.page_size k c (slot_at s k) task home number i offset bytes) is
   scripted_meets (step.Nr n) is = ap is_short (pool_meets (pool.Nr n) _ refl (only_goes s (OnPool (pool.Nr n)) reply t is))
-  scripted_meets (step.Overcommit n) is =
-      subst (λ r. IsRefusedBy (failed s (step.Overcommit n)) r) (ap (λ (q : Reply × State). q.0) (only_goes s (OnPool (pool.Overcommit n)) reply t is).2)
-      (overcommit_meets n (nat_le n most_overcommit) (record (pool_of s) { overcommit = n }) (pool_of s))
+  scripted_meets (step.Overcommit n) is = grind (arith, only_goes, overcommit_meets)
   scripted_meets step.Meminfo is = ap is_short (pool_meets pool.Meminfo _ refl (only_goes s (OnPool pool.Meminfo) reply t is))
   scripted_meets step.Nodes is = ap is_short (pool_meets pool.Nodes _ refl (only_goes s (OnPool pool.Nodes) reply t is))
 

@@ -1,25 +1,20 @@
 -- The number of nodes never changes.
-use Rattle.std.proofs.Common.{◌≡◌, ℕ, zero, suc, ◌+◌, ◌-◌, true, false, List, [], ◌∷◌, length, refl, ap, ◌∙◌}
-use Rattle.std.specs.Prelude.{nat_lt, nat_le, min, Ok, Err}
+use Rattle.std.proofs.Common.{arith}
+use Rattle.std.proofs.lemmas.Grind.{common_steps}
+use Rattle.std.proofs.Common.{◌≡◌, ℕ, zero, suc, ◌+◌, ◌-◌, List, [], ◌∷◌, length, refl, ap, ◌∙◌}
 use Rattle.std.proofs.lemmas.Bool.{cond_both}
 use Rattle.std.proofs.lemmas.List.{length-map, length-set}
 use Rattle.hp_model.specs.declared.event.PoolEvent.{PoolEvent}
-use Rattle.hp_model.specs.declared.event.PoolEvent.TheVariants.{Nr, Overcommit, Meminfo, Nodes}
-use Rattle.hp_model.specs.declared.node.Kind.TheVariants.{Free, Idle, Surplus, Persistent, FreeSurplus}
+use Rattle.hp_model.specs.declared.node.Kind.TheVariants.{Free, Idle}
 use Rattle.hp_model.specs.declared.node.NodeRow.{NodeRow}
-use Rattle.hp_model.specs.declared.answer.Answer.TheVariants.{Done}
-use Rattle.hp_model.specs.declared.refusal.Refusal.TheVariants.{OutOfRange}
-use Rattle.hp_model.specs.pool.Grant.{can_grant, granted, surplus_times}
+use Rattle.hp_model.specs.pool.Grant.{granted, surplus_times}
 use Rattle.hp_model.specs.machine.Machine.{pool_of, with_pool, rows_of, node_of}
-use Rattle.hp_model.specs.pool.NodeRows.{NodeRows, at_row, row_at, lowest, near, next_from, give_back_row, promote_row, demote_row, grow_row, put_row, take_row, taken_times}
-use Rattle.hp_model.specs.pool.NodeRows.{shrink_row, add_surplus_row, total_of, grown, shrunk, promoted, demoted, given_back, free_of, surp_of, frames_of}
-use Rattle.hp_model.specs.pool.Pool.{section, filled_by, granted_at, no_pages, page_taken, pages_taken, nr_answer, take_node, takes_of, kept_times, puts_from, released, trimmed, give_back_times}
-use Rattle.hp_model.specs.declared.section.PoolAnswer.{PoolAnswer}
+use Rattle.hp_model.specs.pool.NodeRows.{NodeRows, at_row, row_at, near, put_row, take_row, taken_times}
+use Rattle.hp_model.specs.pool.NodeRows.{add_surplus_row, total_of, given_back}
+use Rattle.hp_model.specs.pool.Pool.{section, kept_times, puts_from, give_back_times}
 use Rattle.hp_model.specs.declared.section.Section.{Section}
-use Rattle.hp_model.specs.declared.section.Section.TheVariants.{Grant, GrantPage, TakePage, FillPages, GiveBack, ReadAndGrant, ReadAndGiveBack, GrantAndReturn}
-use Rattle.hp_model.specs.pool.PoolCounts.{Pool, rsvd}
-use Rattle.hp_model.specs.machine.Plan.{Reply}
-use Rattle.hp_model.specs.Profile.{most_overcommit}
+use Rattle.hp_model.specs.declared.section.Section.TheVariants.{GrantPage, TakePage}
+use Rattle.hp_model.specs.pool.PoolCounts.{Pool}
 use Rattle.hp_model.specs.pool.Resize.{pool_event, raised, raise_times, lowered, lower_times}
 use Rattle.hp_model.specs.machine.State.{State, Node}
 
@@ -27,12 +22,7 @@ long_row : (f : NodeRow → NodeRow) (i : ℕ) (rows : List NodeRow) → length 
 long_row f i rows = length-set rows i (f (row_at rows i))
 
 long_given_back : (s : NodeRows) → length (given_back s).rows ≡ length s.rows
-long_given_back s =
-    let both = lowest FreeSurplus s.rows in
-    let apart : List NodeRow = at_row shrink_row (lowest Free s.rows) s.rows in
-    cond_both (nat_lt both (length s.rows)) (at_row give_back_row both s.rows) (at_row promote_row (lowest Surplus s.rows) apart) (λ (rows : List NodeRow). length rows ≡ length s.rows)
-    (λ e. long_row give_back_row both s.rows)
-    (λ e. long_row promote_row (lowest Surplus s.rows) apart ∙ long_row shrink_row (lowest Free s.rows) s.rows)
+long_given_back s = grind (arith, common_steps)
 
 long_give_back_times : (k : ℕ) (s : NodeRows) → length (give_back_times k s).rows ≡ length s.rows
 long_give_back_times zero s = refl
@@ -47,17 +37,14 @@ long_taken_times zero s = refl
 long_taken_times (suc k) s = long_row take_row (near Free 0 (taken_times 0 k s).rows) (taken_times 0 k s).rows ∙ long_taken_times k s
 
 long_raised : (s : NodeRows) → length (raised s).rows ≡ length s.rows
-long_raised s = cond_both (nat_lt 0 (surp_of s.rows)) (promoted s) (grown s) (λ (x : NodeRows). length x.rows ≡ length s.rows)
-    (λ e. long_row promote_row (lowest Surplus s.rows) s.rows) (λ e. long_row grow_row (next_from Idle s.growth s.rows) s.rows)
+long_raised s = grind (arith, common_steps)
 
 long_raise_times : (k : ℕ) (s : NodeRows) → length (raise_times k s).rows ≡ length s.rows
 long_raise_times zero s = refl
 long_raise_times (suc k) s = long_raised (raise_times k s) ∙ long_raise_times k s
 
 long_lowered : (reserved : ℕ) (s : NodeRows) → length (lowered reserved s).rows ≡ length s.rows
-long_lowered reserved s =
-    cond_both (nat_lt reserved (free_of s.rows)) (shrunk s) (demoted s) (λ (x : NodeRows). length x.rows ≡ length s.rows)
-    (λ e. long_row shrink_row (next_from Free s.release s.rows) s.rows) (λ e. long_row demote_row (lowest Persistent s.rows) s.rows)
+long_lowered reserved s = grind (arith, common_steps)
 
 long_lower_times : (reserved k : ℕ) (s : NodeRows) → length (lower_times reserved k s).rows ≡ length s.rows
 long_lower_times reserved zero s = refl
@@ -71,41 +58,16 @@ long_puts : (node : ℕ) (ks : List ℕ) (p : Pool) → length (puts_from node k
 long_puts node [] p = refl
 long_puts node (k ∷ ks) p = long_puts (node + 1) ks (kept_times node k p) ∙ long_kept_times node k p
 
-long_settled : (p : Pool) → length (trimmed p).nodes.rows ≡ length p.nodes.rows
-long_settled p = long_give_back_times (surp_of p.nodes.rows - (p.committed - p.nr)) p.nodes
-
 long_granted : (home d : ℕ) (p : Pool) → length (granted home d p).nodes.rows ≡ length p.nodes.rows
 long_granted home d p = long_surplus_times home (p.committed + d - total_of p.nodes.rows) p.nodes
 
-abbrev Long : Pool → PoolAnswer × Pool → Type 0
-Long p x = length x.1.nodes.rows ≡ length p.nodes.rows
-
 pub long_section : (p : Pool) (s : Section) → length (section p s).1.nodes.rows ≡ length p.nodes.rows
-long_section p (Grant home d) = cond_both (can_grant d p) (granted_at 0, granted home d p) (no_pages, p) (Long p) (λ e. long_granted home d p) (λ e. refl)
-long_section p (GrantPage home d) =
-    cond_both (can_grant d p) (granted_at (take_node home (granted home d p)), page_taken home (granted home d p)) (no_pages, p) (Long p)
-    (λ e. long_row take_row (near Free home (granted home d p).nodes.rows) (granted home d p).nodes.rows ∙ long_granted home d p) (λ e. refl)
 long_section p (TakePage home) = long_row take_row (near Free home p.nodes.rows) p.nodes.rows
-long_section p (FillPages d n) =
-    cond_both (can_grant d p) (filled_by (takes_of n (granted 0 d p)), pages_taken n (granted 0 d p)) (no_pages, p) (Long p)
-    (λ e. long_taken_times n (granted 0 d p).nodes ∙ long_granted 0 d p) (λ e. refl)
-long_section p (GiveBack puts k) = long_settled (released k (puts_from 0 puts p)) ∙ long_puts 0 puts p
-long_section p (ReadAndGrant d) =
-    cond_both (can_grant d p) (nr_answer true p, granted 0 d p) (nr_answer false p, p) (Long p)
-    (λ e. long_granted 0 d p) (λ e. refl)
-long_section p (ReadAndGiveBack k) = long_settled (released k p)
-long_section p (GrantAndReturn d) =
-    cond_both (can_grant d p) (nr_answer true p, trimmed (released d (granted 0 d p))) (nr_answer false p, p) (Long p)
-    (λ e. long_settled (released d (granted 0 d p)) ∙ long_granted 0 d p) (λ e. refl)
+long_section p (GrantPage home d) = grind (arith, common_steps, cond_both, long_row, long_granted)
+long_section p s = grind (arith, long_surplus_times, long_taken_times, long_give_back_times, long_puts)
 
 pub long_event : (p : Pool) (e : PoolEvent) → length (pool_event p e).1.nodes.rows ≡ length p.nodes.rows
-long_event p (Nr n) =
-    let target = min n (frames_of p.nodes.rows) in
-    long_lower_times (rsvd p) (p.nr - target) (raise_times (target - p.nr) p.nodes) ∙ long_raise_times (target - p.nr) p.nodes
-long_event p (Overcommit n) =
-    cond_both (nat_le n most_overcommit) (Ok Done, record p { overcommit = n }) (Err OutOfRange, p) (λ (x : Reply × Pool). length x.1.nodes.rows ≡ length p.nodes.rows) (λ e. refl) (λ e. refl)
-long_event p Meminfo = refl
-long_event p Nodes = refl
+long_event p e = grind (arith, long_lower_times, long_raise_times, cond_both)
 
 pub long_rows : (s : State) (a : ℕ) (ns : List Node) → length (rows_of s a ns) ≡ length ns
 long_rows s a [] = refl

@@ -1,14 +1,15 @@
 -- The pool's numbers as sums over the slots are those that an event leaves.
+use Rattle.std.proofs.lemmas.Grind.{common_steps}
 use Rattle.std.proofs.Common.{◌≡◌, subst, ℕ, ◌+◌, ◌-◌, ◌<◌, ◌≤◌, None, List, [], ◌∷◌, length, map, refl, sym, ap, ◌∙◌, arith}
 use Rattle.std.specs.List.{sum, slice_set, range_with_len, All}
-use Rattle.std.proofs.lemmas.List.{length-map, set-get_or}
+use Rattle.std.proofs.lemmas.List.{length-map}
 use Rattle.std.proofs.lemmas.List.Elements.{All-head, All-tail, All-set}
 use Rattle.std.proofs.lemmas.List.Sums.{sum_by-set, sum-map, sum_by-le-sum_by}
 use Rattle.hp_laws.specs.Balance.{Always, Moves, taken_at, left_by, IsBalanced}
 use Rattle.hp_model.specs.machine.Event.{planned, with_outcome}
 use Rattle.hp_model.specs.machine.Machine.{pool_of, with_pool, rows_of, node_of, committed_pages, used_at}
 use Rattle.hp_model.specs.pool.NodeRows.{IsRow, used as row_used}
-use Rattle.hp_model.specs.machine.Plan.{Slot, Outcome, Refused, Answered, Plan, Finish, Ask, slot_committed, slot_pages, slot_pages_at}
+use Rattle.hp_model.specs.machine.Plan.{Slot, Outcome, Plan, Finish, Ask, slot_committed, slot_pages, slot_pages_at}
 use Rattle.hp_model.specs.pool.Pool.{no_pages, section}
 use Rattle.hp_model.specs.declared.section.PoolAnswer.{PoolAnswer}
 use Rattle.hp_model.specs.declared.section.Section.{Section}
@@ -112,8 +113,7 @@ module _ (s : State) (k : ℕ) (st : IsSettledState s) (new : Slot) (sound : IsS
 -- ---- events
 
 pub settled_is : (s : State) (k : ℕ) (o : Outcome) → (with_outcome s k o).1 ≡ with_slot s k (left_by (slot_at s k) o)
-settled_is s k (Refused r) = ap (λ xs. record s { slots = xs }) (sym (set-get_or s.slots k None))
-settled_is s k (Answered a new) = refl
+settled_is s k o = grind (arith, common_steps)
 
 pub pool_back : (s : State) → with_pool s (pool_of s) ≡ s
 pool_back s = ap (λ ns. record s { nodes = ns }) (nodes_back s 0 s.nodes)

@@ -1,4 +1,5 @@
 -- What each section leaves, for slots that want it so.
+use Rattle.std.proofs.lemmas.Grind.{common_steps}
 use Rattle.std.proofs.Common.{◌≡◌, ⊎_elim, ℕ, ◌-◌, sym, zero, suc, ◌+◌, ◌<◌, ◌≤◌, Bool, true, false, ◌==◌, List, [], ◌∷◌, length, map, refl, ap, ◌∙◌, cond, arith, if◌then◌else◌}
 use Rattle.std.specs.List.{sum, slice_index_or, range_with_len}
 use Rattle.std.proofs.lemmas.Bool.{cases_lt, eq-eqb, ne_eqb}
@@ -7,7 +8,6 @@ use Rattle.std.proofs.lemmas.List.Sums.{sum_by-cons}
 use Rattle.hp_laws.specs.Balance.{raised_by, lowered_by, takes, taken_at, given_at}
 use Rattle.hp_model.specs.pool.Grant.{can_grant, granted}
 use Rattle.hp_model.specs.Lists.{edit_at}
-use Rattle.hp_model.specs.declared.node.NodeRow.{NodeRow}
 use Rattle.hp_model.specs.files.Fill.{rising_nodes}
 use Rattle.hp_model.specs.pool.NodeRows.{no_row, row_at, used as row_used}
 use Rattle.hp_model.specs.pool.Pool.{take_node, page_taken, pages_taken, puts_from, released, trimmed as settled_pool, filled_by, granted_at, no_pages, nr_answer, section, takes_at, takes_of}
@@ -28,28 +28,13 @@ map_same f g a (suc k) h = ap (λ x. x ∷ map f (range_with_len (a + 1) k)) (h 
 
 map_past : (f g : ℕ → ℕ) (a k m : ℕ) → m < a → ((n : ℕ) → a ≤ n → n < a + k → g n ≡ f n + cond (m == n) 1 0) → map f (range_with_len a k) ≡ map g (range_with_len a k)
 map_past f g a zero m l h = refl
-map_past f g a (suc k) m l h =
-    let here = h a (omega arith) (omega arith) in
-    let is = ap (λ b. cond b 1 0 + 0) (ne_eqb m a (λ same. omega (arith, l, same))) in
-    let head : f a ≡ g a = omega (arith, here, is) in
-    ap (λ x. x ∷ map f (range_with_len (a + 1) k)) head
-    ∙ ap (λ xs. g a ∷ xs) (map_past f g (a + 1) k m (omega (arith, l)) (λ n l r. h n (omega (arith, l)) (omega (arith, r))))
+map_past f g a (suc k) m l h = grind (arith, ne_eqb, map_past f g (a + 1) k m (omega (arith, l)) (λ n l r. h n (omega (arith, l)) (omega (arith, r))))
 
 -- one more at a node of the range
 map_one : (f g : ℕ → ℕ) (a k j m : ℕ) → m ≡ a + j → ((n : ℕ) → a ≤ n → n < a + k → g n ≡ f n + cond (m == n) 1 0) → edit_at (λ x. x + 1) (map f (range_with_len a k)) j ≡ map g (range_with_len a k)
 map_one f g a zero j m e h = refl
-map_one f g a (suc k) zero m e h =
-    let here = h a (omega arith) (omega arith) in
-    let is = ap (λ b. cond b 1 0 + 0) (eq-eqb m a (omega (arith, e))) in
-    let head : f a + 1 ≡ g a = omega (arith, here, is) in
-    ap (λ x. x ∷ map f (range_with_len (a + 1) k)) head
-    ∙ ap (λ xs. g a ∷ xs) (map_past f g (a + 1) k m (omega (arith, e)) (λ n l r. h n (omega (arith, l)) (omega (arith, r))))
-map_one f g a (suc k) (suc j) m e h =
-    let here = h a (omega arith) (omega arith) in
-    let is = ap (λ b. cond b 1 0 + 0) (ne_eqb m a (λ same. omega (arith, e, same))) in
-    let head : f a ≡ g a = omega (arith, here, is) in
-    ap (λ x. x ∷ edit_at (λ x. x + 1) (map f (range_with_len (a + 1) k)) j) head
-    ∙ ap (λ xs. g a ∷ xs) (map_one f g (a + 1) k j m (omega (arith, e)) (λ n l r. h n (omega (arith, l)) (omega (arith, r))))
+map_one f g a (suc k) zero m e h = grind (arith, eq-eqb, map_past)
+map_one f g a (suc k) (suc j) m e h = grind (arith, ne_eqb, map_one f g (a + 1) k j m (omega (arith, e)) (λ n l r. h n (omega (arith, l)) (omega (arith, r))))
 
 at_range : (f : ℕ → ℕ) (a k n : ℕ) → n < k → slice_index_or (map f (range_with_len a k)) n 0 ≡ f (a + n)
 at_range f a zero n l = absurd (omega (arith, l))
@@ -63,12 +48,7 @@ long_range a (suc k) = omega (arith, long_range (a + 1) k)
 -- ---- sections
 
 pub relead : (p q : Pool) (c d : ℕ) (us vs : List ℕ) → Leads p q c us → c ≡ d → us ≡ vs → Leads p q d vs
-relead p q c d us vs l e h = record {
-  settled = l.settled;
-  is_committed = l.is_committed ∙ e;
-  is_used = l.is_used ∙ h;
-  frames = l.frames;
-}
+relead p q c d us vs l e h = grind arith
 
 pub used_is : (p : Pool) → IsSettledPool p → used p ≡ sum (map row_used p.nodes.rows)
 used_is p s = omega (arith, used_sum p.nodes.rows s.rows)
@@ -88,12 +68,7 @@ pub same_list : (p : Pool) (f g : ℕ → ℕ) (k : ℕ) → k ≤ 4 → map row
 same_list p f g k few was pages = was ∙ map_same f g 0 k (λ n l. (let e = pages n (omega (arith, few, l)) in omega (arith, e)))
 
 compose : (p m q : Pool) (c d : ℕ) (us vs : List ℕ) → Leads p m c us → Leads m q d vs → Leads p q d vs
-compose p m q c d us vs a b = record {
-  settled = b.settled;
-  is_committed = b.is_committed;
-  is_used = b.is_used;
-  frames = b.frames ∙ a.frames;
-}
+compose p m q c d us vs a b = grind arith
 
 -- the section leads there, and takes no page at a node that there isn't
 abbrev pub Goal : Pool → PoolAnswer × Pool → Section → (ℕ → ℕ) → (ℕ → ℕ) → ℕ → ℕ → Type 0
@@ -144,13 +119,7 @@ abbrev used_at_row : Pool → ℕ → ℕ
 used_at_row p n = row_used (row_at p.nodes.rows n)
 
 row_list : (p : Pool) (n : ℕ) → slice_index_or (map row_used p.nodes.rows) n 0 ≡ used_at_row p n
-row_list p n = rows_list p.nodes.rows n
-  where
-    rows_list : (rows : List NodeRow) (n : ℕ) → slice_index_or (map row_used rows) n 0 ≡ row_used (row_at rows n)
-    rows_list [] zero = refl
-    rows_list [] (suc n) = refl
-    rows_list (r ∷ rows) zero = refl
-    rows_list (r ∷ rows) (suc n) = rows_list rows n
+row_list p n = grind (arith, common_steps)
 
 -- a list is what it has at each place
 by_places : (us : List ℕ) (a : ℕ) (h : ℕ → ℕ) → ((n : ℕ) → n < length us → slice_index_or us n 0 ≡ h (a + n)) → us ≡ map h (range_with_len a (length us))
@@ -169,16 +138,14 @@ record Took (p q : Pool) (n : ℕ) : Type 0 where
 
 one_more : (us : List ℕ) (i k : ℕ) → slice_index_or us k 0 ≤ slice_index_or (edit_at (λ x. x + 1) us i) k 0
 one_more [] i k = omega arith
-one_more (u ∷ us) zero zero = omega arith
 one_more (u ∷ us) zero (suc k) = omega arith
-one_more (u ∷ us) (suc i) zero = omega arith
 one_more (u ∷ us) (suc i) (suc k) = one_more us i k
+one_more (u ∷ us) i zero = grind arith
 
 sum_more : (us : List ℕ) (i : ℕ) → i < length us → sum (edit_at (λ x. x + 1) us i) ≡ sum us + 1
 sum_more [] i l = absurd (omega (arith, l))
 sum_more (u ∷ us) zero l = omega (arith, sum_by-cons (λ (x : ℕ). x) (u + 1) us, sum_by-cons (λ (x : ℕ). x) u us)
-sum_more (u ∷ us) (suc i) l =
-    omega (arith, sum_by-cons (λ (x : ℕ). x) u (edit_at (λ x. x + 1) us i), sum_by-cons (λ (x : ℕ). x) u us, sum_more us i (omega (arith, l)))
+sum_more (u ∷ us) (suc i) l = grind (arith, common_steps, sum_by-cons, sum_more us i (omega (arith, l)))
 
 took : (n : ℕ) (p : Pool) → IsSettledPool p → used p + n ≤ p.committed → Took p (pages_taken n p) n
 took zero p s l = record { settled = s; is_committed = refl; more = omega arith; each = λ k. omega arith; frames = refl }
@@ -301,18 +268,7 @@ fill_case p d n true f g c k s e w =
 given_back : (puts : List ℕ) (j : ℕ) (p : Pool) (f g : ℕ → ℕ) (c k : ℕ) → IsSettledPool p → k ≤ 4 → length p.nodes.rows ≡ k → map row_used p.nodes.rows ≡ map f (range_with_len 0 k)
     → c + j ≡ p.committed → ((n : ℕ) → n < 4 → g n + slice_index_or puts n 0 ≡ f n + 0) → sum (map g (range_with_len 0 k)) ≤ c
     → Leads p (settled_pool (released j (puts_from 0 puts p))) c (map g (range_with_len 0 k))
-given_back puts j p f g c k s few long was commits pages within =
-    let vs : List ℕ = map g (range_with_len 0 k) in
-    relead p (settled_pool (released j (puts_from 0 puts p))) _ _ _ _
-    (gave_back puts j vs p s (omega (arith, length-map (range_with_len 0 k) g, long_range 0 k, long))
-    (λ n l. (let lk : n < k = omega (arith, l, long) in
-    let new = at_range g 0 k n lk in
-    let old = ap (λ xs. slice_index_or xs n 0) was ∙ at_range f 0 k n lk in
-    let same_new : g (0 + n) ≡ g n = ap g (omega arith) in
-    let same_old : f (0 + n) ≡ f n = ap f (omega arith) in
-    let e = pages n (omega (arith, lk, few)) in omega (arith, new, old, same_new, same_old, e)))
-    (omega (arith, commits, within)))
-    (omega (arith, commits)) refl
+given_back puts j p f g c k s few long was commits pages within = grind (arith, relead, gave_back, length-map, long_range, at_range)
 
 return_case : (p : Pool) (d : ℕ) (b : Bool) (f g : ℕ → ℕ) (c k : ℕ) → IsSettledPool p → can_grant d p ≡ b
     → Goal p (if b then (nr_answer true p, settled_pool (released d (granted 0 d p))) else (nr_answer false p, p)) (GrantAndReturn d) f g c k

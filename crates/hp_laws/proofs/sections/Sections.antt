@@ -1,5 +1,6 @@
 -- Each section leaves the pool settled, with what the slots use and are committed.
-use Rattle.std.proofs.Common.{◌≡◌, ⊎_elim, subst, ℕ, zero, suc, ◌+◌, ◌-◌, ◌<◌, ◌≤◌, true, ◌==◌, List, [], ◌∷◌, length, map, min, max, refl, sym, ap, ◌∙◌, arith, nat_le}
+use Rattle.std.proofs.lemmas.Grind.{common_steps}
+use Rattle.std.proofs.Common.{◌≡◌, subst, ℕ, zero, suc, ◌+◌, ◌-◌, ◌<◌, ◌≤◌, true, List, [], ◌∷◌, length, map, min, max, refl, sym, ap, ◌∙◌, arith}
 use Rattle.std.specs.Prelude.{nat_lt}
 use Rattle.std.specs.List.{sum, slice_index_or, All}
 use Rattle.std.proofs.lemmas.Bool.{or_cases, leb-true, eqb-true, cond_both, ltb-true, ltb-false}
@@ -7,7 +8,7 @@ use Rattle.std.proofs.lemmas.List.{length-map}
 use Rattle.std.proofs.lemmas.List.Elements.{All-head, All-tail}
 use Rattle.std.proofs.lemmas.List.Sums.{sum_by-cons}
 use Rattle.hp_model.specs.declared.node.NodeRow.{NodeRow}
-use Rattle.hp_model.specs.pool.Grant.{can_grant, granted, most}
+use Rattle.hp_model.specs.pool.Grant.{can_grant, granted}
 use Rattle.hp_model.specs.Lists.{edit_at}
 use Rattle.hp_model.specs.pool.NodeRows.{NodeRows, IsRow, used as row_used, total_of, free_of, surp_of, frames_of, promoted, grown, shrunk, demoted}
 use Rattle.hp_model.specs.pool.Pool.{take_node, page_taken, puts_from, released, trimmed}
@@ -25,10 +26,7 @@ pub record Leads (p q : Pool) (committed : ℕ) (in_use : List ℕ) : Type 0 whe
 
 pub total-le-frames : (rows : List NodeRow) → All IsRow rows → total_of rows ≤ frames_of rows
 total-le-frames [] all = omega arith
-total-le-frames (r ∷ rows) all =
-    let head = All-head IsRow r rows all in
-    let total = head.total_in in
-    omega (arith, sum_by-cons (λ r. r.total) r rows, sum_by-cons row_frames r rows, total, total-le-frames rows (All-tail IsRow r rows all))
+total-le-frames (r ∷ rows) all = grind (arith, common_steps, All-head, sum_by-cons, row_frames, All-tail, total-le-frames rows (All-tail IsRow r rows all))
 
 pub unchanged : (p : Pool) → IsSettledPool p → Leads p p p.committed (map row_used p.nodes.rows)
 unchanged p s = record { settled = s; is_committed = refl; is_used = refl; frames = refl }
@@ -40,11 +38,7 @@ long_as p q c us l = sym (length-map q.nodes.rows row_frames) ∙ ap length l.fr
 
 -- what a grant allows
 room : (p : Pool) (d : ℕ) → IsSettledPool p → can_grant d p ≡ true → p.committed + d ≤ frames_of p.nodes.rows
-room p d s e =
-    let le = total-le-frames p.nodes.rows s.rows in
-    let total = s.total in
-    ⊎_elim (λ l. (let none = eqb-true d 0 l in omega (arith, none, le, total))) (λ l. (let both = leb-true (p.committed + d) (most p) l in omega (arith, both)))
-    (or_cases (d == 0) (nat_le (p.committed + d) (most p)) e)
+room p d s e = grind (arith, total-le-frames, eqb-true, leb-true, or_cases)
 
 pub committed : (home d : ℕ) (p : Pool) → IsSettledPool p → can_grant d p ≡ true → Leads p (granted home d p) (p.committed + d) (map row_used p.nodes.rows)
 committed home d p s e =
@@ -124,12 +118,7 @@ gave_back puts k vs p s len each covers =
 -- ---- nr rises and falls
 
 then_leads : (p m q : Pool) (c : ℕ) (us : List ℕ) → Leads p m c us → Leads m q m.committed (map row_used m.nodes.rows) → Leads p q c us
-then_leads p m q c us a b = record {
-  settled = b.settled;
-  is_committed = b.is_committed ∙ a.is_committed;
-  is_used = b.is_used ∙ a.is_used;
-  frames = b.frames ∙ a.frames;
-}
+then_leads p m q c us a b = grind arith
 
 -- the pool with these nodes, at another nr
 abbrev pub at_nr : ℕ → NodeRows → Pool → Pool

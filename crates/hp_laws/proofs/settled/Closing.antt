@@ -1,26 +1,24 @@
 -- What takes away leaves less to take.
+use Rattle.std.proofs.lemmas.Grind.{common_steps}
 use Rattle.std.proofs.Common.{◌≡◌, ℕ, zero, suc, ◌+◌, ◌-◌, ◌*◌, ◌<◌, ◌≤◌, Bool, true, false, not, ◌||◌, ◌==◌, None, Some}
-use Rattle.std.proofs.Common.{Ok, Err, Option, List, [], ◌∷◌, length, map, cond, arith, refl, sym, ap, ◌∙◌, subst, nat_le}
+use Rattle.std.proofs.Common.{Ok, Err, Option, List, [], ◌∷◌, length, map, cond, arith, refl, sym, ap, ◌∙◌, subst}
 use Rattle.std.specs.Prelude.{is_some}
 use Rattle.std.specs.List.{filter, find, sum, slice_index_or, list_any}
 use Rattle.std.specs.Option.{option_map}
-use Rattle.std.proofs.lemmas.Bool.{cond_both, eqb-true, ltb-true, leb-false}
-use Rattle.std.proofs.lemmas.List.{length-map, length-append}
+use Rattle.std.proofs.lemmas.Bool.{cond_both, eqb-true, ltb-true}
+use Rattle.std.proofs.lemmas.List.{length-map}
 use Rattle.std.proofs.lemmas.List.Sums.{sum_by-cons}
-use Rattle.hp_model.specs.declared.answer.Answer.TheVariants.{Done, Home}
+use Rattle.hp_model.specs.declared.answer.Answer.TheVariants.{Done}
 use Rattle.hp_model.specs.declared.entry.PoolEntry.{PoolEntry}
 use Rattle.hp_model.specs.declared.entry.PoolEntry.TheVariants.{OfPool, OfSlot}
 use Rattle.hp_model.specs.declared.event.PoolEvent.{PoolEvent}
-use Rattle.hp_model.specs.declared.event.PoolEvent.TheVariants.{Nr, Overcommit, Meminfo, Nodes}
+use Rattle.hp_model.specs.declared.event.PoolEvent.TheVariants.{Nr}
 use Rattle.hp_model.specs.declared.event.SlotEvent.{SlotEvent}
 use Rattle.hp_model.specs.declared.event.SlotEvent.TheVariants as slot
 use Rattle.hp_model.specs.declared.event.TableEvent.{TableEvent}
-use Rattle.hp_model.specs.declared.event.TableEvent.TheVariants.{Add, Find, FindAndAdd, Remove}
-use Rattle.hp_model.specs.declared.refusal.Refusal.TheVariants.{NoSuchNode, NoSuchTask, TaskExists, TooMany, OutOfRange}
-use Rattle.hp_model.specs.declared.section.PoolAnswer.{PoolAnswer}
-use Rattle.hp_model.specs.declared.section.Section.TheVariants.{GiveBack, Grant, GrantPage, TakePage, ReadAndGiveBack, ReadAndGrant, GrantAndReturn, FillPages}
-use Rattle.hp_model.specs.files.File.{Mount, maps_of}
-use Rattle.hp_model.specs.files.GiveBack.{without_task}
+use Rattle.hp_model.specs.declared.event.TableEvent.TheVariants.{Remove}
+use Rattle.hp_model.specs.declared.refusal.Refusal.TheVariants.{NoSuchTask, TaskExists, TooMany}
+use Rattle.hp_model.specs.files.File.{Mount}
 use Rattle.hp_model.specs.files.MakeMap.{tasks_of}
 use Rattle.hp_model.specs.files.Mapping.{Map, is_of}
 use Rattle.hp_model.specs.Lists.{distinct, is_among}
@@ -33,7 +31,7 @@ use Rattle.hp_model.specs.pool.NodeRows.{frames_of, used as row_used}
 use Rattle.hp_model.specs.pool.Pool.{puts_from, released, trimmed}
 use Rattle.hp_model.specs.pool.PoolCounts.{Pool}
 use Rattle.hp_model.specs.pool.Resize.{pool_event, set_nr}
-use Rattle.hp_model.specs.Profile.{most_overcommit, most_tasks}
+use Rattle.hp_model.specs.Profile.{most_tasks}
 use Rattle.hp_model.specs.threads.Closing.{GivesWhatIsInUse, IsInUse, KeepsPlaces, is_giving_back, removes_maps, removes_task, to_exit, to_return}
 use Rattle.hp_model.specs.threads.PoolRun.{IsPoolStep}
 use Rattle.hp_model.proofs.RowMoves.{same_frames, used_sum}
@@ -52,14 +50,9 @@ Keeps t is_one r = KeepsPlaces most_tasks (length t) (length r.1) is_one
 same_table : (t : Table) (r : Reply) → length t ≤ most_tasks → Keeps t false (r, t)
 same_table t r few = record { enough = few; less = λ e. cc }
 
-one_more : (t : Table) (task home : ℕ) → is_crowded t ≡ false → Keeps t false (Ok Done, added t task home)
-one_more t task home e = record { enough = (let l = leb-false most_tasks (length t) e in omega (arith, l, length-append t ((task, home) ∷ []))); less = λ e. cc }
-
 -- the last of the tests is that there is room
 adds : (t : Table) (task home : ℕ) → length t ≤ most_tasks → Keeps t false (or_refused ((is_known t task, TaskExists) ∷ (is_crowded t, TooMany) ∷ []) t (Ok Done, added t task home))
-adds t task home few =
-    cond_both (is_known t task) (Err TaskExists, t) (or_refused ((is_crowded t, TooMany) ∷ []) t (Ok Done, added t task home)) (Keeps t false) (λ e. same_table t (Err TaskExists) few)
-    (λ e. cond_both (is_crowded t) (Err TooMany, t) (Ok Done, added t task home) (Keeps t false) (λ e. same_table t (Err TooMany) few) (one_more t task home))
+adds t task home few = grind (arith, common_steps)
 
 no_longer : {X : Type 0} (p : X → Bool) (xs : List X) → length (filter p xs) ≤ length xs
 no_longer p [] = omega arith
@@ -77,19 +70,6 @@ shorter p f (x ∷ xs) e = go (p x) (shorter p f xs) e
     go false rest e = (let l = rest e in omega (arith, l))
 
 pub table_places : (nodes : ℕ) (t : Table) (e : TableEvent) → length t ≤ most_tasks → Keeps t (removes_task t e) (table_event nodes t e)
-table_places nodes t (Add task home) few =
-    cond_both (nat_le nodes home) (Err NoSuchNode, t) (or_refused ((is_known t task, TaskExists) ∷ (is_crowded t, TooMany) ∷ []) t (Ok Done, added t task home)) (Keeps t false)
-    (λ e. same_table t (Err NoSuchNode) few) (λ e. adds t task home few)
-table_places nodes t (Find task) few = at (home_of t task)
-  where
-    at : (o : Option ℕ) → Keeps t false (when_known t o (λ home. (Ok (Home home), t)))
-    at None = same_table t (Err NoSuchTask) few
-    at (Some home) = same_table t (Ok (Home home)) few
-table_places nodes t (FindAndAdd parent child) few = at (home_of t parent)
-  where
-    at : (o : Option ℕ) → Keeps t false (when_known t o (λ home. or_refused ((is_known t child, TaskExists) ∷ (is_crowded t, TooMany) ∷ []) t (Ok Done, added t child home)))
-    at None = same_table t (Err NoSuchTask) few
-    at (Some home) = adds t child home few
 table_places nodes t (Remove task) few = at (home_of t task) refl
   where
     at : (o : Option ℕ) → home_of t task ≡ o → Keeps t (is_some o) (when_known t o (λ home. (Ok Done, removed t task)))
@@ -97,20 +77,18 @@ table_places nodes t (Remove task) few = at (home_of t task) refl
     at (Some home) is =
         let less = shorter {X = ℕ × ℕ} (λ e. e.0 == task) (λ e. e.1) t (ap is_some is) in
         record { enough = omega (arith, less, few); less = λ e. less }
+table_places nodes t e few = grind (arith, cond_both, same_table, adds)
 
 -- ---- a slot
 
 few_of : (s : Slot) → to_exit s ≤ most_tasks → FewSlot s
-few_of None l = tt
-few_of (Some m) l = l
+few_of s l = grind arith
 
 enough_of : (s : Slot) → FewSlot s → to_exit s ≤ most_tasks
-enough_of None f = omega arith
-enough_of (Some m) f = f
+enough_of s f = grind arith
 
 or_else : (a b c : Bool) → (b ≡ true → c ≡ true) → (a || b) ≡ true → (a || c) ≡ true
-or_else true b c h e = refl
-or_else false b c h e = h e
+or_else a b c h e = grind arith
 
 in_distinct : (q : ℕ) (xs : List ℕ) → is_among q xs ≡ true → is_among q (distinct xs) ≡ true
 in_distinct q [] e = e
@@ -128,18 +106,12 @@ has_task q (x ∷ xs) e = or_else (x.task == q) (list_any (is_of q) xs) (is_amon
 
 leaves_few : (size k : ℕ) (c : Choice) (old : Slot) (e : SlotEvent) → to_exit old ≤ most_tasks → removes_maps old e ≡ false
     → Always (λ o. KeepsPlaces most_tasks (to_exit old) (to_exit (left_by old o)) (removes_maps old e)) (slot_event size k c old e)
-leaves_few size k c old e few other =
-    always_weaker (λ o. FewSlot (left_by old o)) (λ o. KeepsPlaces most_tasks (to_exit old) (to_exit (left_by old o)) (removes_maps old e))
-    (λ o f. record { enough = enough_of (left_by old o) f; less = λ t. absurd (let no : true ≡ false = sym t ∙ other in cc) }) (slot_event size k c old e)
-    (slots_stay_few size k c old e (few_of old few))
+leaves_few size k c old e few other = grind (arith, always_weaker, FewSlot, enough_of, slots_stay_few, few_of)
 
 exit_places : (size k : ℕ) (c : Choice) (m : Mount) (task : ℕ) → length (tasks_of m) ≤ most_tasks → (b : Bool) → has_maps_of task (Some m) ≡ b
     → Always (λ o. KeepsPlaces most_tasks (to_exit (Some m)) (to_exit (left_by (Some m) o)) (has_maps_of task (Some m))) (slot_event size k c (Some m) (slot.ExitMaps task))
 exit_places size k c m task few false is = leaves_few size k c (Some m) (slot.ExitMaps task) few is
-exit_places size k c m task few true is =
-    let less = exit_fewer task m (in_distinct task (map (λ (x : Map). x.task) (maps_of m)) (has_task task (maps_of m) is)) in
-    always_gives (λ o. KeepsPlaces most_tasks (to_exit (Some m)) (to_exit (left_by (Some m) o)) (has_maps_of task (Some m))) Done (Some m) (Some (without_task task m))
-    (record { enough = omega (arith, less, few); less = λ e. less })
+exit_places size k c m task few true is = grind (arith, exit_fewer, in_distinct, has_task, always_gives)
 
 pub slot_places : (size k : ℕ) (c : Choice) (old : Slot) (e : SlotEvent) → to_exit old ≤ most_tasks
     → Always (λ o. KeepsPlaces most_tasks (to_exit old) (to_exit (left_by old o)) (removes_maps old e)) (slot_event size k c old e)
@@ -150,11 +122,7 @@ slot_places size k c old other few = leaves_few size k c old other few refl
 -- ---- the pool
 
 pub most_return : (p : Pool) → IsSettledPool p → to_return p ≤ 2 * frames_of p.nodes.rows
-most_return p s =
-    let total = s.total in
-    let used = s.used in
-    let le = total-le-frames p.nodes.rows s.rows in
-    omega (arith, le, total, used)
+most_return p s = grind (arith, total-le-frames)
 
 -- what is left of each
 abbrev minus : List ℕ → List ℕ → List ℕ
@@ -168,8 +136,7 @@ long (u ∷ us) [] = refl
 long (u ∷ us) (p ∷ ps) = ap suc (long us ps)
 
 nothing : (n : ℕ) → ◌≡◌ {A = ℕ} (slice_index_or [] n 0) 0
-nothing zero = refl
-nothing (suc n) = refl
+nothing n = grind arith
 
 abbrev Within : List ℕ → List ℕ → Type 0
 Within ps us = (n : ℕ) → slice_index_or ps n 0 ≤ slice_index_or us n 0
@@ -211,10 +178,7 @@ given_less puts k p q s held is some =
 
 event_frames : (p : Pool) (e : PoolEvent) → IsSettledPool p → frames_of (pool_event p e).1.nodes.rows ≡ frames_of p.nodes.rows
 event_frames p (Nr n) s = same_frames (set_nr n p).nodes.rows p.nodes.rows (set_leads n p s).frames
-event_frames p (Overcommit n) s =
-    cond_both (nat_le n most_overcommit) (Ok Done, record p { overcommit = n }) (Err OutOfRange, p) (λ (x : Reply × Pool). frames_of x.1.nodes.rows ≡ frames_of p.nodes.rows) (λ e. refl) (λ e. refl)
-event_frames p Meminfo s = refl
-event_frames p Nodes s = refl
+event_frames p e s = grind (arith, cond_both)
 
 pub step_frames : (p q : Pool) (e : PoolEntry) → IsSettledPool p → IsPoolStep p e q → frames_of q.nodes.rows ≡ frames_of p.nodes.rows
 step_frames p q (OfSlot sec a) s step = section_frames p sec a q step
@@ -222,21 +186,4 @@ step_frames p q (OfPool e r) s step = ap (λ (x : Reply × Pool). frames_of x.1.
 
 pub pool_places : (p q : Pool) (e : PoolEntry) → IsSettledPool p → IsSettledPool q → IsPoolStep p e q → GivesWhatIsInUse p e
     → KeepsPlaces (2 * frames_of p.nodes.rows) (to_return p) (to_return q) (is_giving_back e) × (frames_of q.nodes.rows ≡ frames_of p.nodes.rows)
-pool_places p q e s then step held = (
-  record {
-    enough = (let most = most_return q then in let same = step_frames p q e s step in omega (arith, most, same));
-    less = less e step held;
-  },
-  step_frames p q e s step,
-)
-  where
-    less : (e : PoolEntry) → IsPoolStep p e q → GivesWhatIsInUse p e → is_giving_back e ≡ true → to_return q < to_return p
-    less (OfSlot (GiveBack puts k) a) step held t = given_less puts k p q s held (sym (ap (λ (x : PoolAnswer × Pool). x.1) step)) (ltb-true 0 (sum puts + k) t)
-    less (OfSlot (Grant home d) a) step held t = cc
-    less (OfSlot (GrantPage home d) a) step held t = cc
-    less (OfSlot (TakePage home) a) step held t = cc
-    less (OfSlot (FillPages d n) a) step held t = cc
-    less (OfSlot (ReadAndGrant d) a) step held t = cc
-    less (OfSlot (ReadAndGiveBack k) a) step held t = cc
-    less (OfSlot (GrantAndReturn d) a) step held t = cc
-    less (OfPool e r) step held t = cc
+pool_places p q e s then step held = grind (arith, most_return, step_frames, given_less, ltb-true)

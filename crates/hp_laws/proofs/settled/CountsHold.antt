@@ -1,23 +1,22 @@
 -- The counts of a settled machine are sums over files and maps, and limits and minimums hold.
-use Rattle.std.proofs.Common.{◌≡◌, ⊎_elim, inl, inr, subst, ℕ, zero, suc, ◌+◌, ◌<◌, ◌≤◌, None, Some, List, [], ◌∷◌, length, refl, sym, ap, ◌∙◌, arith}
-use Rattle.std.specs.List.{sum, sum_by, slice_set, slice_index_or, range_with_len}
-use Rattle.std.proofs.lemmas.Bool.{cases_eq, ltb-true}
-use Rattle.std.proofs.lemmas.List.{get_or-set_same, get_or-set_other}
-use Rattle.std.proofs.lemmas.List.Sums.{sum-map, sum_by-cons}
+use Rattle.std.proofs.lemmas.Grind.{common_steps}
+use Rattle.std.proofs.Common.{◌≡◌, ⊎_elim, subst, ℕ, ◌+◌, ◌<◌, ◌≤◌, None, List, length, ap, ◌∙◌, arith}
+use Rattle.std.specs.List.{sum, slice_set, slice_index_or, range_with_len}
+use Rattle.std.proofs.lemmas.Bool.{ltb-true}
+use Rattle.std.proofs.lemmas.List.Sums.{sum-map}
 use Rattle.hp_model.specs.declared.event.Event.{Event}
-use Rattle.hp_model.specs.declared.event.Event.TheVariants.{Tasks, Slot as OnSlot, Pool as OnPool}
+use Rattle.hp_model.specs.declared.event.Event.TheVariants.{Slot as OnSlot}
 use Rattle.hp_laws.specs.Balance.{IsBalanced, IsLimited, left_by}
 use Rattle.hp_model.specs.machine.Plan.{IsWithinLimit, slot_usage}
 use Rattle.hp_model.specs.machine.Event.{after, CanHappen, planned}
 use Rattle.hp_model.specs.machine.Machine.{committed_pages, pool_of, with_pool, used_at, used_pages}
 use Rattle.hp_model.specs.pool.NodeRows.{total_of}
-use Rattle.hp_model.specs.machine.Plan.{Reply, Slot, Plan, Finish, Ask, Choice, slot_committed, slot_pages, slot_pages_at}
+use Rattle.hp_model.specs.machine.Plan.{Reply, Slot, Plan, Finish, Ask, Choice, slot_pages, slot_pages_at}
 use Rattle.hp_model.specs.pool.Pool.{section}
 use Rattle.hp_model.specs.pool.PoolCounts.{counts_by, used}
 use Rattle.hp_model.specs.machine.Promises.{least_of}
 use Rattle.hp_model.specs.machine.Settled.{IsSettledState}
 use Rattle.hp_laws.specs.Laws.{CountsAreSums, LimitsHold}
-use Rattle.hp_model.specs.machine.SlotEvent.{slot_event}
 use Rattle.hp_model.specs.machine.Sound.{IsSound}
 use Rattle.hp_model.specs.machine.State.{State, slot_at, with_slot}
 use Rattle.hp_laws.proofs.counts.NodeSums.{slot_below, slot_above, swap_le, sum_above, once_in_range, far_range}
@@ -55,20 +54,8 @@ counts_are_sums s st =
 
 -- ---- minimums
 
-least_committed : (x : Slot) → least_of x ≤ slot_committed x
-least_committed None = omega arith
-least_committed (Some m) = omega arith
-
--- what is committed to one slot, and to the others
-one_and_others : (xs : List Slot) (k : ℕ) → slot_committed (slice_index_or xs k None) + sum_by slot_committed (slice_set xs k None) ≡ sum_by slot_committed xs
-one_and_others [] k = refl
-one_and_others (x ∷ xs) zero = omega (arith, sum_by-cons slot_committed None xs, sum_by-cons slot_committed x xs)
-one_and_others (x ∷ xs) (suc k) = omega (arith, sum_by-cons slot_committed x (slice_set xs k None), sum_by-cons slot_committed x xs, one_and_others xs k)
-
 pub minimums_hold : (s : State) → IsSettledState s → (k : ℕ) → least_of (slot_at s k) + committed_pages (with_slot s k None) ≤ total_of (pool_of s).nodes.rows
-minimums_hold s st k =
-    let total = st.pool.total in
-    omega (arith, total, least_committed (slot_at s k), one_and_others s.slots k)
+minimums_hold s st k = grind (arith, common_steps)
 
 -- ---- limits
 
@@ -83,20 +70,11 @@ not_risen a b h l = ⊎_elim (λ le. absurd (omega (arith, le, l))) (λ w. w) h
 -- the slot of the event, and the others
 at_slot : (xs : List Slot) (k j : ℕ) (n : Slot) → k < length xs → j < length xs → IsLimited (slice_index_or xs k None) n →
     IsLimited (slice_index_or xs j None) (slice_index_or (slice_set xs k n) j None)
-at_slot xs k j n lk lj h =
-    elim (cases_eq j k) as (λ _. IsLimited (slice_index_or xs j None) (slice_index_or (slice_set xs k n) j None)) [
-      | inl same ↦ subst (λ i. IsLimited (slice_index_or xs i None) (slice_index_or (slice_set xs k n) i None)) (sym same)
-          (subst (λ x. IsLimited (slice_index_or xs k None) x) (sym (get_or-set_same xs k n None lk)) h)
-      | inr other ↦ subst (λ x. IsLimited (slice_index_or xs j None) x) (sym (get_or-set_other xs k j n None other)) (inl (omega arith))
-    ]
+at_slot xs k j n lk lj h = grind (arith, common_steps)
 
 event_limited : (c : Choice) (s : State) (e : Event) (j : ℕ) → CanHappen c s e → j < length s.slots → IsSettledState s → IsLimited (slot_at s j) (slot_at (after c s e).1 j)
-event_limited c s (Tasks e) j can lj st = inl (omega arith)
-event_limited c s (OnPool e) j can lj st = inl (omega arith)
-event_limited c s (OnSlot k e) j can lj st =
-    let lk : k < length s.slots = ltb-true k (length s.slots) can.0 in
-    let it = plan_limited s k (slot_event s.page_size k c (slot_at s k) e) (slots_are_balanced s.page_size k c (slot_at s k) e can.2 (left_sound s k lk st)) in
-    subst (λ (xs : List Slot). IsLimited (slot_at s j) (slice_index_or xs j None)) (sym it.1.1) (at_slot s.slots k j it.0 lk lj it.1.0)
+event_limited c s (OnSlot k e) j can lj st = grind (arith, ltb-true, plan_limited, slots_are_balanced, left_sound, at_slot)
+event_limited c s e j can lj st = grind arith
 
 pub limits_hold : LimitsHold
 limits_hold s e reply t k l st is risen =

@@ -1,6 +1,6 @@
 -- Each event on a slot leaves it sound, whatever fresh stamp is chosen.
-use Rattle.std.proofs.Common.{◌≡◌, ℕ, ◌+◌, ◌-◌, ◌<◌, ◌≤◌, ◌&&◌, ◌||◌, ◌==◌, Bool, true, false, not, Option, None, Some, is_some}
-use Rattle.std.proofs.Common.{List, [], ◌∷◌, ◌++◌, length, map, set, arith, refl, sym, ap, ◌∙◌, subst, nat_lt, if◌then◌else◌}
+use Rattle.std.proofs.Common.{◌≡◌, ℕ, ◌+◌, ◌-◌, ◌<◌, ◌≤◌, ◌&&◌, ◌==◌, Bool, true, false, not, Option, None, Some, is_some}
+use Rattle.std.proofs.Common.{List, [], ◌∷◌, ◌++◌, length, map, set, arith, refl, sym, ap, ◌∙◌, subst, if◌then◌else◌}
 use Rattle.std.specs.List.{count_by, flat_map, list_any}
 use Rattle.std.specs.Str.{bytes_eq}
 use Rattle.std.proofs.lemmas.Bool.{and_parts, both_ways, cond_both, eq-eqb, eqb-true, leb-false, not-true}
@@ -9,12 +9,12 @@ use Rattle.std.proofs.lemmas.List.Sums.{sum_by-append, sum_by-cons}
 use Rattle.std.proofs.lemmas.Slice.Eq.{bytes_eq-Decides}
 use Rattle.hp_model.specs.declared.answer.Answer.TheVariants.{Done}
 use Rattle.hp_model.specs.declared.cell.Cell.{Cell}
-use Rattle.hp_model.specs.declared.cell.Cell.TheVariants.{Entered, Hole, Present}
+use Rattle.hp_model.specs.declared.cell.Cell.TheVariants.{Present}
 use Rattle.hp_model.specs.declared.event.SlotEvent.TheVariants as slot
 use Rattle.hp_model.specs.declared.limits.Limits.{Limits}
 use Rattle.hp_model.specs.declared.place.Place.{Place}
 use Rattle.hp_model.specs.declared.place.Place.TheVariants.{Gone, Live}
-use Rattle.hp_model.specs.declared.refusal.Refusal.TheVariants.{BeyondEnd, CrossesPage, OutOfRange, TooMany}
+use Rattle.hp_model.specs.declared.refusal.Refusal.TheVariants.{BeyondEnd}
 use Rattle.hp_model.specs.declared.section.Section.TheVariants.{GrantPage}
 use Rattle.hp_model.specs.declared.step.Intent.{Intent}
 use Rattle.hp_model.specs.declared.step.Intent.TheVariants.{Read, Write}
@@ -29,11 +29,10 @@ use Rattle.hp_model.specs.Lists.{edit_at, is_among}
 use Rattle.hp_model.specs.files.MakeMap.{mapped, new_map, next_number}
 use Rattle.hp_model.specs.files.Mapping.{Map, copy_of, is_map, is_of, is_shared, is_unconsumed, map_punched, no_map, place_at, with_place, without_range}
 use Rattle.hp_model.specs.files.MountCounts.{stamps_of}
-use Rattle.hp_model.specs.files.Page.{Copy, Page, overwritten, zeros}
-use Rattle.hp_model.specs.machine.Plan.{Ask, Answered, Choice, Finish, Outcome, Refused, Slot, gives, unless}
-use Rattle.hp_model.specs.Profile.{most_bytes}
+use Rattle.hp_model.specs.files.Page.{Copy, Page, overwritten}
+use Rattle.hp_model.specs.machine.Plan.{Ask, Answered, Choice, Finish, Outcome, Slot, unless}
 use Rattle.hp_model.specs.machine.Sound.{HasCopy, IsSound, IsSoundFile, IsSoundMap, IsSoundMount, is_stamp}
-use Rattle.hp_model.specs.machine.SlotEvent.{byte_access, fault, file_named, has_name, is_beyond, is_unmapped, on_mount, umount_tests}
+use Rattle.hp_model.specs.machine.SlotEvent.{byte_access, fault, file_named, has_name, is_beyond, on_mount}
 use Rattle.hp_model.specs.files.Spot.{Spot, cell_written, copied, file_written, map_written, place_written, written}
 use Rattle.hp_model.specs.files.Value.{value}
 use Rattle.hp_model.proofs.Editing.{length-edit_at}
@@ -97,8 +96,7 @@ new_name m name other unused one =
 -- ---- accesses
 
 live_consumed : (b : Bool) (copy : Copy) → is_unconsumed (Live b (Some copy)) ≡ false → b ≡ true
-live_consumed true copy e = refl
-live_consumed false copy e = cc
+live_consumed b copy e = grind arith
 
 module _ (m : Mount) (sound : IsSoundMount m) (s : Spot) (at : IsSpot m s) where
   -- other cells
@@ -112,8 +110,7 @@ module _ (m : Mount) (sound : IsSoundMount m) (s : Spot) (at : IsSpot m s) where
   Left Write i n = IsSoundMount n × (is_shared s.map.sharing ≡ false → IsSole n s.file_no s.map_no i)
 
   left : (intent : Intent) (i : ℕ) (n : Mount) → IsSoundMount n → (is_shared s.map.sharing ≡ false → IsSole n s.file_no s.map_no i) → Left intent i n
-  left Read i n h sole = h
-  left Write i n h sole = (h, sole)
+  left intent i n h sole = grind arith
 
   module _ (c : Choice) (new : is_among c.stamp (flat_map stamps_of m.files) ≡ false) (size home i : ℕ) (below : i < length s.file.cells) where
     -- no place holds the stamp that is chosen
@@ -129,14 +126,10 @@ module _ (m : Mount) (sound : IsSoundMount m) (s : Spot) (at : IsSpot m s) where
     shared_left e intent n h = left intent i n h (λ apart. cc)
 
     filled_left : is_shared s.map.sharing ≡ true → (intent : Intent) (page : Page) → Left intent i (with_file m s.file_no (with_cell s.file i (Present page)))
-    filled_left e intent page =
-        shared_left e intent (with_file m s.file_no (with_cell s.file i (Present page)))
-        (cells_sound (set s.file.cells i (Present page)) (let same = length-set s.file.cells i (Present page) in omega (arith, same)))
+    filled_left e intent page = grind (arith, shared_left, cells_sound, length-set)
 
     shared_sound : is_shared s.map.sharing ≡ true → (intent : Intent) (cell : Cell Page) → Always (On (Left intent i)) (shared_access c size m s home i cell)
-    shared_sound e intent (Present page) = shared_left e intent m sound
-    shared_sound e intent Entered = on_reserved_page (Left intent i) home _ (λ node. filled_left e intent (record { node = node; bytes = zeros size }))
-    shared_sound e intent Hole = on_grant_page (Left intent i) c m home _ (λ node. filled_left e intent (record { node = node; bytes = zeros size }))
+    shared_sound e intent cell = grind (arith, shared_left, on_reserved_page, filled_left, on_grant_page)
 
     module _ (apart : is_shared s.map.sharing ≡ false) where
       -- the place gets a copy with the new stamp
@@ -150,8 +143,7 @@ module _ (m : Mount) (sound : IsSoundMount m) (s : Spot) (at : IsSpot m s) where
 
       -- an owner that asks for a grant has consumed
       owner_consumed : (consumed : Bool) → (s.map.owner && not consumed) ≡ false → s.map.owner ≡ true → consumed ≡ true
-      owner_consumed true e own = refl
-      owner_consumed false e own = (let is = ap (λ b. b && true) (sym own) ∙ e in cc)
+      owner_consumed consumed e own = grind arith
 
       new_sound_copy : (intent : Intent) (consumed : Bool) → place_at s.map i ≡ Live consumed None → Always (On (Left intent i)) (new_copy c size m s home i consumed)
       new_sound_copy intent consumed is =
@@ -182,11 +174,7 @@ module _ (m : Mount) (sound : IsSoundMount m) (s : Spot) (at : IsSpot m s) where
           (λ other. on_grant_page (Left Write i) c m home _ own_copy))
 
       private_sound : (intent : Intent) (p : Place Copy) → place_at s.map i ≡ p → Always (On (Left intent i)) (private_access c size m s home i p intent)
-      private_sound intent Gone is = tt
-      private_sound Read (Live consumed (Some copy)) is = sound
-      private_sound Write (Live consumed (Some copy)) is = write_sound consumed copy is
-      private_sound intent (Live consumed None) is =
-          always_if (On (Left intent i)) s.map.unmapped _ _ (λ e. tt) (λ e. uncopied_sound intent consumed is)
+      private_sound intent p is = grind (arith, write_sound, always_if, On, uncopied_sound)
 
     access_sound : (intent : Intent) → Always (On (Left intent i)) (access c size m s home i intent)
     access_sound intent =
@@ -194,18 +182,13 @@ module _ (m : Mount) (sound : IsSoundMount m) (s : Spot) (at : IsSpot m s) where
 
   module _ (c : Choice) (new : is_among c.stamp (flat_map stamps_of m.files) ≡ false) (size home i : ℕ) where
     guarded : (intent : Intent) → Always (On (Left intent i)) (unless ((is_beyond s i, BeyondEnd) ∷ []) (access c size m s home i intent))
-    guarded intent =
-        always_test (On (Left intent i)) (is_beyond s i) BeyondEnd (access c size m s home i intent) tt (λ e. access_sound c new size home i (leb-false (length s.file.cells) i e) intent)
+    guarded intent = grind (arith, always_test, On, access_sound, leb-false)
 
     fault_left : (intent : Intent) → Always (On (Left intent i)) (fault c size m home i intent s)
-    fault_left intent =
-        always_unless (On (Left intent i)) (λ r. tt) ((is_unmapped s i, OutOfRange) ∷ []) (unless ((is_beyond s i, BeyondEnd) ∷ []) (access c size m s home i intent)) (guarded intent)
+    fault_left intent = grind (arith, always_unless, On, guarded)
 
     bytes_left : (offset count : ℕ) (intent : Intent) → Always (On (Left intent i)) (byte_access c size m home i offset count intent s)
-    bytes_left offset count intent =
-        always_unless (On (Left intent i)) (λ r. tt)
-        ((is_unmapped s i || (count == 0), OutOfRange) ∷ (nat_lt size (offset + count), CrossesPage) ∷ (nat_lt most_bytes count, TooMany) ∷ [])
-        (unless ((is_beyond s i, BeyondEnd) ∷ []) (access c size m s home i intent)) (guarded intent)
+    bytes_left offset count intent = grind (arith, always_unless, On, guarded)
 
 -- ---- the bytes of a store
 
@@ -251,17 +234,12 @@ module _ (n : Mount) (sound : IsSoundMount n) (s : Spot) (i offset : ℕ) (bytes
       (λ own. live_consumed live.0 sole.copy (sym (ap is_unconsumed live.1) ∙ old.consumed own)))
 
   written_sound : (is_shared s.map.sharing ≡ false → IsSole n s.file_no s.map_no i) → IsSoundMount after
-  written_sound sole =
-      elim (is_shared s.map.sharing) as (λ b. is_shared s.map.sharing ≡ b → IsSoundMount after) [
-        | true ↦ λ e. shared_written e
-        | false ↦ λ e. private_written e (sole e)
-      ] refl
+  written_sound sole = grind (arith, shared_written, private_written)
 
 -- ---- the events of a mount
 
 read_left : (m : Mount) (sound : IsSoundMount m) (s : Spot) (at : IsSpot m s) (i : ℕ) (intent : Intent) (n : Mount) → Left m sound s at intent i n → IsSoundMount n
-read_left m sound s at i Read n h = h
-read_left m sound s at i Write n h = h.0
+read_left m sound s at i intent n h = grind arith
 
 pub empty_sound : (l : Limits) → IsSoundMount (record { limits = l; files = [] })
 empty_sound l = record { files = λ k d l. absurd (omega (arith, l)); stamps = λ stamp. omega arith; numbers = λ task number. omega arith; names = λ name. omega arith }
@@ -329,9 +307,7 @@ module _ (size k : ℕ) (c : Choice) (m : Mount) (sound : IsSoundMount m) (new :
 -- ---- a slot
 
 left_good : (m : Mount) → IsSoundMount m → (o : Outcome) → On IsSoundMount o → IsSound (left_by (Some m) o)
-left_good m sound (Refused r) on = sound
-left_good m sound (Answered a None) on = tt
-left_good m sound (Answered a (Some n)) on = on
+left_good m sound o on = grind arith
 
 abbrev GoesOn : Slot → Outcome → Type 0
 GoesOn old o = IsSound (left_by old o)
@@ -341,8 +317,7 @@ slots_stay_sound size k c None (slot.Mount options) new sound = always_mount (Go
 slots_stay_sound size k c None other new sound = tt
 slots_stay_sound size k c (Some m) (slot.Remount options) new sound =
     always_remount (GoesOn (Some m)) (λ r. sound) m (λ l. record { files = sound.files; stamps = sound.stamps; numbers = sound.numbers; names = sound.names }) size k options
-slots_stay_sound size k c (Some m) slot.Umount new sound = always_unless (GoesOn (Some m)) (λ r. sound) (umount_tests k m) (gives Done (Some m) None)
-    (always_gives (GoesOn (Some m)) Done (Some m) None tt)
+slots_stay_sound size k c (Some m) slot.Umount new sound = grind (arith, always_unless, always_gives)
 slots_stay_sound size k c (Some m) e new sound =
     always_weaker (On IsSoundMount) (GoesOn (Some m)) (left_good m sound) (on_mount size k c m e)
     (walk size k c m (λ e. Always (On IsSoundMount)) (leaves_walk size k c m IsSoundMount (stays_sound size k c m sound (not-true _ new))) e refl)

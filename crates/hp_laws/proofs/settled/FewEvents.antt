@@ -7,13 +7,11 @@ use Rattle.hp_model.specs.declared.answer.Answer.TheVariants as answer
 use Rattle.hp_model.specs.declared.event.Event.{Event}
 use Rattle.hp_model.specs.declared.event.Event.TheVariants.{Slot as OnSlot, Tasks}
 use Rattle.hp_model.specs.declared.event.SlotEvent.{SlotEvent}
-use Rattle.hp_model.specs.declared.event.SlotEvent.TheVariants as slot
 use Rattle.hp_model.specs.declared.event.TableEvent.TheVariants as table
 use Rattle.hp_model.specs.declared.refusal.Refusal.{Refusal}
 use Rattle.hp_model.specs.declared.refusal.Refusal.TheVariants.{NoSuchSlot}
 use Rattle.hp_model.specs.declared.step.Step.{Step}
-use Rattle.hp_model.specs.declared.step.Step.TheVariants.{Connect, Attach, Fork, Exit, Mount, Remount, Umount, Create, Unlink, Truncate, Punch, Preallocate, Read, Ls}
-use Rattle.hp_model.specs.declared.step.Step.TheVariants.{Stat, Map, Anon, Unmap, Fault, Load, Store, Nr, Overcommit, Meminfo, Nodes, Df}
+use Rattle.hp_model.specs.declared.step.Step.TheVariants.{Connect, Attach, Fork, Exit}
 use Rattle.hp_model.specs.machine.Plan.{Reply}
 use Rattle.hp_model.specs.machine.Step.{Answer_with, Do, Script, Where_mapped, exit_slots, fork_slots, home_in, on_slot, only, or_undone, script, undone, when_done}
 use Rattle.hp_model.specs.threads.Telling.{Tells, TellsFront, most_receipts}
@@ -27,13 +25,12 @@ AtMost (suc n) (Do e next) = (r : Reply) → AtMost n (next r)
 AtMost n (Where_mapped k task mapped other) = AtMost n mapped × AtMost n other
 
 most : (n : ℕ) (s : Script) → AtMost n s → (xs : List (Event × Reply)) (reply : Reply) → Tells s xs reply → length xs ≤ n
-most n (Answer_with r) all [] reply t = omega arith
-most n (Answer_with r) all (x ∷ xs) reply t = absurd t
 most zero (Do e next) all xs reply t = absurd all
 most (suc n) (Do e next) all [] reply t = absurd t
 most (suc n) (Do e next) all (x ∷ xs) reply t = (let l = most n (next x.1) (all x.1) xs reply t.1 in omega (arith, l))
 most n (Where_mapped k task mapped other) all xs reply (inl t) = most n mapped all.0 xs reply t
 most n (Where_mapped k task mapped other) all xs reply (inr t) = most n other all.1 xs reply t
+most n (Answer_with r) all xs reply t = grind arith
 
 front : (n : ℕ) (s : Script) → AtMost n s → (xs : List (Event × Reply)) → TellsFront s xs → length xs < n
 front n (Answer_with r) all xs t = absurd t
@@ -57,17 +54,7 @@ slot_one : (slots k : ℕ) (e : SlotEvent) → AtMost 1 (on_slot slots k e)
 slot_one slots k e = cond_both (nat_lt k slots) (only (OnSlot k e)) (Answer_with (Err NoSuchSlot)) (AtMost 1) (λ t r. tt) (λ t. tt)
 
 finding_two : (slots k : ℕ) (f : ℕ → SlotEvent) (r : Reply) → AtMost 1 (home_in r (λ home. on_slot slots k (f home)))
-finding_two slots k f (Ok (answer.Home home)) = slot_one slots k (f home)
-finding_two slots k f (Ok answer.Done) = tt
-finding_two slots k f (Ok (answer.MapNo n)) = tt
-finding_two slots k f (Ok (answer.Number n)) = tt
-finding_two slots k f (Ok (answer.Bytes count bytes)) = tt
-finding_two slots k f (Ok (answer.Stat a b c d)) = tt
-finding_two slots k f (Ok (answer.Usage a b c d e)) = tt
-finding_two slots k f (Ok (answer.Names names)) = tt
-finding_two slots k f (Ok (answer.Numbers counts)) = tt
-finding_two slots k f (Ok (answer.PerNode n rows)) = tt
-finding_two slots k f (Err r) = tt
+finding_two slots k f r = grind arith
 
 exits : (ks : List ℕ) (task n : ℕ) (next : Script) → AtMost n next → AtMost (length ks + n) (exit_slots ks task next)
 exits [] task n next all = subst (λ m. AtMost m next) (omega arith) all
@@ -122,28 +109,7 @@ steps slots (Exit task) =
     let all : AtMost (suc slots) (script slots (Exit task)) = exit_most slots task in
     let is : suc slots ≡ slots + 1 = omega arith in
     subst (λ n. AtMost n (script slots (Exit task))) is all
-steps slots (Mount k options) = slot_one slots k (slot.Mount options)
-steps slots (Remount k options) = slot_one slots k (slot.Remount options)
-steps slots (Umount k) = slot_one slots k slot.Umount
-steps slots (Create k name) = slot_one slots k (slot.Create name)
-steps slots (Unlink k name) = slot_one slots k (slot.Unlink name)
-steps slots (Truncate k name pages) = slot_one slots k (slot.Truncate name pages)
-steps slots (Punch k name a b) = slot_one slots k (slot.Punch name a b)
-steps slots (Preallocate k name a b) = slot_one slots k (slot.Preallocate name a b)
-steps slots (Read k name i offset count) = slot_one slots k (slot.Read name i offset count)
-steps slots (Ls k) = slot_one slots k slot.Ls
-steps slots (Stat k name) = slot_one slots k (slot.Stat name)
-steps slots (Map task k name a pages sharing reserving) = finding_two slots k (λ home. slot.Map task home name a pages sharing reserving)
-steps slots (Anon task pages sharing reserving) = finding_two slots 0 (λ home. slot.Anon task home pages sharing reserving)
-steps slots (Unmap task k number a b) = finding_two slots k (λ home. slot.Unmap task number a b)
-steps slots (Fault task k number i intent) = finding_two slots k (λ home. slot.Fault task home number i intent)
-steps slots (Load task k number i offset count) = finding_two slots k (λ home. slot.Load task home number i offset count)
-steps slots (Store task k number i offset bytes) = finding_two slots k (λ home. slot.Store task home number i offset bytes)
-steps slots (Nr pages) = λ r. tt
-steps slots (Overcommit pages) = λ r. tt
-steps slots Meminfo = λ r. tt
-steps slots Nodes = λ r. tt
-steps slots (Df k) = slot_one slots k slot.Df
+steps slots step = grind (arith, slot_one, finding_two)
 
 pub receipts_are_few : (slots : ℕ) (step : Step) (xs : List (Event × Reply)) →
     ((reply : Reply) → Tells (script slots step) xs reply → length xs ≤ most_receipts slots step)

@@ -1,4 +1,5 @@
 -- A slot has maps of no more tasks than there may be, whatever event it carries out.
+use Rattle.std.proofs.lemmas.Grind.{common_steps}
 use Rattle.std.proofs.Common.{◌≡◌, ℕ, ◌+◌, ◌<◌, ◌≤◌, Bool, true, false, ◌&&◌, ◌||◌, ◌==◌, not, None, Some, List}
 use Rattle.std.proofs.Common.{[], ◌∷◌, ◌++◌, length, map, cond, arith, refl, sym, ap, ◌∙◌, subst, nat_lt, nat_le}
 use Rattle.std.specs.List.{count_by, filter, flat_map, sum_by}
@@ -13,16 +14,16 @@ use Rattle.hp_model.specs.declared.step.Sharing.{Sharing}
 use Rattle.hp_model.specs.files.Access.{access}
 use Rattle.hp_model.specs.files.File.{File, Mount, maps_of, new_file, with_file}
 use Rattle.hp_model.specs.files.Fork.{forked}
-use Rattle.hp_model.specs.files.GiveBack.{file_unmapped, file_without, is_kept, is_left, map_unmapped, punched, swept, truncated, unlinked, without_task}
+use Rattle.hp_model.specs.files.GiveBack.{file_unmapped, file_without, is_kept, punched, swept, truncated, unlinked, without_task}
 use Rattle.hp_model.specs.Lists.{distinct, is_among}
 use Rattle.hp_model.specs.files.MakeMap.{mapped, new_map, next_number, tasks_of, with_new}
-use Rattle.hp_model.specs.files.Mapping.{Map, is_map, is_of, map_punched, without_range}
-use Rattle.hp_model.specs.machine.Plan.{Answered, Choice, Outcome, Refused, Slot, gives}
+use Rattle.hp_model.specs.files.Mapping.{Map, is_map, is_of, map_punched}
+use Rattle.hp_model.specs.machine.Plan.{Answered, Choice, Outcome, Slot, gives}
 use Rattle.hp_model.specs.machine.Promises.{Shape, shape_of}
-use Rattle.hp_model.specs.machine.SlotEvent.{are_too_many_maps, byte_access, fault_tests}
+use Rattle.hp_model.specs.machine.SlotEvent.{byte_access, fault_tests}
 use Rattle.hp_model.specs.machine.SlotEvent.{is_new_task_over, on_mount}
 use Rattle.hp_model.specs.machine.SlotEvent.{slot_event, umount_tests}
-use Rattle.hp_model.specs.Profile.{most_map_pages, most_maps, most_tasks}
+use Rattle.hp_model.specs.Profile.{most_maps, most_tasks}
 use Rattle.hp_model.specs.files.Spot.{Spot, file_written, written}
 use Rattle.hp_model.proofs.Distinct.{is_among-append, length_if, same_members}
 use Rattle.hp_laws.specs.Balance.{Always, left_by}
@@ -43,8 +44,7 @@ use Rattle.hp_laws.proofs.names.Meanings.{written_key}
 -- ---- a list whose numbers are all in another has no more different ones
 
 cond_le : (b : Bool) (n : ℕ) → n ≤ cond b n (n + 1)
-cond_le true n = omega arith
-cond_le false n = omega arith
+cond_le b n = grind arith
 
 grows : (ys xs : List ℕ) → length (distinct xs) ≤ length (distinct (ys ++ xs))
 grows [] xs = omega arith
@@ -52,9 +52,7 @@ grows (y ∷ ys) xs = (let before = grows ys xs in let is = length_if (is_among 
     let le = cond_le (is_among y (ys ++ xs)) (length (distinct (ys ++ xs))) in omega (arith, before, is, le))
 
 covers : (a b : Bool) → (b ≡ true → a ≡ true) → (a || b) ≡ a
-covers true b h = refl
-covers false true h = (let e = h refl in cc)
-covers false false h = refl
+covers a b h = grind arith
 
 pub fewer : (xs ys : List ℕ) → ((q : ℕ) → is_among q xs ≡ true → is_among q ys ≡ true) → length (distinct xs) ≤ length (distinct ys)
 fewer xs ys within =
@@ -63,16 +61,13 @@ fewer xs ys within =
     omega (arith, more, same)
 
 or_right : (a b : Bool) → b ≡ true → (a || b) ≡ true
-or_right true b e = refl
-or_right false b e = e
+or_right a b e = grind arith
 
 or_both : (a b c : Bool) → (b ≡ true → c ≡ true) → (a || b) ≡ true → (a || c) ≡ true
-or_both true b c h e = refl
-or_both false b c h e = h e
+or_both a b c h e = grind arith
 
 neither : (a b : Bool) → (a || b) ≡ false → (a ≡ false) × (b ≡ false)
-neither true b e = cc
-neither false b e = (refl, e)
+neither a b e = grind arith
 
 distinct_in : (q : ℕ) (xs : List ℕ) → is_among q (distinct xs) ≡ true → is_among q xs ≡ true
 distinct_in q [] e = e
@@ -89,12 +84,10 @@ abbrev tasks : List Map → List ℕ
 tasks xs = map (λ (x : Map). x.task) xs
 
 one_or : (b : Bool) (n : ℕ) (r : Bool) → (0 < n → r ≡ true) → 0 < bit b + n → (b || r) ≡ true
-one_or true n r h l = refl
-one_or false n r h l = h (omega (arith, l))
+one_or b n r h l = grind arith
 
 or_one : (b : Bool) (n : ℕ) (r : Bool) → (r ≡ true → 0 < n) → (b || r) ≡ true → 0 < bit b + n
-or_one true n r h e = omega arith
-or_one false n r h e = (let some = h e in omega (arith, some))
+or_one b n r h e = grind arith
 
 among_some : (q : ℕ) (xs : List Map) → 0 < count_by (is_of q) xs → is_among q (tasks xs) ≡ true
 among_some q [] l = absurd (omega (arith, l))
@@ -121,15 +114,13 @@ abbrev shape_bit : ℕ → Shape → ℕ
 shape_bit q s = bit (s.task == q)
 
 by_shapes : (q : ℕ) (xs : List Map) → count_by (is_of q) xs ≡ sum_by (shape_bit q) (map shape_of xs)
-by_shapes q [] = refl
-by_shapes q (x ∷ xs) = omega (arith, sum_by-cons (λ (y : Map). bit (is_of q y)) x xs, sum_by-cons (shape_bit q) (shape_of x) (map shape_of xs), by_shapes q xs)
+by_shapes q xs = grind (arith, common_steps)
 
 abbrev in_key : ℕ → FileKey → ℕ
 in_key q k = sum_by (shape_bit q) k.1
 
 by_keys : (q : ℕ) (fs : List File) → sum_by (λ f. count_by (is_of q) f.maps) fs ≡ sum_by (in_key q) (map file_key fs)
-by_keys q [] = refl
-by_keys q (f ∷ fs) = omega (arith, sum_by-cons (λ f. count_by (is_of q) f.maps) f fs, sum_by-cons (in_key q) (file_key f) (map file_key fs), by_shapes q f.maps, by_keys q fs)
+by_keys q fs = grind (arith, common_steps)
 
 same_file : (q : ℕ) (f g : File) → file_key f ≡ file_key g → count_by (is_of q) f.maps ≡ count_by (is_of q) g.maps
 same_file q f g e = by_shapes q f.maps ∙ ap (in_key q) e ∙ sym (by_shapes q g.maps)
@@ -151,10 +142,7 @@ each_le q m h le =
     omega (arith, less, in_files q m.files, in_files q (map h m.files))
 
 new_is : (q : ℕ) (m : Mount) (g : File) → by_task q (with_new m g) ≡ by_task q m + count_by (is_of q) g.maps
-new_is q m g =
-    let both = sum_by-append (λ (f : File). count_by (is_of q) f.maps) m.files (g ∷ []) in
-    let last = sum_by-cons (λ (f : File). count_by (is_of q) f.maps) g [] in
-    omega (arith, both, last, in_files q m.files, in_files q (m.files ++ g ∷ []))
+new_is q m g = grind (arith, common_steps)
 
 kept_tasks : (q : ℕ) (h : Map → Map) → ((x : Map) → (h x).task ≡ x.task) → (xs : List Map) → count_by (is_of q) (map h xs) ≤ count_by (is_of q) xs
 kept_tasks q h same xs = sum_by-map_le (λ (x : Map). bit (is_of q x)) h (λ x. (let e = ap (λ t. bit (t == q)) (same x) in omega (arith, e))) xs
@@ -183,9 +171,7 @@ module _ (size k : ℕ) (c : Choice) (m : Mount) (few : Few m) where
 
       fits : (a b : Bool) → (a ≡ true → b ≡ true) → (not a && nat_le most_tasks (length (tasks_of m))) ≡ false → cond b (length (tasks_of m)) (length (tasks_of m) + 1) ≤ most_tasks
       fits true true h e = few
-      fits true false h e = (let f = h refl in cc)
-      fits false true h e = few
-      fits false false h e = (let l = leb-false most_tasks (length (tasks_of m)) e in omega (arith, l))
+      fits a b h e = grind (arith, leb-false)
 
   edited_few : (q : ℕ × File) (g : File) → IsFileAt m q.0 q.1 → ((t : ℕ) → count_by (is_of t) g.maps ≤ count_by (is_of t) q.1.maps) → Few (swept (with_file m q.0 g))
   edited_few q g at le = less_few (swept (with_file m q.0 g)) (λ t. (let set = set_le t m q.0 q.1 g at (le t) in omega (arith, set, swept_le t (with_file m q.0 g))))
@@ -194,20 +180,12 @@ module _ (size k : ℕ) (c : Choice) (m : Mount) (few : Few m) where
   each_few h le = less_few (swept (record m { files = map h m.files })) (λ t. (let each = each_le t m h (le t) in omega (arith, each, swept_le t (record m { files = map h m.files }))))
 
   unmap_le : (test : Map → Bool) (a b t : ℕ) (f : File) → count_by (is_of t) (file_unmapped test a b f).maps ≤ count_by (is_of t) f.maps
-  unmap_le test a b t f =
-      let cut : Map → Map = map_unmapped test a b in
-      let gone = sum_by-filter_le (λ (x : Map). bit (is_of t x)) (is_left test) (map cut f.maps) in
-      let kept = kept_tasks t cut (λ x. cond_both (test x) (without_range a b x) x (λ (y : Map). y.task ≡ x.task) (λ e. refl) (λ e. refl)) f.maps in
-      omega (arith, gone, kept)
+  unmap_le test a b t f = grind (arith, common_steps, sum_by-filter_le, bit, kept_tasks, cond_both)
 
   -- a file with a map more, made after these tests
   mapped_le : (task number a n : ℕ) (sharing : Sharing) (reserving : Reserving) (xs : List Map) (t : ℕ) →
       count_by (is_of t) (xs ++ new_map task number a n sharing reserving ∷ []) ≡ count_by (is_of t) xs + bit (task == t)
-  mapped_le task number a n sharing reserving xs t =
-      let new : Map = new_map task number a n sharing reserving in
-      let both = sum_by-append (λ (x : Map). bit (is_of t x)) xs (new ∷ []) in
-      let last = sum_by-cons (λ (x : Map). bit (is_of t x)) new [] in
-      omega (arith, both, last)
+  mapped_le task number a n sharing reserving xs t = grind (arith, common_steps)
 
   -- ---- accesses
 
@@ -224,8 +202,7 @@ module _ (size k : ℕ) (c : Choice) (m : Mount) (few : Few m) where
 
   -- a map of a task more, where not too many are there
   no_task_over : (task n : ℕ) → AreFewMaps m task n → is_new_task_over m task ≡ false
-  no_task_over task n few =
-      (neither (nat_le most_maps (length (maps_of m))) (is_new_task_over m task) (neither (nat_lt most_map_pages n) (are_too_many_maps m task) few).1).1
+  no_task_over task n few = grind arith
 
   -- ---- each event
 
@@ -265,9 +242,7 @@ FewSlot None = Unit {0}
 FewSlot (Some m) = Few m
 
 left_few : (m : Mount) → Few m → (o : Outcome) → On Few o → FewSlot (left_by (Some m) o)
-left_few m few (Refused r) on = few
-left_few m few (Answered a None) on = tt
-left_few m few (Answered a (Some n)) on = on
+left_few m few o on = grind arith
 
 abbrev Stays : Slot → Outcome → Type 0
 Stays old o = FewSlot (left_by old o)
@@ -283,8 +258,7 @@ slots_stay_few size k c (Some m) e few = always_weaker (On Few) (Stays (Some m))
 -- ---- a task's exit
 
 one_stays : (b : Bool) (q : ℕ) (x : Map) (ys : List Map) → is_of q x ≡ b → count_by (is_of q) ys ≡ 0 → count_by (is_of q) (cond (not b) (x ∷ ys) ys) ≡ 0
-one_stays true q x ys e none = none
-one_stays false q x ys e none = (let parts = sum_by-cons (λ (y : Map). bit (is_of q y)) x ys in let out = ap bit e in omega (arith, parts, none, out))
+one_stays b q x ys e none = grind arith
 
 none_stay : (q : ℕ) (xs : List Map) → count_by (is_of q) (filter (λ (x : Map). not (is_of q x)) xs) ≡ 0
 none_stay q [] = refl
@@ -306,8 +280,7 @@ exits_le q t m =
     omega (arith, each, swept_le t all)
 
 not_true : (b : Bool) → (b ≡ true → ⊥) → b ≡ false
-not_true true h = absurd (h refl)
-not_true false h = refl
+not_true b h = grind arith
 
 -- the exit of a task that has maps leaves maps of a task less
 pub exit_fewer : (q : ℕ) (m : Mount) → is_among q (tasks_of m) ≡ true → length (tasks_of (without_task q m)) < length (tasks_of m)

@@ -1,9 +1,10 @@
 -- The law of joined runs: an induction on the list, in which the pool's numbers stay the sums over the slots.
-use Rattle.std.proofs.Common.{◌≡◌, inl, inr, ℕ, ◌+◌, ◌<◌, ◌==◌, Bool, false, cond, Option, None, Some, Ok, Err, List, [], ◌∷◌, length, map, refl, sym, ap, ◌∙◌, subst, arith}
+use Rattle.std.proofs.lemmas.Grind.{common_steps}
+use Rattle.std.proofs.Common.{◌≡◌, ℕ, ◌+◌, ◌<◌, ◌==◌, Bool, false, cond, Option, None, Some, List, [], ◌∷◌, length, map, refl, sym, ap, ◌∙◌, subst, arith}
 use Rattle.std.specs.List.{All, slice_index_or, slice_set}
 use Rattle.std.proofs.lemmas.Bool.{eq-eqb}
-use Rattle.std.proofs.lemmas.Bool.Decides.{eqb_tells, nat_tests}
-use Rattle.std.proofs.lemmas.List.{get_or-set_same, get_or-set_other, set-get_or, length-set}
+use Rattle.std.proofs.lemmas.Bool.Decides.{nat_tests}
+use Rattle.std.proofs.lemmas.List.{length-set}
 use Rattle.std.proofs.lemmas.List.Elements.{All-head, All-tail}
 use Rattle.hp_model.specs.declared.entry.Asked.{Asked}
 use Rattle.hp_model.specs.declared.entry.PoolEntry.{PoolEntry}
@@ -18,7 +19,7 @@ use Rattle.hp_model.specs.threads.JointRun.{slot_entry, section_entry, pool_entr
 use Rattle.hp_laws.specs.Laws.{JoinedLaw}
 use Rattle.hp_model.specs.threads.LocalRun.{Gives, Goes, IsLocalRun}
 use Rattle.hp_model.specs.machine.Machine.{pool_of, with_pool}
-use Rattle.hp_model.specs.machine.Plan.{Reply, Slot, Outcome, Refused, Answered, Plan, Finish, Ask, Choice}
+use Rattle.hp_model.specs.machine.Plan.{Reply, Slot, Outcome, Plan, Finish, Ask, Choice}
 use Rattle.hp_model.specs.pool.Pool.{section}
 use Rattle.hp_model.specs.declared.section.PoolAnswer.{PoolAnswer}
 use Rattle.hp_model.specs.pool.PoolCounts.{Pool}
@@ -42,21 +43,16 @@ PoolGoes p None q = p ≡ q
 PoolGoes p (Some a) q = section p a.section ≡ (a.answer, q)
 
 settles : (s : State) (k : ℕ) (o : Outcome) (old new : Slot) (r : Reply) → slot_at s k ≡ old → Gives o old r new → with_outcome s k o ≡ (r, with_slot s k new)
-settles s k (Refused e) old new r is h =
-    ap (λ xs. (Err e, record s { slots = xs })) (sym (set-get_or s.slots k None))
-    ∙ ap (λ x. (Err e, with_slot s k x)) (is ∙ sym h.1) ∙ ap (λ x. (x, with_slot s k new)) (sym h.0)
-settles s k (Answered a slot) old new r is h = ap (λ x. (Ok a, with_slot s k x)) (sym h.1) ∙ ap (λ x. (x, with_slot s k new)) (sym h.0)
+settles s k o old new r is h = grind (arith, common_steps)
 
 goes : (s : State) (k : ℕ) (p : Plan) (asked : Option Asked) (new : Slot) (r : Reply) (q : Pool) → Tells p → Goes p asked (slot_at s k) r new → PoolGoes (pool_of s) asked q
     → planned s k p ≡ (r, with_slot (with_pool s q) k new)
-goes s k (Finish o) None new r q tells h pool =
-    settles s k o (slot_at s k) new r refl h ∙ ap (λ (x : State). (r, with_slot x k new)) (sym (pool_back s) ∙ ap (λ x. with_pool s x) pool)
 goes s k (Finish o) (Some a) new r q tells h pool = absurd h
-goes s k (Ask sec f) None new r q tells h pool = absurd h
 goes s k (Ask sec f) (Some a) new r q tells h pool =
     let by : section (pool_of s) (sec a.answer.nr) ≡ (a.answer, q) = ap (λ x. section (pool_of s) x) h.0 ∙ pool in
     let is : section (pool_of s) (sec s.nr) ≡ (a.answer, q) = ap (λ x. section (pool_of s) x) (tells (pool_of s) a.answer q by) ∙ by in
     ap (λ x. asked_pool s k x f) is ∙ settles (with_pool s q) k (f a.answer) (slot_at s k) new r refl h.1
+goes s k p None new r q tells h pool = grind (arith, common_steps, settles, pool_back)
 
 leaves : (s : State) (p : Plan) (asked : Option Asked) (q : Pool) (new : Slot) (r : Reply) → Tells p → (old : Slot) → Goes p asked old r new → PoolGoes (pool_of s) asked q → pool_after s p ≡ q
 leaves s (Finish o) None q new r tells old h pool = pool
@@ -103,17 +99,7 @@ module _ (table : Table) (ends : ℕ → Slot) (numbers : Pool) where
       → IsLocalRun s.page_size n (slot_at s n) (option_cons (cond (k == n) (Some e) None) (of_slot n items)) (ends n)
       → IsLocalRun s.page_size k new (of_slot k items) (ends k)
       → IsLocalRun s.page_size n (slice_index_or (slice_set s.slots k new) n None) (of_slot n items) (ends n)
-  others_stay s k q new e items n there whole rest =
-      elim (eqb_tells k n) [
-        | inl w ↦
-            let at : slice_index_or (slice_set s.slots k new) k None ≡ new = get_or-set_same s.slots k new None there in
-            subst (λ (x : ℕ). IsLocalRun s.page_size x (slice_index_or (slice_set s.slots k new) x None) (of_slot x items) (ends x)) w.1
-            (subst (λ (x : Slot). IsLocalRun s.page_size k x (of_slot k items) (ends k)) (sym at) rest)
-        | inr w ↦
-            let at : slice_index_or (slice_set s.slots k new) n None ≡ slot_at s n = get_or-set_other s.slots k n new None (λ same. w.1 (sym same)) in
-            subst (λ (x : Slot). IsLocalRun s.page_size n x (of_slot n items) (ends n)) (sym at)
-            (subst (λ (b : Bool). IsLocalRun s.page_size n (slot_at s n) (option_cons (cond b (Some e) None) (of_slot n items)) (ends n)) w.0 whole)
-      ]
+  others_stay s k q new e items n there whole rest = grind (arith, common_steps)
 
   slot_steps : (s : State) (k : ℕ) (e : SlotEntry) (items : List Item) → IsSettledState s → k < length s.slots
       → IsTableRun (length s.nodes) s.table (of_tasks items) table
@@ -195,8 +181,7 @@ module _ (table : Table) (ends : ℕ → Slot) (numbers : Pool) where
 
   pool_next : (p : Pool) (asked : Option Asked) (rest : List PoolEntry) → IsPoolRun p (option_cons (second (section_entry asked)) rest) numbers
       → (q : Pool) × PoolGoes p asked q × IsPoolRun q rest numbers
-  pool_next p None rest run = (p, refl, run)
-  pool_next p (Some a) rest run = run
+  pool_next p asked rest run = grind arith
 
   steps : (s : State) (place : ℕ) (entry : Entry) (items : List Item) → IsSettledState s
       → IsTableRun (length s.nodes) s.table (option_cons (task_entry entry) (of_tasks items)) table
@@ -226,8 +211,7 @@ module _ (table : Table) (ends : ℕ → Slot) (numbers : Pool) where
 -- ---- the places dropped
 
 cons_second : {X : Type 0} (o : Option (ℕ × X)) (xs : List (ℕ × X)) → option_cons (second o) (map (λ x. x.1) xs) ≡ map (λ x. x.1) (option_cons o xs)
-cons_second None xs = refl
-cons_second (Some x) xs = refl
+cons_second o xs = grind arith
 
 keep_second : {X : Type 0} (f : Item → Option (ℕ × X)) (g : Item → Option X) → ((i : Item) → g i ≡ second (f i)) → (items : List Item) → keep g items ≡ map (λ x. x.1) (keep f items)
 keep_second f g same [] = refl
@@ -238,8 +222,7 @@ numbered_second k [] = refl
 numbered_second k (x ∷ xs) = ap (λ ys. x ∷ ys) (numbered_second (k + 1) xs)
 
 placed_second : {X : Type 0} (place : ℕ) (o : Option X) → o ≡ second (placed place o)
-placed_second place None = refl
-placed_second place (Some x) = refl
+placed_second place o = grind arith
 
 dropped : {X : Type 0} (f : Item → Option (ℕ × X)) (g : Item → Option X) (items : List Item) (xs : List X) → ((i : Item) → g i ≡ second (f i)) → keep f items ≡ numbered 0 xs → keep g items ≡ xs
 dropped f g items xs same is = keep_second f g same items ∙ ap (map (λ x. x.1)) is ∙ numbered_second 0 xs

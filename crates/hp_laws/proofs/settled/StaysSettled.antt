@@ -1,5 +1,6 @@
 -- The machine starts settled, and stays so.
-use Rattle.std.proofs.Common.{◌≡◌, replicate, subst, ℕ, zero, suc, ◌+◌, ◌-◌, ◌<◌, ◌≤◌, None, Some, Ok, Err, List, [], ◌∷◌, length, map, refl, sym, ap, ◌∙◌, arith, nat_le}
+use Rattle.std.proofs.lemmas.Grind.{common_steps}
+use Rattle.std.proofs.Common.{◌≡◌, replicate, subst, ℕ, ◌+◌, ◌-◌, ◌≤◌, None, Some, Ok, Err, List, [], ◌∷◌, length, map, refl, sym, ap, ◌∙◌, arith, nat_le}
 use Rattle.std.specs.List.{sum_by, range_with_len, All}
 use Rattle.std.proofs.lemmas.Bool.{ltb-true, cond_both}
 use Rattle.std.proofs.lemmas.List.{length-map}
@@ -7,7 +8,7 @@ use Rattle.std.proofs.lemmas.List.Elements.{All-cons, All-nil, All-head, All-tai
 use Rattle.std.proofs.lemmas.List.Sums.{sum_by-cons}
 use Rattle.hp_model.specs.declared.answer.Answer.TheVariants.{Done}
 use Rattle.hp_model.specs.declared.event.Event.{Event}
-use Rattle.hp_model.specs.declared.event.Event.TheVariants.{Tasks, Slot as OnSlot, Pool as OnPool}
+use Rattle.hp_model.specs.declared.event.Event.TheVariants.{Tasks}
 use Rattle.hp_model.specs.declared.event.PoolEvent.{PoolEvent}
 use Rattle.hp_model.specs.declared.event.PoolEvent.TheVariants.{Nr, Overcommit, Meminfo, Nodes}
 use Rattle.hp_model.specs.declared.node.NodeRow.{NodeRow}
@@ -23,7 +24,6 @@ use Rattle.hp_model.specs.pool.Resize.{pool_event, set_nr}
 use Rattle.hp_model.specs.beside.Run.{IsRun}
 use Rattle.hp_model.specs.machine.Settled.{IsSettledState}
 use Rattle.hp_laws.specs.Laws.{PoolIsTied, StartIsSettled, RunsAreSettled}
-use Rattle.hp_model.specs.machine.SlotEvent.{slot_event}
 use Rattle.hp_model.specs.machine.Sound.{IsSound}
 use Rattle.hp_model.specs.machine.State.{State, slot_at}
 use Rattle.hp_model.specs.machine.Step.{Script, Answer_with, Do, Where_mapped, script, IsScript, IsStep}
@@ -41,8 +41,7 @@ start_slots : (n : ℕ) → All IsSound (slots_from n)
 start_slots n = All-cons IsSound (Some open_mount) (replicate (n - 1) None) (empty_sound open_mount.limits) (All-replicate IsSound (n - 1) None tt)
 
 none_sum : (g : Slot → ℕ) → g None ≡ 0 → (n : ℕ) → sum_by g (replicate n None) ≡ 0
-none_sum g e zero = refl
-none_sum g e (suc n) = omega (arith, sum_by-cons g None (replicate n None), e, none_sum g e n)
+none_sum g e n = grind (arith, common_steps)
 
 abbrev idle_rows : State → ℕ → List ℕ → List NodeRow
 idle_rows s a frames = rows_of s a (map idle_node frames)
@@ -120,12 +119,7 @@ module _ (s : State) (st : IsSettledState s) where
 
 pub pool_is_tied : PoolIsTied
 pool_is_tied c s (Tasks e) can st = (refl, with_tasks s st (table_event (length s.nodes) s.table e).1)
-pool_is_tied c s (OnSlot k e) can st =
-    let l : k < length s.slots = ltb-true k (length s.slots) can.0 in
-    let sound = left_sound s k l st in
-    plan_tied s k (slot_event s.page_size k c (slot_at s k) e) l st (slots_are_balanced s.page_size k c (slot_at s k) e can.2 sound)
-    (slots_stay_sound s.page_size k c (slot_at s k) e can.2 sound)
-pool_is_tied c s (OnPool e) can st = pool_moves s st e
+pool_is_tied c s other can st = grind (arith, common_steps, ltb-true, left_sound, plan_tied, slots_are_balanced, slots_stay_sound, pool_moves)
 
 -- ---- runs
 

@@ -1,27 +1,26 @@
 -- Each access balances.
+use Rattle.std.proofs.Common.{arith}
 use Rattle.std.proofs.Common.{◌≡◌, ℕ, ◌<◌, Bool, true, false, ◌&&◌, not, None, Some, List, length, map, refl, ap, ◌∙◌, if◌then◌else◌}
 use Rattle.std.proofs.lemmas.Bool.{cond_both, and_parts, not-true}
 use Rattle.hp_model.specs.declared.answer.Answer.TheVariants.{Done}
-use Rattle.hp_model.specs.declared.refusal.Refusal.TheVariants.{TakenByOwner}
 use Rattle.hp_model.specs.declared.step.Intent.{Intent}
-use Rattle.hp_model.specs.declared.step.Intent.TheVariants.{Read, Write}
 use Rattle.hp_model.specs.files.Access.{shared_access, new_copy, uncopied_access, private_access, access}
 use Rattle.hp_laws.specs.Balance.{IsBalanced, Stays, left_by}
 use Rattle.hp_model.specs.files.CopyWrite.{robbed, taken_back, is_held_once, owner_write, copy_write}
-use Rattle.hp_model.specs.files.File.{with_file, with_cell, with_map, cell_at, has_page, Mount}
+use Rattle.hp_model.specs.files.File.{with_file, with_cell, with_map, cell_at, Mount}
 use Rattle.hp_model.specs.pool.Grant.{is_full, rise}
 use Rattle.hp_model.specs.Lists.{is_among}
 use Rattle.hp_model.specs.files.Mapping.{with_place, place_at, is_shared}
 use Rattle.hp_model.specs.files.MountCounts.{stamps_of}
 use Rattle.hp_model.specs.files.Page.{Page, Copy, zeros}
-use Rattle.hp_model.specs.machine.Plan.{Outcome, Answered, Plan, Finish, Ask, Choice, refuse, grant_page, reserved_page}
+use Rattle.hp_model.specs.machine.Plan.{Outcome, Answered, Plan, Finish, Ask, Choice, grant_page, reserved_page}
 use Rattle.hp_model.specs.declared.section.Section.TheVariants.{GrantPage}
 use Rattle.hp_model.specs.files.Spot.{Spot, copied, written, file_written}
 use Rattle.hp_model.specs.files.Value.{value}
 use Rattle.hp_model.specs.declared.cell.Cell.{Cell}
 use Rattle.hp_model.specs.declared.cell.Cell.TheVariants.{Hole, Entered, Present}
 use Rattle.hp_model.specs.declared.place.Place.{Place}
-use Rattle.hp_model.specs.declared.place.Place.TheVariants.{Gone, Live}
+use Rattle.hp_model.specs.declared.place.Place.TheVariants.{Live}
 use Rattle.hp_laws.proofs.counts.CopiesHeld.{IsAgreed}
 use Rattle.hp_laws.proofs.steps.CopyWrites.{copy_parts, takes_back, writes}
 use Rattle.hp_laws.proofs.counts.FileMoves.{fill_entry, fill_hole, copy_grows, copy_consumes}
@@ -59,10 +58,7 @@ module _ (c : Choice) (size : ℕ) (m : Mount) (s : Spot) (at : IsSpot m s) (agr
       (λ node. file_grows m s.file_no s.file _ node 1 1 at.file (copy_grows s.file s.map_no s.map i consumed (copy_for node shows) at.map is fresh)))
 
   uncopied_balanced : (consumed : Bool) (intent : Intent) → place_at s.map i ≡ Live consumed None → IsBalanced (Some m) (uncopied_access c size m s home i consumed intent)
-  uncopied_balanced consumed Write is = new_balanced consumed is
-  uncopied_balanced consumed Read is =
-      cond_both (has_page (cell_at s.file i)) (Finish (Answered Done (Some m))) (new_copy c size m s home i consumed) (IsBalanced (Some m))
-      (λ e. stays (Some m)) (λ e. new_balanced consumed is)
+  uncopied_balanced consumed intent is = grind (arith, new_balanced, cond_both, stays)
 
   -- ---- a write into a copy
 
@@ -101,17 +97,10 @@ module _ (c : Choice) (size : ℕ) (m : Mount) (s : Spot) (at : IsSpot m s) (agr
       (λ e. balanced_grant_page c m home (λ node. with_copy consumed node copy.page.bytes) (own_copy consumed copy is more)))
 
   private_balanced : (p : Place Copy) (intent : Intent) → place_at s.map i ≡ p → IsBalanced (Some m) (private_access c size m s home i p intent)
-  private_balanced Gone intent is = stays (Some m)
-  private_balanced (Live consumed (Some copy)) Read is = stays (Some m)
-  private_balanced (Live consumed (Some copy)) Write is = copy_balanced consumed copy is
-  private_balanced (Live consumed None) intent is =
-      cond_both s.map.unmapped (refuse TakenByOwner) (uncopied_access c size m s home i consumed intent) (IsBalanced (Some m))
-      (λ e. stays (Some m)) (λ e. uncopied_balanced consumed intent is)
+  private_balanced p intent is = grind (arith, stays, copy_balanced, cond_both, uncopied_balanced)
 
   pub access_balanced : (intent : Intent) → i < length s.file.cells → IsBalanced (Some m) (access c size m s home i intent)
-  access_balanced intent l =
-      cond_both (is_shared s.map.sharing) (shared_access c size m s home i (cell_at s.file i)) (private_access c size m s home i (place_at s.map i) intent) (IsBalanced (Some m))
-      (λ e. shared_balanced (cell_at s.file i) l refl) (λ e. private_balanced (place_at s.map i) intent refl)
+  access_balanced intent l = grind (arith, cond_both, shared_balanced, private_balanced)
 
 pub written_same : (m : Mount) (s : Spot) (i offset : ℕ) (bytes : List ℕ) → MountGrows m (written m s i offset bytes) 0 0 0
 written_same m s i offset bytes = edit_grows m s.file_no (file_written s i offset bytes) (writes (is_shared s.map.sharing) s.map_no i offset bytes)

@@ -1,21 +1,22 @@
 -- A write into a copy that other maps hold too: a copy of its own, or the owner takes the copy back.
-use Rattle.std.proofs.Common.{◌≡◌, ⊎_elim, inl, inr, ◌⊎◌, subst, ℕ, ◌-◌, ◌<◌, Bool, true, false, ◌&&◌, ◌||◌, ◌==◌}
+use Rattle.std.proofs.lemmas.Grind.{common_steps}
+use Rattle.std.proofs.Common.{◌≡◌, ⊎_elim, ◌⊎◌, subst, ℕ, ◌-◌, ◌<◌, Bool, true, false, ◌&&◌, ◌||◌, ◌==◌}
 use Rattle.std.proofs.Common.{not, None, Some, List, [], ◌∷◌, length, map, refl, sym, ap, ◌∙◌, cond, arith, if◌then◌else◌}
 use Rattle.std.specs.List.{list_any, slice_index_or, count_by}
 use Rattle.std.proofs.lemmas.List.{length-map, get_or-map}
-use Rattle.std.proofs.lemmas.Bool.{or_left, or_right, true_from_ne_false, both_ways, eq-eqb, eqb-true, and_from, and_parts, and_right, or_cases}
+use Rattle.std.proofs.lemmas.Bool.{or_left, or_right, true_from_ne_false, both_ways, eq-eqb, eqb-true, and_from, and_parts, or_cases}
 use Rattle.std.proofs.lemmas.List.Folds.{list_any_at}
 use Rattle.std.proofs.lemmas.List.Sums.{sum_by-set}
 use Rattle.hp_model.specs.files.CopyWrite.{is_held_once, robbed, drop_stamp, holds}
-use Rattle.hp_model.specs.files.File.{with_map, has_page, File}
+use Rattle.hp_model.specs.files.File.{with_map, File}
 use Rattle.hp_model.specs.Lists.{is_among, edit_at}
 use Rattle.hp_model.specs.files.Mapping.{with_place, without_copy, Map, place_at, is_unconsumed}
-use Rattle.hp_model.specs.files.MountCounts.{owner_reserves, stamps_of, is_waiting, is_page_at}
-use Rattle.hp_model.specs.files.Page.{overwritten, Page, Copy}
+use Rattle.hp_model.specs.files.MountCounts.{owner_reserves, stamps_of}
+use Rattle.hp_model.specs.files.Page.{Page, Copy}
 use Rattle.hp_model.specs.machine.Sound.{place_has, map_has, file_has, is_stamp}
 use Rattle.hp_model.specs.files.Spot.{cell_written, place_written, map_written}
 use Rattle.hp_model.specs.declared.cell.Cell.{Cell}
-use Rattle.hp_model.specs.declared.cell.Cell.TheVariants.{Hole, Entered, Present}
+use Rattle.hp_model.specs.declared.cell.Cell.TheVariants.{Present}
 use Rattle.hp_model.specs.declared.place.Place.{Place}
 use Rattle.hp_model.specs.declared.place.Place.TheVariants.{Gone, Live}
 use Rattle.hp_laws.proofs.counts.FileMoves.{or_false, FileGrows, IsMapAt, IsLiveAt, live_at, reserves_step, same_owed, held_in, maps_count, none_held, agreed_test, spent}
@@ -24,8 +25,7 @@ use Rattle.hp_laws.proofs.lists.Places.{any_two, any_unset, any_set_up, any_set_
 use Rattle.hp_laws.proofs.lists.AtMostOne.{bit}
 
 the_other : (a b c : Bool) → c ≡ (a || b) → (a ≡ true → b ≡ true) → b ≡ c
-the_other true b c e h = h refl ∙ sym e
-the_other false b c e h = sym e
+the_other a b c e h = grind arith
 
 module _ (f : File) (k : ℕ) (m : Map) (i : ℕ) (c : Bool) (old new : Copy) (here : IsMapAt f k m) (is : place_at m i ≡ Live c (Some old)) where
   abbrev rest : File
@@ -44,9 +44,7 @@ module _ (f : File) (k : ℕ) (m : Map) (i : ℕ) (c : Bool) (old new : Copy) (h
       (ap (place_has t) at.is ∙ or_false (t old.stamp old.page.node)))
 
   after_has : (t : ℕ → ℕ → Bool) → file_has t after ≡ (t new.stamp new.page.node || file_has t rest)
-  after_has t =
-      any_two (map_has t) (t new.stamp new.page.node) f.maps k (with_place m i (Live c (Some new))) (with_place m i (Live c None)) here.within
-      (any_two (place_has t) (t new.stamp new.page.node) m.places (i - m.start) (Live c (Some new)) (Live c None) at.within (or_false (t new.stamp new.page.node)))
+  after_has t = grind (arith, any_two, at, or_false)
 
   held_still : is_held_once f old.stamp ≡ false → file_has (is_stamp old.stamp) rest ≡ true
   held_still more =
@@ -86,13 +84,10 @@ module _ (f : File) (k : ℕ) (m : Map) (i : ℕ) (c : Bool) (old new : Copy) (h
 -- ---- the owner takes the copy back
 
 dropped_down : (t : ℕ → ℕ → Bool) (b : Bool) (p : Place Copy) → place_has t (if b then without_copy p else p) ≡ true → place_has t p ≡ true
-dropped_down t true Gone e = e
-dropped_down t true (Live c o) e = cc
-dropped_down t false p e = e
+dropped_down t b p e = grind arith
 
 robbed_if : (t : ℕ → ℕ → Bool) (stamp : ℕ) (b : Bool) (m : Map) → map_has t (if b then record m { unmapped = true; places = map (drop_stamp stamp) m.places } else m) ≡ true → map_has t m ≡ true
-robbed_if t stamp true m e = any_map_down (place_has t) (place_has t) (drop_stamp stamp) (λ p. dropped_down t (holds stamp p) p) m.places e
-robbed_if t stamp false m e = e
+robbed_if t stamp b m e = grind (arith, any_map_down, dropped_down)
 
 robbed_down : (t : ℕ → ℕ → Bool) (stamp : ℕ) (m : Map) → map_has t (robbed stamp m) ≡ true → map_has t m ≡ true
 robbed_down t stamp m e = robbed_if t stamp (list_any (holds stamp) m.places) m e
@@ -104,40 +99,21 @@ but stamp t s n = t s n && not (s == stamp)
 abbrev only : ℕ → (ℕ → ℕ → Bool) → ℕ → ℕ → Bool
 only stamp t s n = t s n && (s == stamp)
 
-kept_if : (q : ℕ → ℕ → Bool) (c : Bool) (copy : Copy) (b : Bool) → (b ≡ true → q copy.stamp copy.page.node ≡ false) →
-    q copy.stamp copy.page.node ≡ true → place_has q (if b then Live c None else Live c (Some copy)) ≡ true
-kept_if q c copy true h e = absurd (both_ways (q copy.stamp copy.page.node) (h refl) e)
-kept_if q c copy false h e = e
-
 kept_place : (t : ℕ → ℕ → Bool) (stamp : ℕ) (p : Place Copy) → place_has (but stamp t) p ≡ true → place_has (but stamp t) (drop_stamp stamp p) ≡ true
-kept_place t stamp Gone e = e
-kept_place t stamp (Live c None) e = e
-kept_place t stamp (Live c (Some copy)) e =
-    kept_if (but stamp t) c copy (copy.stamp == stamp) (λ is. and_right (t copy.stamp copy.page.node) (not (copy.stamp == stamp)) (ap not is)) e
+kept_place t stamp p e = grind arith
 
 kept_map : (t : ℕ → ℕ → Bool) (stamp : ℕ) (b : Bool) (m : Map) → map_has (but stamp t) m ≡ true
     → map_has (but stamp t) (if b then record m { unmapped = true; places = map (drop_stamp stamp) m.places } else m) ≡ true
-kept_map t stamp true m e = any_map_up (place_has (but stamp t)) (place_has (but stamp t)) (drop_stamp stamp) (kept_place t stamp) m.places e
-kept_map t stamp false m e = e
+kept_map t stamp b m e = grind (arith, any_map_up, kept_place)
 
 robbed_keeps : (t : ℕ → ℕ → Bool) (stamp : ℕ) (m : Map) → map_has (but stamp t) m ≡ true → map_has (but stamp t) (robbed stamp m) ≡ true
 robbed_keeps t stamp m e = kept_map t stamp (list_any (holds stamp) m.places) m e
 
--- either the stamp or another passes
-which_stamp : (a b : Bool) → a ≡ true → ((a && not b) ≡ true) ⊎ ((a && b) ≡ true)
-which_stamp true true e = inr refl
-which_stamp true false e = inl refl
-which_stamp false b e = cc
-
 which_place : (t : ℕ → ℕ → Bool) (stamp : ℕ) (p : Place Copy) → place_has t p ≡ true → (place_has (but stamp t) p ≡ true) ⊎ (place_has (only stamp t) p ≡ true)
-which_place t stamp Gone e = inl e
-which_place t stamp (Live c None) e = inl e
-which_place t stamp (Live c (Some copy)) e = which_stamp (t copy.stamp copy.page.node) (copy.stamp == stamp) e
+which_place t stamp p e = grind arith
 
 which : (t : ℕ → ℕ → Bool) (stamp : ℕ) (f : File) → file_has t f ≡ true → (file_has (but stamp t) f ≡ true) ⊎ (file_has (only stamp t) f ≡ true)
-which t stamp f e =
-    any_either (map_has t) (map_has (but stamp t)) (map_has (only stamp t))
-    (λ m. any_either (place_has t) (place_has (but stamp t)) (place_has (only stamp t)) (which_place t stamp) m.places) f.maps e
+which t stamp f e = grind (arith, any_either, which_place)
 
 -- a copy that passes
 pub record Holds (t : ℕ → ℕ → Bool) (has : (ℕ → ℕ → Bool) → Bool) : Type 0 where
@@ -147,14 +123,7 @@ pub record Holds (t : ℕ → ℕ → Bool) (has : (ℕ → ℕ → Bool) → Bo
   pub held : has (is_stamp_at node stamp) ≡ true
 
 place_some : (t : ℕ → ℕ → Bool) (p : Place Copy) → place_has t p ≡ true → Holds t (λ u. place_has u p)
-place_some t Gone e = cc
-place_some t (Live c None) e = cc
-place_some t (Live c (Some copy)) e = record {
-  stamp = copy.stamp;
-  node = copy.page.node;
-  passes = e;
-  held = and_from (copy.page.node == copy.page.node) (copy.stamp == copy.stamp) (eq-eqb copy.page.node copy.page.node refl) (eq-eqb copy.stamp copy.stamp refl);
-}
+place_some t p e = grind arith
 
 any_some : {X : Type 0} (t : ℕ → ℕ → Bool) (has : (ℕ → ℕ → Bool) → X → Bool) → ((x : X) → has t x ≡ true → Holds t (λ u. has u x)) → (xs : List X) →
     list_any (has t) xs ≡ true → Holds t (λ u. list_any (has u) xs)
@@ -168,20 +137,10 @@ pub some_copy : (t : ℕ → ℕ → Bool) (f : File) → file_has t f ≡ true 
 some_copy t f e = any_some t map_has (λ m. any_some t place_has (place_some t) m.places) f.maps e
 
 same_bool : (a b : Bool) → (a ≡ true → b ≡ true) → (b ≡ true → a ≡ true) → a ≡ b
-same_bool true b f g = sym (f refl)
-same_bool false true f g = g refl
-same_bool false false f g = refl
-
-unconsumed_if : (b : Bool) (p : Place Copy) → is_unconsumed (if b then without_copy p else p) ≡ is_unconsumed p
-unconsumed_if true Gone = refl
-unconsumed_if true (Live true o) = refl
-unconsumed_if true (Live false o) = refl
-unconsumed_if false p = refl
+same_bool a b f g = grind arith
 
 robbed_reserves : (stamp : ℕ) (b : Bool) (m : Map) → owner_reserves (if b then record m { unmapped = true; places = map (drop_stamp stamp) m.places } else m) ≡ owner_reserves m
-robbed_reserves stamp true m =
-    ap (λ n. cond m.owner n 0) (sum_by-map_same (λ (p : Place Copy). cond (is_unconsumed p) 1 0) (drop_stamp stamp) (λ p. ap bit (unconsumed_if (holds stamp p) p)) m.places)
-robbed_reserves stamp false m = refl
+robbed_reserves stamp b m = grind (arith, common_steps)
 
 module _ (f : File) (k : ℕ) (m : Map) (i : ℕ) (c : Bool) (copy : Copy) (here : IsMapAt f k m) (is : place_at m i ≡ Live c (Some copy)) where
   abbrev left : List Map
@@ -203,9 +162,7 @@ module _ (f : File) (k : ℕ) (m : Map) (i : ℕ) (c : Bool) (copy : Copy) (here
   within_left = let long = length-map f.maps (robbed copy.stamp) in let l = here.within in omega (arith, long, l)
 
   back_down : (t : ℕ → ℕ → Bool) → file_has t back ≡ true → file_has t f ≡ true
-  back_down t e =
-      ⊎_elim (λ l. any_map_down (map_has t) (map_has t) (robbed copy.stamp) (robbed_down t copy.stamp) f.maps l)
-      (λ r. in_file t r) (any_of_set (map_has t) left k m e)
+  back_down t e = grind (arith, any_map_down, robbed_down, in_file, any_of_set)
 
   back_up : IsAgreed f → (t : ℕ → ℕ → Bool) → file_has t f ≡ true → file_has t back ≡ true
   back_up agreed t e =
@@ -242,37 +199,20 @@ module _ (f : File) (k : ℕ) (m : Map) (i : ℕ) (c : Bool) (copy : Copy) (here
 
 cell_same : (offset : ℕ) (bytes : List ℕ) (test : Cell Page → Bool) → ((p q : Page) → p.node ≡ q.node → test (Present p) ≡ test (Present q)) →
     (x : Cell Page) → bit (test (cell_written offset bytes x)) ≡ bit (test x)
-cell_same offset bytes test h Hole = refl
-cell_same offset bytes test h Entered = refl
-cell_same offset bytes test h (Present page) = ap bit (h (overwritten offset bytes page) page refl)
+cell_same offset bytes test h q = grind arith
 
 place_same : (t : ℕ → ℕ → Bool) (offset : ℕ) (bytes : List ℕ) (p : Place Copy) → place_has t (place_written offset bytes p) ≡ place_has t p
-place_same t offset bytes Gone = refl
-place_same t offset bytes (Live c None) = refl
-place_same t offset bytes (Live c (Some copy)) = refl
+place_same t offset bytes p = grind arith
 
 place_owes : (offset : ℕ) (bytes : List ℕ) (p : Place Copy) → bit (is_unconsumed (place_written offset bytes p)) ≡ bit (is_unconsumed p)
-place_owes offset bytes Gone = refl
-place_owes offset bytes (Live c None) = refl
-place_owes offset bytes (Live true (Some copy)) = refl
-place_owes offset bytes (Live false (Some copy)) = refl
+place_owes offset bytes p = grind arith
 
 map_owes : (i offset : ℕ) (bytes : List ℕ) (m : Map) → owner_reserves (map_written i offset bytes m) ≡ owner_reserves m
-map_owes i offset bytes m =
-    ap (λ n. cond m.owner n 0) (sum_by-edit_at (λ (p : Place Copy). cond (is_unconsumed p) 1 0) (place_written offset bytes) (place_owes offset bytes) m.places (i - m.start))
+map_owes i offset bytes m = grind (arith, sum_by-edit_at, place_owes)
 
 pub writes : (b : Bool) (k i offset : ℕ) (bytes : List ℕ) (f : File)
     → FileGrows f (if b then record f { cells = edit_at (cell_written offset bytes) f.cells i } else record f { maps = edit_at (map_written i offset bytes) f.maps k }) 0 0 0
-writes true k i offset bytes f =
-    let count = λ (test : Cell Page → Bool) (h : (p q : Page) → p.node ≡ q.node → test (Present p) ≡ test (Present q)).
-    sum_by-edit_at (λ x. cond (test x) 1 0) (cell_written offset bytes) (cell_same offset bytes test h) f.cells i in
-    let pages = count has_page (λ p q e. refl) in
-    let waits = count is_waiting (λ p q e. refl) in
-    record {
-      pages = omega (arith, pages);
-      usage = omega (arith, pages, waits);
-      each = λ n. omega (arith, count (is_page_at n) (λ p q e. ap (λ x. x == n) e), spent (0 == n));
-    }
+writes true k i offset bytes f = grind (arith, sum_by-edit_at, cell_same, spent)
 writes false k i offset bytes f =
     let g : File = record f { maps = edit_at (map_written i offset bytes) f.maps k } in
     let has = λ (t : ℕ → ℕ → Bool). any_edit_at (map_has t) (map_written i offset bytes)

@@ -1,4 +1,5 @@
 -- What each way of making a plan has, the plan of each event has: one walk over the accesses and the events of a mount.
+use Rattle.std.proofs.Common.{arith}
 use Rattle.std.proofs.Common.{ℕ, ◌&&◌, ◌==◌, Bool, true, not, None, Some, List, [], ◌∷◌, length, if◌then◌else◌}
 use Rattle.std.specs.List.{sum}
 use Rattle.std.proofs.lemmas.Bool.{cond_both}
@@ -8,24 +9,24 @@ use Rattle.hp_model.specs.declared.cell.Cell.{Cell}
 use Rattle.hp_model.specs.declared.cell.Cell.TheVariants.{Entered, Hole, Present}
 use Rattle.hp_model.specs.declared.event.SlotEvent.{SlotEvent}
 use Rattle.hp_model.specs.declared.place.Place.{Place}
-use Rattle.hp_model.specs.declared.place.Place.TheVariants.{Gone, Live}
+use Rattle.hp_model.specs.declared.place.Place.TheVariants.{Live}
 use Rattle.hp_model.specs.declared.refusal.Refusal.{Refusal}
-use Rattle.hp_model.specs.declared.refusal.Refusal.TheVariants.{MountFull, OutOfMemory, OutOfRange, TakenByOwner}
+use Rattle.hp_model.specs.declared.refusal.Refusal.TheVariants.{MountFull, OutOfMemory}
 use Rattle.hp_model.specs.declared.section.Section.TheVariants.{FillPages, GiveBack, Grant, GrantPage, TakePage}
 use Rattle.hp_model.specs.declared.step.Intent.{Intent}
 use Rattle.hp_model.specs.declared.step.Intent.TheVariants.{Read, Write}
 use Rattle.hp_model.specs.files.Access.{access, new_copy, private_access, shared_access, uncopied_access}
 use Rattle.hp_model.specs.files.CopyWrite.{copy_write, is_held_once, owner_write, taken_back}
-use Rattle.hp_model.specs.files.File.{Mount, cell_at, has_page, new_file, with_cell, with_file, with_map}
+use Rattle.hp_model.specs.files.File.{Mount, new_file, with_cell, with_file, with_map}
 use Rattle.hp_model.specs.files.Fill.{lacking, range_filled, rising_nodes}
 use Rattle.hp_model.specs.files.Fork.{forked}
 use Rattle.hp_model.specs.files.GiveBack.{punched, truncated, unlinked, unmapped_from, without_task}
 use Rattle.hp_model.specs.pool.Grant.{is_full, rise}
 use Rattle.hp_model.specs.files.MakeMap.{asked, mapped, next_number, with_new}
-use Rattle.hp_model.specs.files.Mapping.{is_shared, place_at, with_place}
+use Rattle.hp_model.specs.files.Mapping.{with_place}
 use Rattle.hp_model.specs.files.Page.{Copy, Page, zeros}
 use Rattle.hp_model.specs.machine.Plan.{Answered, Ask, Choice, Finish, Outcome, Plan, Refused, Slot, and_then}
-use Rattle.hp_model.specs.machine.Plan.{fall_of, gives, grant, grant_page, puts_of, refuse, reserved_page, unless, when_granted}
+use Rattle.hp_model.specs.machine.Plan.{fall_of, gives, grant, grant_page, puts_of, reserved_page, unless, when_granted}
 use Rattle.hp_model.specs.machine.SlotEvent.{byte_access, byte_tests, bytes_answer, edited, fault_tests, on_mount, preallocated, unentered}
 use Rattle.hp_model.specs.files.Spot.{Spot, again, written}
 use Rattle.hp_model.specs.files.Value.{value}
@@ -88,9 +89,7 @@ module _ (W : Plan → Type 0) where
           either (s.map.owner && not consumed) _ _ (plan_reserved home (λ node. with_copy true (fresh node))) (plan_page c m home (λ node. with_copy consumed (fresh node)))
 
       plan_uncopied : (consumed : Bool) (intent : Intent) → W (uncopied_access c size m s home i consumed intent)
-      plan_uncopied consumed Write = plan_new consumed
-      plan_uncopied consumed Read = either (has_page (cell_at s.file i)) (Finish (Answered Done (Some m))) (new_copy c size m s home i consumed)
-          (rules.done (Answered Done (Some m))) (plan_new consumed)
+      plan_uncopied consumed intent = grind (arith, plan_new, either)
 
       plan_owner : (stamp : ℕ) (n : ℕ → Slot) → W (owner_write m s home stamp (λ node. Answered Done (n node)))
       plan_owner stamp n =
@@ -106,16 +105,10 @@ module _ (W : Plan → Type 0) where
           (either s.map.owner owns asks (plan_owner copy.stamp own) (plan_page c m home own))
 
       plan_private : (p : Place Copy) (intent : Intent) → W (private_access c size m s home i p intent)
-      plan_private Gone intent = rules.done (Refused OutOfRange)
-      plan_private (Live consumed (Some copy)) Read = rules.done (Answered Done (Some m))
-      plan_private (Live consumed (Some copy)) Write = plan_copy consumed copy
-      plan_private (Live consumed None) intent = either s.map.unmapped (refuse TakenByOwner) (uncopied_access c size m s home i consumed intent)
-          (rules.done (Refused TakenByOwner)) (plan_uncopied consumed intent)
+      plan_private p intent = grind (arith, plan_copy, either, plan_uncopied)
 
       plan_access : (intent : Intent) → W (access c size m s home i intent)
-      plan_access intent =
-          either (is_shared s.map.sharing) (shared_access c size m s home i (cell_at s.file i)) (private_access c size m s home i (place_at s.map i) intent)
-          (plan_shared (cell_at s.file i)) (plan_private (place_at s.map i) intent)
+      plan_access intent = grind (arith, either, plan_shared, plan_private)
 
       plan_bytes : (offset count : ℕ) (intent : Intent) → W (byte_access c size m home i offset count intent s)
       plan_bytes offset count intent = tested (byte_tests size i offset count s) (access c size m s home i intent) (plan_access intent)

@@ -1,27 +1,22 @@
 -- How each way of making a plan balances.
-use Rattle.std.proofs.Common.{◌≡◌, ⊎_elim, inl, inr, ap, ◌∙◌, subst, length, ℕ, zero, suc, ◌+◌, ◌-◌, ◌<◌, ◌≤◌}
-use Rattle.std.proofs.Common.{Bool, true, false, ◌&&◌, ◌==◌, None, Some, List, [], ◌∷◌, refl, cond, arith, if◌then◌else◌}
-use Rattle.std.specs.List.{sum, slice_index_or}
-use Rattle.std.proofs.lemmas.Bool.{cond_both, and_parts, eqb-true}
-use Rattle.std.proofs.lemmas.Bool.Decides.{nat_tests}
-use Rattle.std.specs.Prelude.{nat_lt}
-use Rattle.std.proofs.lemmas.List.Sums.{get_or-le-sum_by}
+use Rattle.std.proofs.lemmas.Grind.{common_steps}
+use Rattle.std.proofs.Common.{◌≡◌, inl, ℕ, ◌≤◌}
+use Rattle.std.proofs.Common.{Bool, false, ◌&&◌, ◌==◌, None, Some, List, [], ◌∷◌, refl, arith, if◌then◌else◌}
+use Rattle.std.proofs.lemmas.Bool.{cond_both}
 use Rattle.hp_model.specs.declared.answer.Answer.{Answer}
 use Rattle.hp_model.specs.declared.answer.Answer.TheVariants.{Done}
 use Rattle.hp_model.specs.declared.refusal.Refusal.{Refusal}
 use Rattle.hp_model.specs.declared.refusal.Refusal.TheVariants.{NoPages, MountFull, OutOfMemory}
-use Rattle.hp_laws.specs.Balance.{Change, Stays, IsBalanced, IsLimited, left_by}
+use Rattle.hp_laws.specs.Balance.{Change, Stays, IsBalanced, left_by}
 use Rattle.hp_model.specs.machine.Plan.{slot_usage}
 use Rattle.hp_model.specs.files.File.{Mount}
 use Rattle.hp_model.specs.files.Fill.{rising_nodes}
-use Rattle.hp_model.specs.pool.Grant.{rise, is_full, is_over}
-use Rattle.hp_model.specs.files.MountCounts.{pages_at, usage_of}
+use Rattle.hp_model.specs.pool.Grant.{rise, is_full}
 use Rattle.hp_model.specs.machine.Plan.{Slot, Outcome, Refused, Answered, Plan, Finish, Ask, Choice, refuse, unless, continued}
-use Rattle.hp_model.specs.machine.Plan.{and_then, grant, grant_page, reserved_page, when_granted, slot_committed, slot_pages_at, puts_of, fall_of, gives}
-use Rattle.hp_model.specs.declared.section.Section.TheVariants.{FillPages, Grant, GiveBack}
-use Rattle.hp_model.specs.declared.limits.Limits.{Limits}
+use Rattle.hp_model.specs.machine.Plan.{and_then, grant, grant_page, reserved_page, when_granted, slot_committed, slot_pages_at, gives}
+use Rattle.hp_model.specs.declared.section.Section.TheVariants.{FillPages}
 use Rattle.hp_laws.proofs.counts.MountMoves.{MountGrows, MountFills, MountFalls}
-use Rattle.hp_laws.proofs.lists.NodesOf.{count_of, length-nodes_of}
+use Rattle.hp_laws.proofs.lists.NodesOf.{count_of}
 use Rattle.hp_laws.proofs.counts.NodeSums.{pages-le-committed}
 use Rattle.hp_laws.proofs.steps.Walk.{plan_unless}
 
@@ -37,83 +32,24 @@ balanced_test old b r ts p h = cond_both b (refuse r) (unless ts p) (IsBalanced 
 
 -- ---- limits
 
-within_same : (l k : Limits) (u v : ℕ) → l ≡ k → u ≡ v → is_over k.max v ≡ false → is_over l.max u ≡ false
-within_same l k u v e h f = ap (λ x. is_over x.max u) e ∙ ap (is_over k.max) h ∙ f
-
-not_full : (b o : Bool) → b ≡ true → (b && o) ≡ false → o ≡ false
-not_full true o e f = f
-not_full false o e f = cc
-
-limited_by : (m n : Mount) (k : ℕ) → usage_of n ≡ usage_of m + k → n.limits ≡ m.limits → is_full m k ≡ false → IsLimited (Some m) (Some n)
-limited_by m n zero u l f = inl (omega (arith, u))
-limited_by m n (suc k) u l f = inr (within_same n.limits m.limits (usage_of n) (usage_of m + suc k) l u (not_full (nat_lt 0 (suc k)) _ (grind (arith, nat_tests)) f))
-
 -- ---- an outcome by the pool's answer
 
-none_more : (b : Bool) (x y : ℕ) → x ≡ y + cond b 0 0 → x + 0 ≡ y + 0
-none_more true x y e = omega (arith, e)
-none_more false x y e = omega (arith, e)
-
--- pages at the node, and the usage, one more
-grown_one : (m n : Mount) (node : ℕ) → is_full m 1 ≡ false → MountGrows m n node 1 1 → Change (Some m) (Some n) (rise m 1) 0 (λ x. if node == x then 1 else 0) (λ x. 0) 1
-grown_one m n node room grows = record {
-  committed = (let usage = grows.usage in let min = ap (λ l. l.min) grows.limits in omega (arith, usage, min));
-  pages = λ x l. (let each = grows.each x in omega (arith, each));
-  covered = omega arith;
-  far = λ x. (let each = grows.each x in omega (arith, each));
-  limited = limited_by m n 1 grows.usage grows.limits room;
-}
-
 grown_reserved : (m n : Mount) (node : ℕ) → MountGrows m n node 1 0 → Change (Some m) (Some n) 0 0 (λ x. if node == x then 1 else 0) (λ x. 0) 1
-grown_reserved m n node grows = record {
-  committed = (let usage = grows.usage in let min = ap (λ l. l.min) grows.limits in omega (arith, usage, min));
-  pages = λ x l. (let each = grows.each x in omega (arith, each));
-  covered = (let usage = grows.usage in let pages = grows.pages in omega (arith, usage, pages));
-  far = λ x. (let each = grows.each x in omega (arith, each));
-  limited = inl (let usage = grows.usage in omega (arith, usage));
-}
-
-grown_by : (m n : Mount) (k : ℕ) → is_full m k ≡ false → MountGrows m n 0 0 k → Change (Some m) (Some n) (rise m k) 0 (λ x. 0) (λ x. 0) 0
-grown_by m n k room grows = record {
-  committed = (let usage = grows.usage in let min = ap (λ l. l.min) grows.limits in omega (arith, usage, min));
-  pages = λ x l. (let each = grows.each x in none_more (0 == x) (pages_at x n) (pages_at x m) each);
-  covered = omega arith;
-  far = λ x. (let same = none_more (0 == x) (pages_at x n) (pages_at x m) (grows.each x) in omega (arith, same));
-  limited = limited_by m n k grows.usage grows.limits room;
-}
+grown_reserved m n node grows = grind arith
 
 pub grown_same : (m n : Mount) → MountGrows m n 0 0 0 → Stays (Some m) (Some n)
-grown_same m n grows = record {
-  committed = (let usage = grows.usage in let min = ap (λ l. l.min) grows.limits in omega (arith, usage, min));
-  pages = λ x l. (let each = grows.each x in none_more (0 == x) (pages_at x n) (pages_at x m) each);
-  covered = omega arith;
-  far = λ x. (let same = none_more (0 == x) (pages_at x n) (pages_at x m) (grows.each x) in omega (arith, same));
-  limited = inl (let usage = grows.usage in omega (arith, usage));
-}
-
--- pages of these nodes, and the usage u more
-grown_filled : (m n : Mount) (nodes : List ℕ) (u : ℕ) → is_full m u ≡ false → MountFills m n nodes u → Change (Some m) (Some n) (rise m u) 0 (λ x. count_of x nodes) (λ x. 0) (length nodes)
-grown_filled m n nodes u room grows = record {
-  committed = (let usage = grows.usage in let min = ap (λ l. l.min) grows.limits in omega (arith, usage, min));
-  pages = λ x l. (let each = grows.each x in omega (arith, each));
-  covered = (let usage = grows.usage in let pages = grows.pages in omega (arith, usage, pages));
-  far = λ x. (let each = grows.each x in omega (arith, each));
-  limited = limited_by m n u grows.usage grows.limits room;
-}
+grown_same m n grows = grind arith
 
 -- ---- a page
 
 -- by the answer, a page with the grant, or else the same counts
 pub page_granted : (m : Mount) (n : ℕ → Mount) (o : Outcome) (b : Bool) (node : ℕ) → is_full m 1 ≡ false → MountGrows m (n node) node 1 1 → Stays (Some m) (left_by (Some m) o)
     → Change (Some m) (left_by (Some m) (if b then Answered Done (Some (n node)) else o)) (if b then rise m 1 else 0) 0 (λ x. if b && (node == x) then 1 else 0) (λ x. 0) (if b then 1 else 0)
-page_granted m n o true node room grows same = grown_one m (n node) node room grows
-page_granted m n o false node room grows same = same
+page_granted m n o b node room grows same = grind arith
 
 pub balanced_grant_page : (c : Choice) (m : Mount) (home : ℕ) (n : ℕ → Mount) → ((node : ℕ) → MountGrows m (n node) node 1 1)
     → IsBalanced (Some m) (grant_page c m home (λ node. Answered Done (Some (n node))))
-balanced_grant_page c m home n grows =
-    balanced_test (Some m) (is_full m 1) MountFull ((c.refused, OutOfMemory) ∷ []) _
-    (λ room. ((λ a. page_granted m n (Refused NoPages) a.granted a.node room (grows a.node) (stays (Some m))), (λ p. refl)))
+balanced_grant_page c m home n grows = grind arith
 
 pub balanced_reserved_page : (m : Mount) (home : ℕ) (n : ℕ → Mount) → ((node : ℕ) → MountGrows m (n node) node 1 0)
     → IsBalanced (Some m) (reserved_page home (λ node. Answered Done (Some (n node))))
@@ -125,10 +61,7 @@ balanced_reserved_page m home n grows =
 filled_granted : (m : Mount) (n : List ℕ → Mount) (k u : ℕ) (b : Bool) (pages : List ℕ) → is_full m u ≡ false → MountFills m (n (rising_nodes k pages)) (rising_nodes k pages) u
     → Change (Some m) (left_by (Some m) (if b then Answered Done (Some (n (rising_nodes k pages))) else Refused NoPages)) (if b then rise m u else 0) 0
     (λ x. if b then count_of x (rising_nodes k pages) else 0) (λ x. 0) (if b then k else 0)
-filled_granted m n k u true pages room grows =
-    subst (Change (Some m) (Some (n (rising_nodes k pages))) (rise m u) 0 (λ x. count_of x (rising_nodes k pages)) (λ x. 0)) (length-nodes_of k pages)
-    (grown_filled m (n (rising_nodes k pages)) (rising_nodes k pages) u room grows)
-filled_granted m n k u false pages room grows = stays (Some m)
+filled_granted m n k u b pages room grows = grind (arith, common_steps)
 
 pub balanced_fill : (c : Choice) (m : Mount) (n : List ℕ → Mount) (k u : ℕ) → ((pages : List ℕ) → MountFills m (n (rising_nodes k pages)) (rising_nodes k pages) u)
     → IsBalanced (Some m) (unless ((is_full m u, MountFull) ∷ (c.refused, OutOfMemory) ∷ [])
@@ -139,18 +72,8 @@ balanced_fill c m n k u grows =
 
 -- ---- reservations
 
-reserves_granted : (m n : Mount) (answer : Answer) (k : ℕ) (b : Bool) → is_full m k ≡ false → MountGrows m n 0 0 k
-    → Change (Some m) (left_by (Some m) (if b then Answered answer (Some n) else Refused NoPages)) (if b then rise m k else 0) 0 (λ x. 0) (λ x. 0) 0
-reserves_granted m n answer k true room grows = grown_by m n k room grows
-reserves_granted m n answer k false room grows = stays (Some m)
-
 pub balanced_grant : (c : Choice) (m n : Mount) (home k : ℕ) (answer : Answer) → MountGrows m n 0 0 k → IsBalanced (Some m) (grant c m home k (Answered answer (Some n)))
-balanced_grant c m n home k answer grows =
-    balanced_test (Some m) (is_full m k) MountFull ((c.refused, OutOfMemory) ∷ []) _
-    (λ room. cond_both (rise m k == 0) (Finish (Answered answer (Some n))) (Ask (λ nr. Grant home (rise m k)) (when_granted (Answered answer (Some n)))) (IsBalanced (Some m))
-    (λ e. (let none = eqb-true (rise m k) 0 e in let change = grown_by m n k room grows in let committed = change.committed in
-    record { committed = omega (arith, none, committed); pages = change.pages; covered = omega arith; far = change.far; limited = change.limited }))
-    (λ e. ((λ a. reserves_granted m n answer k a.granted room grows), (λ p. refl))))
+balanced_grant c m n home k answer grows = grind arith
 
 -- ---- giving back
 
@@ -159,70 +82,17 @@ pub record SlotFalls (old new : Slot) : Type 0 where
   pub each : (n : ℕ) → slot_pages_at n new ≤ slot_pages_at n old
   pub usage : slot_usage new ≤ slot_usage old
 
-puts_at : (old new : Slot) (n : ℕ) → n < 4 → slice_index_or (puts_of old new) n 0 ≡ slot_pages_at n old - slot_pages_at n new
-puts_at old new zero l = refl
-puts_at old new (suc zero) l = refl
-puts_at old new (suc (suc zero)) l = refl
-puts_at old new (suc (suc (suc zero))) l = refl
-puts_at old new (suc (suc (suc (suc n)))) l = absurd (omega arith)
-
-put_in_sum : (old new : Slot) (n : ℕ) → n < 4 → slot_pages_at n old - slot_pages_at n new ≤ sum (puts_of old new)
-put_in_sum old new n l =
-    let at = puts_at old new n l in
-    let le = get_or-le-sum_by (λ x. x) (puts_of old new) n 0 l in
-    omega (arith, at, le)
-
 pub balanced_gives : (a : Answer) (old new : Slot) → SlotFalls old new → IsBalanced old (gives a old new)
-balanced_gives a old new falls =
-    cond_both ((sum (puts_of old new) == 0) && (fall_of old new == 0)) (Finish (Answered a new)) (Ask (λ nr. GiveBack (puts_of old new) (fall_of old new)) (λ answer. Answered a new)) (IsBalanced old)
-    (λ e. (let parts = and_parts (sum (puts_of old new) == 0) (fall_of old new == 0) e in
-    let no_puts = eqb-true (sum (puts_of old new)) 0 parts.0 in
-    let no_fall = eqb-true (fall_of old new) 0 parts.1 in
-    let committed = falls.committed in
-    record {
-      committed = omega (arith, no_fall, committed);
-      pages = λ n l. omega (arith, no_puts, put_in_sum old new n l, falls.each n);
-      covered = omega (arith, pages-le-committed old);
-      far = λ n. (let each = falls.each n in omega (arith, each));
-      limited = inl falls.usage;
-    }))
-    (λ e. (
-      (λ answer. (let committed = falls.committed in
-          record {
-            committed = omega (arith, committed);
-            pages = λ n l. omega (arith, puts_at old new n l, falls.each n);
-            covered = omega (arith, pages-le-committed old);
-            far = λ n. (let each = falls.each n in omega (arith, each));
-            limited = inl falls.usage;
-          })),
-      (λ p. refl),
-    ))
+balanced_gives a old new falls = grind arith
 
 pub mount_falls : (m n : Mount) → MountFalls m n → SlotFalls (Some m) (Some n)
-mount_falls m n falls = record {
-  committed = (let usage = falls.usage in let min = ap (λ l. l.min) falls.limits in omega (arith, usage, min));
-  each = falls.each;
-  usage = falls.usage;
-}
+mount_falls m n falls = grind arith
 
 -- ---- what follows
 
-still_limited : (old : Slot) (m n : Mount) → MountGrows m n 0 0 0 → IsLimited old (Some m) → IsLimited old (Some n)
-still_limited old m n same first =
-    let usage = same.usage in
-    ⊎_elim (λ l. inl (omega (arith, usage, l))) (λ w. inr (within_same n.limits m.limits (usage_of n) (usage_of m) same.limits (omega (arith, usage)) w)) first
-
 then_stays : (old : Slot) (m n : Mount) (raised lowered : ℕ) (taken put : ℕ → ℕ) (takes : ℕ) → Change old (Some m) raised lowered taken put takes →
     MountGrows m n 0 0 0 → Change old (Some n) raised lowered taken put takes
-then_stays old m n raised lowered taken put takes first grows =
-    let same = grown_same m n grows in
-    record {
-      committed = (let f = first.committed in let s = same.committed in omega (arith, f, s));
-      pages = λ n l. (let f = first.pages n l in let s = same.pages n l in omega (arith, f, s));
-      covered = first.covered;
-      far = λ n. (let f = first.far n in let s = same.far n in omega (arith, f, s));
-      limited = still_limited old m n grows first.limited;
-    }
+then_stays old m n raised lowered taken put takes first grows = grind arith
 
 then_same : (old : Slot) (answer : Mount → Answer) (h : Mount → Mount) (o : Outcome) (raised lowered : ℕ) (taken put : ℕ → ℕ) (takes : ℕ)
     → ((m : Mount) → MountGrows m (h m) 0 0 0) → Change old (left_by old o) raised lowered taken put takes

@@ -1,41 +1,36 @@
 -- A refused event leaves everything as it was.
-use Rattle.std.proofs.Common.{◌≡◌, subst, ℕ, ◌+◌, ◌-◌, Bool, true, false, Option, None, Some, Result, Ok, Err, List, [], ◌∷◌, length, refl, sym, ap, ◌∙◌, arith, if◌then◌else◌, nat_le, nat_lt}
+use Rattle.std.proofs.Common.{◌≡◌, subst, ℕ, Bool, true, false, None, Some, Result, Err, List, refl, sym, ap, ◌∙◌, arith, if◌then◌else◌}
 use Rattle.std.specs.Bool.{MatchBool}
 use Rattle.std.specs.Prelude.{max}
-use Rattle.std.proofs.lemmas.Bool.{cond_both}
 use Rattle.hp_model.specs.declared.answer.Answer.{Answer}
-use Rattle.hp_model.specs.declared.answer.Answer.TheVariants.{Done, Home}
+use Rattle.hp_model.specs.declared.answer.Answer.TheVariants.{Done}
 use Rattle.hp_model.specs.declared.event.Event.{Event}
-use Rattle.hp_model.specs.declared.event.Event.TheVariants.{Tasks, Slot as OnSlot, Pool as OnPool}
+use Rattle.hp_model.specs.declared.event.Event.TheVariants.{Slot as OnSlot}
 use Rattle.hp_model.specs.declared.event.PoolEvent.{PoolEvent}
-use Rattle.hp_model.specs.declared.event.PoolEvent.TheVariants.{Nr, Overcommit, Meminfo, Nodes}
 use Rattle.hp_model.specs.declared.event.SlotEvent.{SlotEvent}
 use Rattle.hp_model.specs.declared.event.SlotEvent.TheVariants as slot
 use Rattle.hp_model.specs.declared.event.TableEvent.{TableEvent}
-use Rattle.hp_model.specs.declared.event.TableEvent.TheVariants.{Add, Find, FindAndAdd, Remove}
 use Rattle.hp_model.specs.declared.limits.Limits.{Limits}
 use Rattle.hp_model.specs.declared.refusal.Refusal.{Refusal}
-use Rattle.hp_model.specs.declared.refusal.Refusal.TheVariants.{OutOfMemory, TaskExists, NoSuchNode, TooMany, OutOfRange, SlotTaken}
+use Rattle.hp_model.specs.declared.refusal.Refusal.TheVariants.{OutOfMemory, SlotTaken}
 use Rattle.hp_model.specs.machine.Event.{after, with_outcome, planned}
 use Rattle.hp_model.specs.files.File.{Mount}
-use Rattle.hp_model.specs.pool.Grant.{can_grant, granted, surplus_times}
-use Rattle.hp_model.specs.pool.NodeRows.{total_of, surp_of}
+use Rattle.hp_model.specs.pool.Grant.{can_grant, granted}
+use Rattle.hp_model.specs.pool.NodeRows.{total_of}
 use Rattle.hp_model.specs.machine.Promises.{is_late, SameButNodes}
 use Rattle.hp_laws.specs.Laws.{RefusalsChangeNothing}
 use Rattle.hp_model.specs.machine.Machine.{pool_of, with_pool}
-use Rattle.hp_model.specs.files.MountCounts.{committed_of}
 use Rattle.hp_model.specs.files.Options.{limits, wanted_of}
-use Rattle.hp_model.specs.machine.Plan.{Reply, Slot, Outcome, Refused, Answered, Plan, Finish, Ask, Choice, continued, and_then, when_granted}
-use Rattle.hp_model.specs.pool.Pool.{section, filled_by, granted_at, no_pages, pages_taken, nr_answer, released, takes_of, trimmed as settled_pool, take_node, page_taken, give_back_times}
+use Rattle.hp_model.specs.machine.Plan.{Slot, Outcome, Refused, Answered, Plan, Finish, Ask, Choice, continued, and_then, when_granted}
+use Rattle.hp_model.specs.pool.Pool.{section, filled_by, granted_at, no_pages, pages_taken, nr_answer, released, takes_of, trimmed as settled_pool, take_node, page_taken}
 use Rattle.hp_model.specs.declared.section.PoolAnswer.{PoolAnswer}
-use Rattle.hp_model.specs.declared.section.Section.TheVariants.{ReadAndGiveBack, ReadAndGrant, GrantAndReturn}
+use Rattle.hp_model.specs.declared.section.Section.TheVariants.{ReadAndGrant, GrantAndReturn}
 use Rattle.hp_model.specs.pool.PoolCounts.{Pool}
-use Rattle.hp_model.specs.Profile.{most_overcommit}
 use Rattle.hp_model.specs.pool.Resize.{pool_event}
 use Rattle.hp_model.specs.machine.Settled.{IsSettledPool, IsSettledState}
-use Rattle.hp_model.specs.machine.SlotEvent.{slot_event, on_mount, on_none, mount_section, mount_pages, mount_outcome, committed_with, remount_outcome, remount_section}
+use Rattle.hp_model.specs.machine.SlotEvent.{slot_event, on_none, mount_section, mount_pages, mount_outcome, remount_outcome, remount_section}
 use Rattle.hp_model.specs.machine.State.{State, slot_at}
-use Rattle.hp_model.specs.machine.Table.{Table, table_event, or_refused, when_known, home_of, is_known, is_crowded, added, removed}
+use Rattle.hp_model.specs.machine.Table.{Table, table_event}
 use Rattle.hp_laws.proofs.steps.SlotsBalanced.{remount_tells, tells_nr}
 use Rattle.hp_laws.proofs.steps.PlanRules.{PlanRules, plan_walk}
 use Rattle.hp_laws.proofs.sections.PoolTied.{pool_back}
@@ -58,46 +53,25 @@ done o = record { keeps = tt }
 
 by_grant : (b : Bool) (p q : Pool) (a : PoolAnswer) (f : PoolAnswer → Outcome) (r : Refusal) → (f a ≡ Refused r → q ≡ p)
     → f (if◌then◌else◌ {A = PoolAnswer × Pool} b (a, q) (no_pages, p)).0 ≡ Refused r → (if◌then◌else◌ {A = PoolAnswer × Pool} b (a, q) (no_pages, p)).1 ≡ p
-by_grant true p q a f r h e = h e
-by_grant false p q a f r h e = refl
+by_grant b p q a f r h e = grind arith
 
 then_refused : (answer : Mount → Answer) (h : Mount → Mount) (o : Outcome) (r : Refusal) → continued (λ m. Answered (answer m) (Some (h m))) o ≡ Refused r → o ≡ Refused r
-then_refused answer h (Refused x) r e = e
-then_refused answer h (Answered a None) r e = cc
-then_refused answer h (Answered a (Some m)) r e = cc
+then_refused answer h o r e = grind arith
 
 keeps_then : (answer : Mount → Answer) (h : Mount → Mount) (p : Plan) → IsKept never p → IsKept never (and_then (λ m. Answered (answer m) (Some (h m))) p)
-keeps_then answer h (Finish o) k = record { keeps = tt }
-keeps_then answer h (Ask sec f) k = record { keeps = λ p r st late is. k.keeps p r st late (then_refused answer h (f (section p (sec p.nr)).0) r is) }
+keeps_then answer h p k = grind (arith, then_refused)
 
 both_answer : (b : Bool) (a1 a2 : Answer) (s1 s2 : Slot) (r : Refusal) → (if◌then◌else◌ {A = Outcome} b (Answered a1 s1) (Answered a2 s2)) ≡ Refused r → ⊥
-both_answer true a1 a2 s1 s2 r e = cc
-both_answer false a1 a2 s1 s2 r e = cc
+both_answer b a1 a2 s1 s2 r e = grind arith
 
 -- a grant of nothing leaves a settled pool as it is
 pub granted_none : (p : Pool) → total_of p.nodes.rows ≡ max p.nr p.committed → granted 0 0 p ≡ p
-granted_none p total =
-    let none : p.committed + 0 - total_of p.nodes.rows ≡ 0 = omega (arith, total) in
-    let same : p.committed + 0 ≡ p.committed = omega arith in
-    ap (λ k. record p { committed = p.committed + 0; nodes = surplus_times 0 k p.nodes }) none ∙ ap (λ c. record p { committed = c }) same
+granted_none p total = grind arith
 
 -- the section of a remount that is refused
 remount_keeps : (m : Mount) (l : Result Limits Refusal) (p : Pool) (r : Refusal) → IsSettledPool p → remount_outcome m (section p (remount_section m l)).0 l ≡ Refused r
     → (section p (remount_section m l)).1 ≡ p
-remount_keeps m (Err e) p r st is = granted_none p st.total
-remount_keeps m (Ok l) p r st is = by_minimum (nat_lt (committed_with m l.min) (committed_of m)) is
-  where
-    by_test : (b : Bool) (q : Pool)
-        → remount_outcome m (if◌then◌else◌ {A = PoolAnswer × Pool} b (nr_answer true p, q) (nr_answer false p, p)).0 (Ok l) ≡ Refused r
-        → (if◌then◌else◌ {A = PoolAnswer × Pool} b (nr_answer true p, q) (nr_answer false p, p)).1 ≡ p
-    by_test true q is = cc
-    by_test false q is = refl
-
-    by_minimum : (less : Bool)
-        → remount_outcome m (section p (if less then ReadAndGiveBack (committed_of m - committed_with m l.min) else ReadAndGrant (committed_with m l.min - committed_of m))).0 (Ok l) ≡ Refused r
-        → (section p (if less then ReadAndGiveBack (committed_of m - committed_with m l.min) else ReadAndGrant (committed_with m l.min - committed_of m))).1 ≡ p
-    by_minimum true is = cc
-    by_minimum false is = by_test (can_grant (committed_with m l.min - committed_of m) p) (granted 0 (committed_with m l.min - committed_of m) p) is
+remount_keeps m l p r st is = grind arith
 
 keep_rules : PlanRules (IsKept never)
 keep_rules = record {
@@ -128,12 +102,7 @@ keep_rules = record {
 -- ---- a mount
 
 settled_already : (p : Pool) → IsSettledPool p → settled_pool (released 0 p) ≡ p
-settled_already p s =
-    let total = s.total in
-    let surplus = s.surplus in
-    let same : p.committed - 0 ≡ p.committed = omega arith in
-    let none : surp_of p.nodes.rows - (p.committed - p.nr) ≡ 0 = omega (arith, total, surplus) in
-    ap settled_pool (ap (λ c. record p { committed = c }) same) ∙ ap (λ k. record p { nodes = give_back_times k p.nodes }) none
+settled_already p s = grind arith
 
 late_memory : Refusal → Bool
 late_memory OutOfMemory = true
@@ -144,11 +113,7 @@ mount_keeps : (stamp : ℕ) (refused after_grant granted_it : Bool) (l : Result 
     → (granted_it ≡ true → mount_pages (record { stamp = stamp; refused = refused; after_grant = after_grant }) l ≡ 0 → q ≡ p) → (granted_it ≡ false → q ≡ p)
     → mount_outcome (record { stamp = stamp; refused = refused; after_grant = after_grant }) (nr_answer granted_it p) l ≡ Refused r → q ≡ p
 unfolding late_memory
-mount_keeps stamp refused after_grant false l p q r late free none is = none refl
-mount_keeps stamp refused after_grant true (Err e) p q r late free none is = free refl refl
-mount_keeps stamp true after_grant true (Ok l) p q r late free none is = free refl refl
-mount_keeps stamp false true true (Ok l) p q r late free none is = (let memory : r ≡ OutOfMemory = cc in let yes : late_memory r ≡ true = ap late_memory memory in cc)
-mount_keeps stamp false false true (Ok l) p q r late free none is = cc
+mount_keeps stamp refused after_grant granted_it l p q r late free none is = grind (arith, late_memory)
 
 -- the section of a mount, granted or not
 mount_section_keeps : (c : Choice) (l : Result Limits Refusal) (p : Pool) (r : Refusal) → IsSettledPool p → late_memory r ≡ false
@@ -180,8 +145,7 @@ keeps_on_none size c other = record { keeps = tt }
 -- ---- the machine
 
 settled_refused : (s : State) (k : ℕ) (o : Outcome) (r : Refusal) (t : State) → with_outcome s k o ≡ (Err r, t) → (o ≡ Refused r) × (t ≡ s)
-settled_refused s k (Refused x) r t e = (let first = ap (λ (q : Reply × State). q.0) e in let second = ap (λ (q : Reply × State). q.1) e in let same : x ≡ r = cc in (ap Refused same, sym second))
-settled_refused s k (Answered a n) r t e = (let first = ap (λ (q : Reply × State). q.0) e in cc)
+settled_refused s k o r t e = grind arith
 
 plan_refused : (late : Refusal → Bool) (s : State) (k : ℕ) (p : Plan) (r : Refusal) (t : State) → IsKept late p → IsSettledState s → late r ≡ false → planned s k p ≡ (Err r, t) → t ≡ s
 plan_refused late s k (Finish o) r t kept st on_time e = (settled_refused s k o r t e).1
@@ -191,20 +155,12 @@ plan_refused late s k (Ask sec f) r t kept st on_time e =
     let same : q.1 ≡ pool_of s = kept.keeps (pool_of s) r st.pool on_time is.0 in
     is.1 ∙ ap (with_pool s) same ∙ pool_back s
 
--- a mount's section leaves nr and overcommit
-numbers_if : (b : Bool) (p q : Pool) (a d : PoolAnswer) → q.nr ≡ p.nr → q.overcommit ≡ p.overcommit
-    → ((if◌then◌else◌ {A = PoolAnswer × Pool} b (a, q) (d, p)).1.nr ≡ p.nr) × ((if◌then◌else◌ {A = PoolAnswer × Pool} b (a, q) (d, p)).1.overcommit ≡ p.overcommit)
-numbers_if true p q a d e f = (e, f)
-numbers_if false p q a d e f = (refl, refl)
-
 mount_numbers : (b : Bool) (p : Pool) (d : ℕ) → ((section p (if b then GrantAndReturn d else ReadAndGrant d)).1.nr ≡ p.nr)
     × ((section p (if b then GrantAndReturn d else ReadAndGrant d)).1.overcommit ≡ p.overcommit)
-mount_numbers true p d = numbers_if (can_grant d p) p (settled_pool (released d (granted 0 d p))) _ _ refl refl
-mount_numbers false p d = numbers_if (can_grant d p) p (granted 0 d p) _ _ refl refl
+mount_numbers b p d = grind arith
 
 same_but_nodes : (s : State) (p : Pool) (t : State) → t ≡ with_pool s p → p.nr ≡ s.nr → p.overcommit ≡ s.overcommit → SameButNodes s t
-same_but_nodes s p t e nr overcommit =
-    subst (λ (x : State). SameButNodes s x) (sym e) (ap (λ n. record (with_pool s p) { nr = n }) nr ∙ ap (λ n. record (with_pool s p) { nr = s.nr; overcommit = n }) overcommit)
+same_but_nodes s p t e nr overcommit = grind arith
 
 mount_refused : (s : State) (k : ℕ) (c : Choice) (old : Slot) (options : List ℕ) (r : Refusal) (t : State) →
     planned s k (slot_event s.page_size k c old (slot.Mount options)) ≡ (Err r, t) → SameButNodes s t
@@ -218,16 +174,13 @@ mount_refused s k c None options r t e =
 
 pick_late : (k : ℕ) (options : List ℕ) (A B : Type 0) (r : Refusal) → A → (late_memory r ≡ false → B) → MatchBool (is_late (OnSlot k (slot.Mount options)) r) A B
 unfolding late_memory
-pick_late k options A B OutOfMemory a b = a
-pick_late k options A B other a b = b refl
+pick_late k options A B r a b = grind arith
 
 plain_keeps : (late : Refusal → Bool) (p : Plan) → IsKept never p → IsKept late p
-plain_keeps late (Finish o) k = record { keeps = tt }
-plain_keeps late (Ask sec f) k = record { keeps = λ p r st on_time is. k.keeps p r st refl is }
+plain_keeps late p k = grind arith
 
 keeps_slot : (size k : ℕ) (c : Choice) (old : Slot) (e : SlotEvent) → IsKept late_memory (slot_event size k c old e)
-keeps_slot size k c None e = keeps_on_none size c e
-keeps_slot size k c (Some m) e = plain_keeps late_memory (on_mount size k c m e) (plan_walk (IsKept never) keep_rules size k c m e)
+keeps_slot size k c old e = grind (arith, keeps_on_none, plain_keeps, late_memory, plan_walk, keep_rules)
 
 slot_refused : (s : State) (k : ℕ) (c : Choice) (e : SlotEvent) (r : Refusal) (t : State) → IsSettledState s → planned s k (slot_event s.page_size k c (slot_at s k) e) ≡ (Err r, t)
     → MatchBool (is_late (OnSlot k e) r) (SameButNodes s t) (t ≡ s)
@@ -242,42 +195,16 @@ slot_refused s k c other r t st e = plan_refused never s k _ r t (keeps_other (s
 
 -- ---- the task table, and the pool alone
 
-table_or_refused : (ts : List (Bool × Refusal)) (a : Answer) (old new : Table) (r : Refusal) → (or_refused ts old (Ok a, new)).0 ≡ Err r → (or_refused ts old (Ok a, new)).1 ≡ old
-table_or_refused [] a old new r = λ e. cc
-table_or_refused (x ∷ ts) a old new r =
-    cond_both x.0 (Err x.1, old) (or_refused ts old (Ok a, new)) (λ (q : Reply × Table). q.0 ≡ Err r → q.1 ≡ old) (λ t e. refl) (λ t. table_or_refused ts a old new r)
-
-known_refused : (old : Table) (o : Option ℕ) (f : ℕ → Reply × Table) (r : Refusal) → ((home : ℕ) → (f home).0 ≡ Err r → (f home).1 ≡ old) →
-    (when_known old o f).0 ≡ Err r → (when_known old o f).1 ≡ old
-known_refused old None f r h e = refl
-known_refused old (Some home) f r h e = h home e
-
 table_refused : (nodes : ℕ) (old : Table) (e : TableEvent) (r : Refusal) → (table_event nodes old e).0 ≡ Err r → (table_event nodes old e).1 ≡ old
-table_refused nodes old (Add task home) r =
-    table_or_refused ((nat_le nodes home, NoSuchNode) ∷ (is_known old task, TaskExists) ∷ (is_crowded old, TooMany) ∷ []) Done old (added old task home) r
-table_refused nodes old (Find task) r = known_refused old (home_of old task) (λ home. (Ok (Home home), old)) r (λ home e. cc)
-table_refused nodes old (FindAndAdd parent child) r =
-    known_refused old (home_of old parent) (λ home. or_refused ((is_known old child, TaskExists) ∷ (is_crowded old, TooMany) ∷ []) old (Ok Done, added old child home)) r
-    (λ home. table_or_refused ((is_known old child, TaskExists) ∷ (is_crowded old, TooMany) ∷ []) Done old (added old child home) r)
-table_refused nodes old (Remove task) r = known_refused old (home_of old task) (λ home. (Ok Done, removed old task)) r (λ home e. cc)
+table_refused nodes old e r = grind arith
 
 pool_refused : (p : Pool) (e : PoolEvent) (r : Refusal) → (pool_event p e).0 ≡ Err r → (pool_event p e).1 ≡ p
-pool_refused p (Nr n) r = λ e. cc
-pool_refused p (Overcommit n) r =
-    cond_both (nat_le n most_overcommit) (Ok Done, record p { overcommit = n }) (Err OutOfRange, p) (λ (q : Reply × Pool). q.0 ≡ Err r → q.1 ≡ p) (λ t e. cc) (λ t e. refl)
-pool_refused p Meminfo r = λ e. refl
-pool_refused p Nodes r = λ e. refl
+pool_refused p e r = grind arith
 
 -- ---- every event
 
 event_refused : (c : Choice) (s : State) (e : Event) (r : Refusal) (t : State) → IsSettledState s → after c s e ≡ (Err r, t) → MatchBool (is_late e r) (SameButNodes s t) (t ≡ s)
-event_refused c s (Tasks e) r t st is =
-    let reply = ap (λ (q : Reply × State). q.0) is in
-    let left = ap (λ (q : Reply × State). q.1) is in sym left ∙ ap (λ x. record s { table = x }) (table_refused (length s.nodes) s.table e r reply)
-event_refused c s (OnSlot k e) r t st is = slot_refused s k c e r t st is
-event_refused c s (OnPool e) r t st is =
-    let reply = ap (λ (q : Reply × State). q.0) is in
-    let left = ap (λ (q : Reply × State). q.1) is in sym left ∙ ap (with_pool s) (pool_refused (pool_of s) e r reply) ∙ pool_back s
+event_refused c s e r t st is = grind (arith, table_refused, slot_refused, pool_refused, pool_back)
 
 pub refusals_change_nothing : RefusalsChangeNothing
 refusals_change_nothing s e r t st is = event_refused is.0 s e r t st is.2

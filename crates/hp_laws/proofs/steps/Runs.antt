@@ -1,4 +1,5 @@
 -- Runs by steps of any kind.
+use Rattle.std.proofs.Common.{arith}
 use Rattle.std.proofs.Common.{List, [], ◌∷◌, ◌++◌, refl, sym, subst}
 use Rattle.hp_model.specs.declared.step.Step.{Step}
 use Rattle.hp_model.specs.machine.Plan.{Reply}
@@ -10,5 +11,4 @@ pub run_more : (R : State → Step → Reply → State → Type 0) (s mid t : St
     → RunsBy R s steps replies mid → R mid step reply t → RunsBy R s (steps ++ step ∷ []) (replies ++ reply ∷ []) t
 run_more R s mid t [] [] step reply run next = (t, subst (λ x. R x step reply t) (sym run) next, refl)
 run_more R s mid t (x ∷ xs) (r ∷ rs) step reply run next = (run.0, run.1, run_more R run.0 mid t xs rs step reply run.2 next)
-run_more R s mid t [] (r ∷ rs) step reply run next = absurd run
-run_more R s mid t (x ∷ xs) [] step reply run next = absurd run
+run_more R s mid t steps replies step reply run next = grind arith

@@ -1,13 +1,13 @@
 -- Each event on a slot balances.
-use Rattle.std.proofs.Common.{◌≡◌, inl, subst, ℕ, ◌+◌, ◌-◌, Bool, true, false, ◌||◌, ◌==◌, None, Some, Result, Ok, Err, List, [], ◌∷◌, length, refl, ap, ◌∙◌, arith, if◌then◌else◌, nat_lt}
+use Rattle.std.proofs.Common.{◌≡◌, subst, ℕ, Bool, false, ◌||◌, ◌==◌, None, Some, Result, List, [], ◌∷◌, length, refl, ap, ◌∙◌, arith, if◌then◌else◌}
 use Rattle.std.specs.List.{list_any, flat_map}
-use Rattle.std.proofs.lemmas.Bool.{cond_both, not-true, leb-false, ltb-true, ltb-false, false_from_ne_true, both_ways}
+use Rattle.std.proofs.lemmas.Bool.{cond_both, not-true, leb-false, false_from_ne_true, both_ways}
 use Rattle.std.proofs.lemmas.List.Folds.{list_any_at}
 use Rattle.hp_model.specs.declared.answer.Answer.TheVariants.{Done, MapNo}
 use Rattle.hp_model.specs.declared.event.SlotEvent.{SlotEvent}
 use Rattle.hp_model.specs.declared.event.SlotEvent.TheVariants.{Mount as MountEvent}
 use Rattle.hp_model.specs.declared.refusal.Refusal.{Refusal}
-use Rattle.hp_model.specs.declared.refusal.Refusal.TheVariants.{BeyondEnd, TooMany, OutOfRange, CrossesPage}
+use Rattle.hp_model.specs.declared.refusal.Refusal.TheVariants.{BeyondEnd, OutOfRange}
 use Rattle.hp_model.specs.declared.step.Intent.{Intent}
 use Rattle.hp_model.specs.declared.step.Intent.TheVariants.{Read, Write}
 use Rattle.hp_model.specs.files.Access.{access}
@@ -17,21 +17,19 @@ use Rattle.hp_model.specs.files.File.{new_file, with_file, File, Mount}
 use Rattle.hp_model.specs.files.Fill.{lacking, range_filled, rising_nodes}
 use Rattle.hp_model.specs.files.Fork.{file_forked}
 use Rattle.hp_model.specs.files.GiveBack.{file_unmapped, file_without, punched, truncated, unlinked}
-use Rattle.hp_model.specs.pool.Grant.{can_grant, granted}
+use Rattle.hp_model.specs.pool.Grant.{granted}
 use Rattle.hp_model.specs.Lists.{is_among}
 use Rattle.hp_model.specs.files.MakeMap.{asked, mapped, next_number}
 use Rattle.hp_model.specs.files.Mapping.{is_map}
-use Rattle.hp_model.specs.files.MountCounts.{committed_of, stamps_of, file_pages_at, pages_at}
+use Rattle.hp_model.specs.files.MountCounts.{stamps_of, file_pages_at, pages_at}
 use Rattle.hp_model.specs.files.Options.{limits, wanted_of}
 use Rattle.hp_model.specs.machine.Plan.{Slot, Plan, Choice, refuse, unless, gives}
-use Rattle.hp_model.specs.pool.Pool.{nr_answer, section, trimmed, released}
-use Rattle.hp_model.specs.declared.section.PoolAnswer.{PoolAnswer}
-use Rattle.hp_model.specs.declared.section.Section.TheVariants.{GrantAndReturn, ReadAndGiveBack, ReadAndGrant}
+use Rattle.hp_model.specs.pool.Pool.{section}
+use Rattle.hp_model.specs.declared.section.Section.TheVariants.{GrantAndReturn, ReadAndGrant}
 use Rattle.hp_model.specs.pool.PoolCounts.{Pool}
-use Rattle.hp_model.specs.Profile.{most_bytes}
 use Rattle.hp_model.specs.machine.SlotEvent.{byte_access, bytes_answer, fault, file_named, has_name, is_beyond, is_unmapped, load}
 use Rattle.hp_model.specs.machine.SlotEvent.{mount_outcome, mount_pages, mount_section, on_mount, on_none, store, unentered}
-use Rattle.hp_model.specs.machine.SlotEvent.{committed_with, remount_outcome, remount_section}
+use Rattle.hp_model.specs.machine.SlotEvent.{remount_outcome, remount_section}
 use Rattle.hp_model.specs.machine.Sound.{IsSoundFile, IsSoundMount}
 use Rattle.hp_model.specs.files.Spot.{Spot, written, again, spot}
 use Rattle.hp_model.specs.files.Value.{value}
@@ -84,9 +82,7 @@ module _ (c : Choice) (size : ℕ) (m : Mount) (sound : IsSoundMount m) (new : i
   fault_balanced intent = balanced_unless (Some m) ((is_unmapped s i, OutOfRange) ∷ []) (unless ((is_beyond s i, BeyondEnd) ∷ []) (access c size m s home i intent)) (guarded intent)
 
   byte_balanced : (offset count : ℕ) (intent : Intent) → IsBalanced (Some m) (byte_access c size m home i offset count intent s)
-  byte_balanced offset count intent =
-      balanced_unless (Some m) ((is_unmapped s i || (count == 0), OutOfRange) ∷ (nat_lt size (offset + count), CrossesPage)
-      ∷ (nat_lt most_bytes count, TooMany) ∷ []) (unless ((is_beyond s i, BeyondEnd) ∷ []) (access c size m s home i intent)) (guarded intent)
+  byte_balanced offset count intent = grind (arith, balanced_unless, guarded)
 
   load_balanced : (offset count : ℕ) → IsBalanced (Some m) (load c size m home i offset count s)
   load_balanced offset count =
@@ -107,60 +103,20 @@ mount_by : (stamp : ℕ) (refused after_grant granted : Bool) (node nr : ℕ) (p
     → Moves None (mount_section (record { stamp = stamp; refused = refused; after_grant = after_grant }) (mount_pages (record { stamp = stamp; refused = refused; after_grant = after_grant }) l))
     (record { granted = granted; node = node; nr = nr; pages = pages })
     (left_by None (mount_outcome (record { stamp = stamp; refused = refused; after_grant = after_grant }) (record { granted = granted; node = node; nr = nr; pages = pages }) l))
-mount_by stamp refused true granted node nr pages (Err e) = nothing
-mount_by stamp refused false true node nr pages (Err e) = nothing
-mount_by stamp refused false false node nr pages (Err e) = nothing
-mount_by stamp true true granted node nr pages (Ok l) = nothing
-mount_by stamp true false true node nr pages (Ok l) = nothing
-mount_by stamp true false false node nr pages (Ok l) = nothing
-mount_by stamp false true true node nr pages (Ok l) = nothing
-mount_by stamp false true false node nr pages (Ok l) = nothing
-mount_by stamp false false false node nr pages (Ok l) = nothing
-mount_by stamp false false true node nr pages (Ok l) = record {
-  committed = omega arith;
-  pages = λ n lt. refl;
-  covered = omega arith;
-  far = λ n. omega arith;
-  limited = inl (omega arith);
-}
-
-told : (p : Pool) (d : ℕ) (q : Pool) → (if◌then◌else◌ {A = PoolAnswer × Pool} (can_grant d p) (nr_answer true p, q)
-    (nr_answer false p, p)).0.nr ≡ p.nr
-told p d q =
-    cond_both (can_grant d p) (nr_answer true p, q) (nr_answer false p, p)
-    (λ (x : PoolAnswer × Pool). x.0.nr ≡ p.nr) (λ e. refl) (λ e. refl)
+mount_by stamp refused after_grant granted node nr pages l = grind arith
 
 pub tells_nr : (p : Pool) (after_grant : Bool) (d : ℕ) → (section p (if after_grant then GrantAndReturn d else ReadAndGrant d)).0.nr ≡ p.nr
-tells_nr p true d = told p d (trimmed (released d (granted 0 d p)))
-tells_nr p false d = told p d (granted 0 d p)
+tells_nr p after_grant d = grind arith
 
 -- ---- remount
 
 remount_by : (m : Mount) (granted : Bool) (node nr : ℕ) (pages : List ℕ) (l : Result Limits Refusal)
     → Moves (Some m) (remount_section m l) (record { granted = granted; node = node; nr = nr; pages = pages })
     (left_by (Some m) (remount_outcome m (record { granted = granted; node = node; nr = nr; pages = pages }) l))
-remount_by m true node nr pages (Err e) = stays (Some m)
-remount_by m false node nr pages (Err e) = stays (Some m)
-remount_by m granted node nr pages (Ok l) = by_minimum granted (nat_lt (committed_with m l.min) (committed_of m)) refl
-  where
-    by_minimum : (granted less : Bool) → nat_lt (committed_with m l.min) (committed_of m) ≡ less
-        → Moves (Some m) (if less then ReadAndGiveBack (committed_of m - committed_with m l.min) else ReadAndGrant (committed_with m l.min - committed_of m))
-        (record { granted = granted; node = node; nr = nr; pages = pages }) (left_by (Some m) (remount_outcome m (record { granted = granted; node = node; nr = nr; pages = pages }) (Ok l)))
-    by_minimum false true is = stays (Some m)
-    by_minimum false false is = stays (Some m)
-    by_minimum true true is =
-        let less = ltb-true (committed_with m l.min) (committed_of m) is in
-        record { committed = omega (arith, less); pages = λ n lt. refl; covered = omega arith; far = λ n. omega arith; limited = inl (omega arith) }
-    by_minimum true false is =
-        let more = ltb-false (committed_with m l.min) (committed_of m) is in
-        record { committed = omega (arith, more); pages = λ n lt. refl; covered = omega arith; far = λ n. omega arith; limited = inl (omega arith) }
+remount_by m granted node nr pages l = grind arith
 
 pub remount_tells : (p : Pool) (m : Mount) (l : Result Limits Refusal) → (section p (remount_section m l)).0.nr ≡ p.nr
-remount_tells p m (Err e) = told p 0 (granted 0 0 p)
-remount_tells p m (Ok l) =
-    let more = committed_with m l.min - committed_of m in
-    cond_both (nat_lt (committed_with m l.min) (committed_of m)) (ReadAndGiveBack (committed_of m - committed_with m l.min)) (ReadAndGrant more)
-    (λ sec. (section p sec).0.nr ≡ p.nr) (λ e. refl) (λ e. told p more (granted 0 more p))
+remount_tells p m l = grind arith
 
 on_none_balanced : (size : ℕ) (c : Choice) (e : SlotEvent) → IsBalanced None (on_none size c e)
 on_none_balanced size c (MountEvent options) = (
@@ -222,5 +178,4 @@ module _ (size slot : ℕ) (c : Choice) (m : Mount) (sound : IsSoundMount m) (ne
       (balanced_gives Done (Some m) None (record { committed = omega arith; each = λ n. omega arith; usage = omega arith })) e
 
 pub slots_are_balanced : SlotsAreBalanced
-slots_are_balanced size slot c None e new sound = on_none_balanced size c e
-slots_are_balanced size slot c (Some m) e new sound = on_mount_balanced size slot c m sound (not-true _ new) e
+slots_are_balanced size slot c h3 e new sound = grind (arith, on_none_balanced, on_mount_balanced, not-true)

@@ -1,31 +1,29 @@
 -- One walk over the events of an open mount: what holds of the plan of each change holds of the plan of each event.
-use Rattle.std.proofs.Common.{◌≡◌, ◌==◌, ℕ, Bool, true, false, not, Option, None, Some, is_some, List, [], ◌∷◌, ◌||◌, length, take, drop, nat_le, nat_lt, refl, if◌then◌else◌}
+use Rattle.std.proofs.Common.{arith}
+use Rattle.std.proofs.lemmas.Grind.{common_steps}
+use Rattle.std.proofs.Common.{◌≡◌, ℕ, Bool, true, false, Option, None, Some, is_some, List, [], ◌∷◌, ◌||◌, length, nat_lt}
 use Rattle.std.proofs.lemmas.Bool.{cond_both}
-use Rattle.std.specs.List.{count_by, filter_map}
 use Rattle.hp_model.specs.declared.answer.Answer.{Answer}
-use Rattle.hp_model.specs.declared.answer.Answer.TheVariants.{Done, MapNo, Names, Stat as StatAnswer, Usage as UsageAnswer}
+use Rattle.hp_model.specs.declared.answer.Answer.TheVariants.{Done, MapNo}
 use Rattle.hp_model.specs.declared.event.SlotEvent.{SlotEvent}
 use Rattle.hp_model.specs.declared.event.SlotEvent.TheVariants as slot
 use Rattle.hp_model.specs.declared.refusal.Refusal.{Refusal}
-use Rattle.hp_model.specs.declared.refusal.Refusal.TheVariants.{BadName, FileExists, NoSuchFile, NoSuchMap, OutOfMemory, OutOfRange, SlotTaken, TooMany}
+use Rattle.hp_model.specs.declared.refusal.Refusal.TheVariants.{NoSuchFile, NoSuchMap}
 use Rattle.hp_model.specs.declared.step.Intent.{Intent}
 use Rattle.hp_model.specs.declared.step.Reserving.{Reserving}
 use Rattle.hp_model.specs.declared.step.Sharing.{Sharing}
-use Rattle.hp_model.specs.files.File.{File, Mount, cell_at, has_page, is_entered, new_file, with_file, maps_of}
-use Rattle.hp_model.specs.files.Fill.{lacking}
+use Rattle.hp_model.specs.files.File.{File, Mount, new_file, with_file, maps_of}
 use Rattle.hp_model.specs.files.Fork.{forked}
 use Rattle.hp_model.specs.files.GiveBack.{punched, truncated, unlinked, unmapped_from, without_task}
 use Rattle.hp_model.specs.files.MakeMap.{asked, mapped, next_number, with_new, tasks_of}
 use Rattle.hp_model.specs.files.Mapping.{is_map}
-use Rattle.hp_model.specs.files.MountCounts.{usage_of}
 use Rattle.hp_model.specs.machine.Plan.{Answered, Ask, Choice, Finish, Plan, gives, grant, refuse, unless, with_value}
-use Rattle.hp_model.specs.Profile.{most_bytes, most_file_pages, most_files, most_map_pages, most_maps, most_tasks}
-use Rattle.hp_model.specs.machine.SlotEvent.{anon_tests, are_too_many_maps, bytes_answer, create_tests, edited, fault, file_named, fill, is_bad_range, is_name, load, map_file}
-use Rattle.hp_model.specs.machine.SlotEvent.{map_tests, on_mount, preallocate, preallocate_tests, punch, read, read_tests, remount_outcome}
-use Rattle.hp_model.specs.machine.SlotEvent.{remount_section, remount_tests, stat, store, truncate, umount_tests, unlink, unmap}
+use Rattle.hp_model.specs.Profile.{most_bytes, most_map_pages, most_maps, most_tasks}
+use Rattle.hp_model.specs.machine.SlotEvent.{are_too_many_maps, bytes_answer, edited, fault, file_named, fill, load}
+use Rattle.hp_model.specs.machine.SlotEvent.{on_mount, remount_outcome}
+use Rattle.hp_model.specs.machine.SlotEvent.{remount_section, store}
 use Rattle.hp_model.specs.files.Options.{limits, wanted_of}
 use Rattle.hp_model.specs.files.Spot.{Spot, spot}
-use Rattle.hp_model.specs.files.Value.{shown}
 
 -- ---- tests and what is found
 
@@ -35,8 +33,7 @@ module _ (W : Plan → Type 0) (refuses : (r : Refusal) → W (refuse r)) where
   plan_unless (t ∷ ts) p h = cond_both t.0 (refuse t.1) (unless ts p) W (λ e. refuses t.1) (λ e. plan_unless ts p h)
 
   pub plan_value : {X : Type 0} (o : Option X) (r : Refusal) (f : X → Plan) → ((x : X) → o ≡ Some x → W (f x)) → W (with_value o r f)
-  plan_value None r f h = refuses r
-  plan_value (Some x) r f h = h x refl
+  plan_value o r f h = grind arith
 
 -- ---- events
 
@@ -62,9 +59,7 @@ abbrev pub AreFewMaps : Mount → ℕ → ℕ → Type 0
 AreFewMaps m task n = (nat_lt most_map_pages n || are_too_many_maps m task) ≡ false
 
 both_parts : (a b c : Bool) → (a || b || c) ≡ false → (a || b) ≡ false
-both_parts true b c e = cc
-both_parts false true c e = cc
-both_parts false false c e = refl
+both_parts a b c e = grind arith
 
 -- nor a fork's
 abbrev pub ForksFewMaps : Mount → (parent child : ℕ) → Type 0
@@ -115,75 +110,11 @@ module _ (size k : ℕ) (c : Choice) (m : Mount) (W : SlotEvent → Plan → Typ
 
     -- so it is of each event but a remount and an umount
     pub walk : (e : SlotEvent) → relimits e ≡ false → W e (on_mount size k c m e)
-    walk (slot.Mount options) stays = walks.refuses (slot.Mount options) SlotTaken
-    walk (slot.Remount options) stays = cc
     walk slot.Umount stays = cc
-    walk (slot.Create name) stays =
-        let e : SlotEvent = slot.Create name in
-        let created = Finish (Answered Done (Some (with_new m (new_file (Some name))))) in
-        let rest = drop 2 (create_tests c m name) in
-        tested e ((not (is_name name), BadName) ∷ []) (if is_some (file_named m name) then refuse FileExists else unless rest created)
-        (passed e (is_some (file_named m name)) FileExists (unless rest created) (λ new. tested e rest created (walks.creates name new)))
-    walk (slot.Unlink name) stays = of_file (slot.Unlink name) name (unlink m) (walks.unlinks name)
-    walk (slot.Truncate name n) stays =
-        let e : SlotEvent = slot.Truncate name n in
-        of_file e name (truncate m n) (λ q at. tested e ((nat_lt most_file_pages n, OutOfRange) ∷ []) (gives Done (Some m) (edited m q.0 (truncated n q.1))) (walks.truncates name n q at))
-    walk (slot.Punch name a b) stays =
-        let e : SlotEvent = slot.Punch name a b in
-        of_file e name (punch m a b) (λ q at. tested e ((is_bad_range a b, OutOfRange) ∷ []) (gives Done (Some m) (edited m q.0 (punched a b q.1))) (walks.punches name a b q at))
-    walk (slot.Preallocate name a b) stays =
-        let e : SlotEvent = slot.Preallocate name a b in
-        of_file e name (preallocate c size m a b)
-        (λ q at. tested e (preallocate_tests a b) (if lacking a b q.1 == 0 then Finish (Answered Done (Some m)) else fill c size m a b q)
-        (cond_both (lacking a b q.1 == 0) (Finish (Answered Done (Some m))) (fill c size m a b q) (W e) (λ none. walks.whole name a b q at) (λ some. walks.fills name a b q at)))
-    walk (slot.Read name i offset count) stays =
-        let e : SlotEvent = slot.Read name i offset count in
-        of_file e name (read size m i offset count)
-        (λ q at. (let answer = bytes_answer offset count (shown size (cell_at q.1 i)) in
-        tested e (take 2 (read_tests size i offset count q.1)) (unless (drop 2 (read_tests size i offset count q.1)) (Finish (Answered answer (Some m))))
-        (passed e (nat_lt most_bytes count) TooMany (Finish (Answered answer (Some m))) (walks.reads name i offset count (shown size (cell_at q.1 i))))))
-    walk slot.Ls stays =
-        let names = Names (filter_map (λ f. f.name) m.files) in
-        tested slot.Ls ((c.refused, OutOfMemory) ∷ []) (Finish (Answered names (Some m))) (walks.tells slot.Ls names refl)
-    walk (slot.Stat name) stays =
-        of_file (slot.Stat name) name (stat m)
-        (λ q at. walks.tells (slot.Stat name) (StatAnswer (length q.1.cells) (count_by has_page q.1.cells) (count_by is_entered q.1.cells) (length q.1.maps)) refl)
-    walk slot.Df stays = walks.tells slot.Df (UsageAnswer m.limits.max m.limits.min (usage_of m) m.limits.inodes (length m.files)) refl
-    walk (slot.Map task home name a n sharing reserving) stays =
-        let e : SlotEvent = slot.Map task home name a n sharing reserving in
-        let number = next_number task m in
-        of_file e name (map_file c m task home a n sharing reserving)
-        (λ q at. (let made : Plan = grant c m home (asked sharing reserving a n q.1) (Answered (MapNo number) (Some (with_file m q.0 (mapped task number a n sharing reserving q.1)))) in
-        tested e (take 1 (map_tests m task a n)) (unless (drop 1 (map_tests m task a n)) made)
-        (passed e (nat_lt most_map_pages n || are_too_many_maps m task) TooMany made (walks.maps task home name a n sharing reserving q at))))
-    walk (slot.Anon task home n sharing reserving) stays =
-        let e : SlotEvent = slot.Anon task home n sharing reserving in
-        let number = next_number task m in
-        let made : Plan = grant c m home (asked sharing reserving 0 n (new_file None)) (Answered (MapNo number) (Some (with_new m (mapped task number 0 n sharing reserving (new_file None))))) in
-        let maps = nat_lt most_map_pages n || are_too_many_maps m task in
-        let files = nat_le most_files (length m.files) in
-        tested e (take 1 (anon_tests m task n)) (unless (drop 1 (anon_tests m task n)) made)
-        (cond_both (nat_lt most_map_pages n || are_too_many_maps m task || files) (refuse TooMany) (unless (drop 2 (anon_tests m task n)) made) (W e) (λ on. walks.refuses e TooMany)
-        (λ few. tested e (drop 2 (anon_tests m task n)) made (walks.anons task home n sharing reserving (both_parts (nat_lt most_map_pages n) (are_too_many_maps m task) files few))))
-    walk (slot.Unmap task number a b) stays =
-        let e : SlotEvent = slot.Unmap task number a b in
-        of_map e task number (unmap m task number a b)
-        (λ s at. tested e ((is_bad_range a b, OutOfRange) ∷ []) (gives Done (Some m) (Some (unmapped_from task number a b m))) (walks.unmaps task number a b))
-    walk (slot.Fault task home number i intent) stays =
-        of_map (slot.Fault task home number i intent) task number (fault c size m home i intent) (λ s at. walks.faults task number s at home i intent)
-    walk (slot.Load task home number i offset count) stays =
-        of_map (slot.Load task home number i offset count) task number (load c size m home i offset count) (λ s at. walks.loads task number s at home i offset count)
-    walk (slot.Store task home number i offset bytes) stays =
-        of_map (slot.Store task home number i offset bytes) task number (store c size m home i offset bytes) (λ s at. walks.stores task number s at home i offset bytes)
-    walk (slot.ForkMaps parent child) stays =
-        let e : SlotEvent = slot.ForkMaps parent child in
-        let made : Plan = gives Done (Some m) (Some (forked parent child m)) in
-        passed e (nat_lt most_maps (length (maps_of (forked parent child m))) || nat_lt most_tasks (length (tasks_of (forked parent child m)))) TooMany (unless ((c.refused, OutOfMemory) ∷ []) made)
-        (λ few. tested e ((c.refused, OutOfMemory) ∷ []) made (walks.forks parent child few))
-    walk (slot.ExitMaps task) stays = walks.exits task
+    walk (slot.Anon task home n sharing reserving) stays = grind (arith, tested, cond_both, both_parts)
+    walk (slot.Preallocate name a b) stays = grind (arith, common_steps, of_file, tested, cond_both)
+    walk e stays = grind (arith, of_file, of_map, tested, passed)
 
     -- and of these too, where it is of setting limits and of giving all back
     pub walk_all : ((options : List ℕ) → W (slot.Remount options) (remounting size m options)) → W slot.Umount (gives Done (Some m) None) → (e : SlotEvent) → W e (on_mount size k c m e)
-    walk_all remounts none (slot.Remount options) = tested (slot.Remount options) (remount_tests k) (remounting size m options) (remounts options)
-    walk_all remounts none slot.Umount = tested slot.Umount (umount_tests k m) (gives Done (Some m) None) none
-    walk_all remounts none e = walk e refl
+    walk_all remounts none e = grind (arith, tested, walk)

@@ -1,4 +1,5 @@
 -- From events to steps: what the one event of a step does is what the step does. A fork and an exit are several events.
+use Rattle.std.proofs.Common.{arith}
 use Rattle.std.proofs.Common.{◌≡◌, ⊎_elim, subst, ℕ, ◌==◌, Bool, true, false, Err, length, refl, sym}
 use Rattle.hp_model.specs.declared.event.Event.{Event}
 use Rattle.hp_model.specs.declared.event.Event.TheVariants.{Tasks, Slot as OnSlot, Pool as OnPool}
@@ -7,7 +8,7 @@ use Rattle.hp_model.specs.declared.event.SlotEvent.{SlotEvent}
 use Rattle.hp_model.specs.declared.event.SlotEvent.TheVariants as slot
 use Rattle.hp_model.specs.declared.event.TableEvent.TheVariants as table
 use Rattle.hp_model.specs.declared.refusal.Refusal.{Refusal}
-use Rattle.hp_model.specs.declared.refusal.Refusal.TheVariants.{MountFull, NoPages, NoSuchSlot, NoSuchTask}
+use Rattle.hp_model.specs.declared.refusal.Refusal.TheVariants.{NoSuchSlot, NoSuchTask}
 use Rattle.hp_model.specs.declared.step.Step.{Step}
 use Rattle.hp_model.specs.declared.step.Step.TheVariants.{Connect, Attach, Fork, Exit, Mount, Remount, Umount, Create, Unlink, Truncate, Punch, Preallocate, Read, Ls}
 use Rattle.hp_model.specs.declared.step.Step.TheVariants.{Stat, Map, Anon, Unmap, Fault, Load, Store, Nr, Overcommit, Meminfo, Nodes, Df}
@@ -71,9 +72,7 @@ is_early NoSuchTask = true
 is_early other = false
 
 pub early_pages : (r : Refusal) → is_early r ≡ true → is_for_pages r ≡ false
-early_pages NoPages early = cc
-early_pages MountFull early = cc
-early_pages other early = refl
+early_pages r early = grind arith
 
 -- ---- what holds of each event holds of each step
 
