@@ -1,5 +1,6 @@
+use Rattle.std.proofs.lemmas.Grind.{common_steps}
 -- A file that gives back, by what code did.
-use Rattle.std.proofs.Common.{◌≡◌, ℕ, ◌+◌, ◌<◌, ◌≤◌, ◌==◌, ⊎_elim, ◌⊎◌, nat_lt, Bool, true, false, not, List, [], ◌∷◌, Option, Some, None, Ok, Err, length, min, refl, sym, ap, subst, ◌∙◌, arith}
+use Rattle.std.proofs.Common.{◌≡◌, ℕ, ◌+◌, ◌<◌, ◌≤◌, ◌==◌, ◌⊎◌, nat_lt, Bool, true, false, not, List, [], ◌∷◌, Option, Some, None, Ok, Err, length, min, refl, sym, ap, subst, ◌∙◌, arith}
 use Rattle.std.specs.Prelude.{slice_set}
 use Rattle.std.specs.List.{count_by, sum_by}
 use Rattle.std.proofs.lemmas.Bool.Decides.{nat_tests}
@@ -10,12 +11,11 @@ use Rattle.hp_model.specs.declared.refusal.Refusal.{Refusal}
 use Rattle.hp_model.specs.declared.refusal.Refusal.TheVariants as r
 use Rattle.hp_model.specs.declared.section.PoolAnswer.{PoolAnswer}
 use Rattle.hp_model.specs.declared.section.Section.{Section}
-use Rattle.hp_model.specs.files.File.{File, Mount, with_file}
-use Rattle.hp_model.specs.files.GiveBack.{is_kept, swept}
+use Rattle.hp_model.specs.files.File.{File, Mount}
+use Rattle.hp_model.specs.files.GiveBack.{is_kept}
 use Rattle.hp_model.specs.files.MountCounts.{file_pages, file_reserves}
 use Rattle.hp_model.specs.files.Page.{Page}
-use Rattle.hp_model.specs.Profile.{most_files}
-use Rattle.hp_model.specs.machine.Plan.{Plan, fall_of, gives, unless, with_value}
+use Rattle.hp_model.specs.machine.Plan.{Plan, gives, unless, with_value}
 use Rattle.hp_model.specs.machine.Promises.{file_in}
 use Rattle.hp_model.specs.machine.SlotEvent.{edited, file_named, is_bad_range}
 use Rattle.hp_model.specs.threads.LocalRun.{ThroughDoor}
@@ -45,20 +45,7 @@ module _ {s : Subpool} {v w : Files} {inodes : Option ℕ} (c : IsKept s v (moun
   leaves = ap (λ (x : Subpool). mount_from x inodes last.files) new_is ∙ ap (λ (x : Files). mount_from s inodes x.files) last_is ∙ ap (mount_from s inodes) w_is
 
   pub keeps : length gs ≤ length v.files → IsKept new last (mount_from new inodes last.files)
-  keeps fewer =
-      let pages = pages_are in
-      let held = held_are in
-      let room = c.room in
-      let more = left.room in
-      let few = c.few in
-      let long = ap length w_is in
-      rw (last_is, new_is) (record {
-        pages = omega (arith, pages);
-        used = omega (arith, pages, held);
-        room = omega (arith, room, more);
-        going = refl;
-        few = omega (arith, few, fewer, long);
-      })
+  keeps fewer = grind (arith, common_steps, pages_are, held_are)
 
   pub gave_through : {X : Type 0} {took : X → Section → PoolAnswer → X → Type 0} {door after : X} → GivesBack took w.going (fall s (length w.going + reserves)) door after
       → ThroughDoor took (gives Done (Some (mount_from s inodes v.files)) (Some (mount_from s inodes gs))) (Some (mount_from s inodes v.files)) door (Ok Done) (Some (mount_from new inodes last.files)) after
@@ -114,9 +101,7 @@ module _ {X : Type 0} (took : X → Section → PoolAnswer → X → Type 0) (fu
 -- ---- tests of a range and of a length
 
 pub bad_range : (a b : ℕ) → (b ≤ a) ⊎ ((a < b) × (16777216 < b)) → first_of ((is_bad_range a b, r.OutOfRange) ∷ []) ≡ Some r.OutOfRange
-bad_range a b bad = ap (λ t. first_of ((t, r.OutOfRange) ∷ [])) (⊎_elim
-    (λ (l : b ≤ a). (let t : is_bad_range a b ≡ true = grind (arith, nat_tests, l) in t))
-    (λ (l : (a < b) × (16777216 < b)). (let past = l.1 in let t : is_bad_range a b ≡ true = grind (arith, nat_tests, past) in t)) bad)
+bad_range a b bad = grind (arith, common_steps, nat_tests)
 
 pub good_range : (a b : ℕ) → a < b → b ≤ 16777216 → first_of ((is_bad_range a b, r.OutOfRange) ∷ []) ≡ None
 good_range a b l few = (let t : is_bad_range a b ≡ false = grind (arith, nat_tests, l, few) in ap (λ t. first_of ((t, r.OutOfRange) ∷ [])) t)
