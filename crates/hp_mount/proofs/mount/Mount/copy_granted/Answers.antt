@@ -1,8 +1,9 @@
+use Rattle.std.proofs.lemmas.Grind.{common_steps}
 use Rattle.std.proofs.Common.{◌≡◌, ℕ, ◌||◌, Bool, max, false, None, Some, refl, sym, ap, subst, ◌∙◌, arith}
 use Rattle.std.specs.List.{flat_map}
 use Rattle.hp_model.specs.declared.place.Place.TheVariants.{Live}
 use Rattle.hp_model.specs.files.File.{Mount}
-use Rattle.hp_model.specs.files.Mapping.{place_at, copy_of, is_live}
+use Rattle.hp_model.specs.files.Mapping.{place_at}
 use Rattle.hp_model.specs.files.Page.{Page}
 use Rattle.hp_model.specs.files.MountCounts.{stamps_of}
 use Rattle.hp_model.specs.Lists.{is_among}
@@ -101,12 +102,10 @@ pub put_copy-requires-clause-map : goal.put_copy-requires-clause-map
 put_copy-requires-clause-map g c = inner.map_here c.in-Ok.ensures.ok c.args.at.file c.args.at.map (map_here c.self.view_is c.args.at.file c.args.at.map c.requires.map)
 
 pub put_copy-requires-clause-live : goal.put_copy-requires-clause-live
-put_copy-requires-clause-live g c =
-    ap is_live (inner.place_here c.in-Ok.ensures.ok c.args.at.file c.args.at.map c.args.index (place_here c.self.view_is c.args.at.file c.args.at.map c.args.index c.requires.needs.place))
+put_copy-requires-clause-live g c = grind (arith, common_steps, place_here)
 
 pub put_copy-requires-clause-bare : goal.put_copy-requires-clause-bare
-put_copy-requires-clause-bare g c =
-    ap copy_of (inner.place_here c.in-Ok.ensures.ok c.args.at.file c.args.at.map c.args.index (place_here c.self.view_is c.args.at.file c.args.at.map c.args.index c.requires.needs.place))
+put_copy-requires-clause-bare g c = grind (arith, common_steps, place_here)
 
 pub returns-then-is_full-clause-done : goal.returns-then-is_full-clause-done
 returns-then-is_full-clause-done g c =

@@ -1,4 +1,5 @@
-use Rattle.std.proofs.Common.{Some, ap, ◌∙◌}
+use Rattle.std.proofs.lemmas.Grind.{common_steps}
+use Rattle.std.proofs.Common.{Some, ap, ◌∙◌, arith}
 use Rattle.hp_model.specs.declared.answer.Answer.TheVariants.{Done}
 use Rattle.hp_model.specs.files.File.{Mount}
 use Rattle.hp_model.specs.files.GiveBack.{file_without, without_task}
@@ -9,9 +10,7 @@ use Rattle.hp_mount_laws.proofs.Leaving.{few_reserves, fewer, fewer_maps, tried}
 use Rattle.hp_mount.proofs.mount.Mount.exit_maps.Goals as goal
 
 pub exit-reserves-requires : goal.exit-reserves-requires
-exit-reserves-requires g c =
-    let o = c.self.inside in
-    few_reserves o.share o.files o.inodes c.self.invariant c.held-held.result c.held-held.ensures c.held-held.type_inv
+exit-reserves-requires g c = grind (arith, common_steps, few_reserves)
 
 pub invariant_of-self : goal.invariant_of-self
 invariant_of-self g c = keeps c.self.invariant c.exit-reserves.ensures.left c.exit-reserves.ensures.files c.give_back.ensures.share c.give_back.ensures.going

@@ -1,4 +1,5 @@
-use Rattle.std.proofs.Common.{sym, ap, ◌∙◌}
+use Rattle.std.proofs.lemmas.Grind.{common_steps}
+use Rattle.std.proofs.Common.{sym, ap, ◌∙◌, arith}
 use Rattle.hp_model.specs.machine.Promises.{is_backed}
 use Rattle.hp_mount.specs.declared.mount.reach.Asked.TheVariants.{Page}
 use Rattle.hp_mount.specs.Found.{spot_of}
@@ -11,9 +12,7 @@ returns-in-Err-clause-done g c k =
     (nothing_follows g.D.PoolDoor.took g.D.PoolDoor.is_full c.args.self.now c.args.door.now) c.in-Err.refusal c.in-Err.ensures.refused
 
 pub returns-in-Err-clause-memory : goal.returns-in-Err-clause-memory
-returns-in-Err-clause-memory g c backed =
-    let a = c.args.access.now in
-    early_not_memory c.in-Err.refusal (why_is_early 0 a.index Page (spot_of a c.args.self.now) c.in-Err.refusal c.in-Err.ensures.refused)
+returns-in-Err-clause-memory g c backed = grind (arith, common_steps, early_not_memory, why_is_early)
 
 pub returns-clause-done : goal.returns-clause-done
 returns-clause-done g c k =

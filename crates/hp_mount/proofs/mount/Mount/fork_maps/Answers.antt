@@ -16,8 +16,8 @@ roomy : {s : Subpool} {v : Files} {m : Mount} → IsKept s v m → (room : ℕ) 
 roomy is room enough = record { pages = is.pages; used = is.used; room = enough; going = is.going; few = is.few }
 
 pub invariant_of-self-2 : goal.invariant_of-self-2
-invariant_of-self-2 g c = keeps (roomy c.self.invariant c.held-held.result (omega (arith, c.held-held.ensures))) c.in-Ok.ensures.left c.in-Ok.ensures.files c.give_back.ensures.share c.give_back.ensures.going
-    (fewer (file_forked c.args.parent c.args.child) c.self.inside.files.files)
+invariant_of-self-2 g c = keeps (roomy c.self.invariant c.held-held.result (omega (arith, c.held-held.ensures)))
+    c.in-Ok.ensures.left c.in-Ok.ensures.files c.give_back.ensures.share c.give_back.ensures.going (fewer (file_forked c.args.parent c.args.child) c.self.inside.files.files)
 
 -- there are not too many, as the fields show the mount
 module _ (g : Over) (c : After-forks_too_many g) where
@@ -46,4 +46,5 @@ returns-clause-done g c size k =
     let m : Mount = mount_from o.share o.inodes o.files.files in
     rw (← c.self.view_is) (forks g.D.PoolDoor.took g.D.PoolDoor.is_full m c.args.parent c.args.child c.args.door.now
     (under g (goal.at.returns-clause-done g c).After-forks_too_many c.if-forks_too_many.false) (mount_from c.give_back.new.share o.inodes c.give_back.new.self.files) c.give_back.new.door
-    (gave_through (roomy c.self.invariant c.held-held.result (omega (arith, c.held-held.ensures))) c.in-Ok.ensures.left c.in-Ok.ensures.files c.give_back.ensures.share c.give_back.ensures.going c.give_back.ensures.given))
+    (gave_through (roomy c.self.invariant c.held-held.result (omega (arith, c.held-held.ensures)))
+    c.in-Ok.ensures.left c.in-Ok.ensures.files c.give_back.ensures.share c.give_back.ensures.going c.give_back.ensures.given))

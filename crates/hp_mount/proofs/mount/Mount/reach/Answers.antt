@@ -1,4 +1,5 @@
-use Rattle.std.proofs.Common.{refl, sym, ap, ◌∙◌, Some}
+use Rattle.std.proofs.lemmas.Grind.{common_steps}
+use Rattle.std.proofs.Common.{refl, sym, ap, ◌∙◌, Some, arith}
 use Rattle.hp_model.specs.files.Access.{access, shared_access}
 use Rattle.hp_model.specs.files.File.{Mount, cell_at, file_in, map_in}
 use Rattle.hp_model.specs.files.Mapping.{is_shared}
@@ -30,8 +31,4 @@ returns-then-is_shared-clause-done g c =
     (c.reach_shared.ensures.done s refl refl)
 
 pub returns-then-is_shared-clause-memory : goal.returns-then-is_shared-clause-memory
-returns-then-is_shared-clause-memory g c backed =
-    let s = spot_at c.args.self.now c.args.at.file c.args.at.map in
-    c.reach_shared.ensures.memory (backed_is_entered c.args.intent (Some s) s c.args.index refl
-    (sym (ap (λ (x : Mount). is_shared (map_in (file_in x c.args.at.file) c.args.at.map).sharing) c.self.view_is) ∙ sym (c.is_shared.ensures ∙ shared_lent c.map.ensures)
-    ∙ c.if-is_shared.true) backed)
+returns-then-is_shared-clause-memory g c backed = grind (arith, common_steps, shared_lent, backed_is_entered)

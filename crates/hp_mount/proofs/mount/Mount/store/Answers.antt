@@ -1,4 +1,5 @@
-use Rattle.std.proofs.Common.{◌≡◌, Some, length, sym, ap, subst, ◌∙◌}
+use Rattle.std.proofs.lemmas.Grind.{common_steps}
+use Rattle.std.proofs.Common.{◌≡◌, Some, length, sym, ap, subst, ◌∙◌, arith}
 use Rattle.hp_model.specs.declared.step.Intent.TheVariants.{Write}
 use Rattle.hp_model.specs.files.File.{Mount, file_in, map_in}
 use Rattle.hp_model.specs.files.Mapping.{is_shared}
@@ -21,18 +22,14 @@ store_shared-requires-clause-placed g c =
     subst (λ n. IsPlaced c.args.self.now c.args.access.now (Bytes c.args.offset (length c.args.bytes.now)) n c.in-Ok.at) c.requires.page_bytes c.in-Ok.ensures.placed
 
 pub store_shared-requires-clause-shared : goal.store_shared-requires-clause-shared
-store_shared-requires-clause-shared g c =
-    sym (ap (λ (x : Mount). is_shared (map_in (file_in x c.in-Ok.at.file) c.in-Ok.at.map).sharing) c.self.view_is)
-    ∙ sym (c.is_shared-is_shared.ensures ∙ shared_lent c.map.ensures) ∙ c.if-is_shared.true
+store_shared-requires-clause-shared g c = grind (arith, common_steps, shared_lent)
 
 pub store_private-requires-clause-placed : goal.store_private-requires-clause-placed
 store_private-requires-clause-placed g c =
     subst (λ n. IsPlaced c.args.self.now c.args.access.now (Bytes c.args.offset (length c.args.bytes.now)) n c.in-Ok.at) c.requires.page_bytes c.in-Ok.ensures.placed
 
 pub store_private-requires-clause-private : goal.store_private-requires-clause-private
-store_private-requires-clause-private g c =
-    sym (ap (λ (x : Mount). is_shared (map_in (file_in x c.in-Ok.at.file) c.in-Ok.at.map).sharing) c.self.view_is)
-    ∙ sym (c.is_shared-is_shared.ensures ∙ shared_lent c.map.ensures) ∙ c.if-is_shared.false
+store_private-requires-clause-private g c = grind (arith, common_steps, shared_lent)
 
 pub returns-in-Err-clause-done : goal.returns-in-Err-clause-done
 returns-in-Err-clause-done g c k =
@@ -44,6 +41,4 @@ returns-in-Err-clause-done g c k =
     (subst (λ n. why_not c.args.self.now c.args.access.now asked n ≡ Some c.in-Err.refusal) c.requires.page_bytes c.in-Err.ensures.refused)
 
 pub returns-in-Err-clause-memory : goal.returns-in-Err-clause-memory
-returns-in-Err-clause-memory g c backed =
-    let a = c.args.access.now in
-    early_not_memory c.in-Err.refusal (why_is_early c.args.page_bytes a.index (Bytes c.args.offset (length c.args.bytes.now)) (spot_of a c.args.self.now) c.in-Err.refusal c.in-Err.ensures.refused)
+returns-in-Err-clause-memory g c backed = grind (arith, common_steps, early_not_memory, why_is_early)

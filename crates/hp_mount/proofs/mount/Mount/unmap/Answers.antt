@@ -1,3 +1,5 @@
+use Rattle.std.proofs.Common.{arith}
+use Rattle.std.proofs.lemmas.Grind.{common_steps}
 use Rattle.hp_model.specs.files.File.{Mount}
 use Rattle.hp_model.specs.files.GiveBack.{file_unmapped}
 use Rattle.hp_model.specs.files.Mapping.{is_map}
@@ -22,9 +24,7 @@ returns-then-end-start-clause-done g c size k =
     (spot_of o.files.files c.in-Some.at.file c.in-Some.at.map) (c.in-Some.ensures.some.is m.limits) c.then-end-start.either)
 
 pub unmap-reserves-requires-clause-few : goal.unmap-reserves-requires-clause-few
-unmap-reserves-requires-clause-few g c =
-    let o = c.self.inside in
-    few_reserves o.share o.files o.inodes c.self.invariant c.held-held.result c.held-held.ensures c.held-held.type_inv
+unmap-reserves-requires-clause-few g c = grind (arith, common_steps, few_reserves)
 
 pub invariant_of-self : goal.invariant_of-self
 invariant_of-self g c = keeps c.self.invariant c.unmap-reserves.ensures.left c.unmap-reserves.ensures.files c.give_back.ensures.share c.give_back.ensures.going
