@@ -48,7 +48,8 @@ module _ {s : Subpool} {v w : Files} {inodes : Option ℕ} (c : IsKept s v (moun
   keeps fewer = grind (arith, common_steps, pages_are, held_are)
 
   pub gave_through : {X : Type 0} {took : X → Section → PoolAnswer → X → Type 0} {door after : X} → GivesBack took w.going (fall s (length w.going + reserves)) door after
-      → ThroughDoor took (gives Done (Some (mount_from s inodes v.files)) (Some (mount_from s inodes gs))) (Some (mount_from s inodes v.files)) door (Ok Done) (Some (mount_from new inodes last.files)) after
+      → ThroughDoor took (gives Done (Some (mount_from s inodes v.files)) (Some (mount_from s inodes gs))) (Some (mount_from s inodes v.files)) door (Ok Done)
+      (Some (mount_from new inodes last.files)) after
   gave_through {took} {door} {after} back =
       let m : Mount = mount_from s inodes v.files in
       let pages = pages_are in
