@@ -1,8 +1,5 @@
 use Rattle.std.proofs.lemmas.Grind.{common_steps}
-use Rattle.std.proofs.Common.{◌≡◌, Bool, Some, true, false, not, refl, sym, subst, ◌∙◌, arith}
-use Rattle.hp_events.specs.declared.event.MountEvent.{MountEvent}
-use Rattle.hp_events.specs.Event.{as_event}
-use Rattle.hp_events.specs.Memory.{asks_memory}
+use Rattle.std.proofs.Common.{◌≡◌, Bool, true, false, not, refl, arith}
 use Rattle.hp_mount_laws.proofs.Replies.{bytes_not_memory, done_not_memory}
 use Rattle.hp_mount.proofs.mount.Mount.apply_to_map.Goals as goal
 

@@ -1,9 +1,5 @@
 use Rattle.std.proofs.lemmas.Grind.{common_steps}
-use Rattle.std.proofs.Common.{Some, sym, ap, ◌∙◌, arith}
-use Rattle.hp_model.specs.files.File.{Mount, new_file}
-use Rattle.hp_model.specs.files.MakeMap.{with_new}
-use Rattle.hp_lookup.specs.Files.{Files}
-use Rattle.hp_mount_laws.specs.Kept.{mount_from}
+use Rattle.std.proofs.Common.{sym, ◌∙◌, arith}
 use Rattle.hp_mount_laws.proofs.Making.{create_done, create_refused, create_without_memory}
 use Rattle.hp_mount.proofs.mount.Mount.create.Goals as goal
 

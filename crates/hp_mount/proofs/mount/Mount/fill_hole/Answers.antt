@@ -70,12 +70,6 @@ returns-in-Err-clause-done g c s at file =
     c.args.index c.saturating_add-spare.result c.get_page.new.share c.leave.new.self (cell_here c.self.view_is c.args.file c.args.index c.requires.hole) c.in-Err.ensures.unchanged
     (c.leave.ensures ∙ ap (with_cell_at c.args.file c.args.index Hole) c.in-Ok.ensures.ok) ∙ c.self.view_is)
 
-pub prepare-requires-clause-file : goal.prepare-requires-clause-file
-prepare-requires-clause-file g c = file_here c.self.view_is c.args.file c.requires.file
-
-pub prepare-requires-clause-below : goal.prepare-requires-clause-below
-prepare-requires-clause-below g c = below_here c.self.view_is c.args.file c.args.index c.requires.below
-
 pub prepare-requires-clause-hole : goal.prepare-requires-clause-hole
 prepare-requires-clause-hole g c = cell_here c.self.view_is c.args.file c.args.index c.requires.hole
 

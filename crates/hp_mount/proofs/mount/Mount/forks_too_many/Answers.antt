@@ -1,12 +1,8 @@
 use Rattle.std.proofs.lemmas.Grind.{common_steps}
-use Rattle.std.proofs.Common.{◌≡◌, ℕ, ◌<◌, ◌≤◌, ⊎_elim, true, false, cond, length, nat_lt, ap, sym, ◌∙◌, arith}
+use Rattle.std.proofs.Common.{◌≡◌, ℕ, ◌<◌, ◌≤◌, ⊎_elim, true, false, nat_lt, sym, ◌∙◌, arith}
 use Rattle.std.proofs.lemmas.Bool.{cases_lt}
 use Rattle.std.proofs.lemmas.Bool.Decides.{nat_tests}
 use Rattle.hp_lookup.proofs.NewKey.{byte_few, byte_is}
-use Rattle.hp_model.specs.files.File.{Mount, maps_of}
-use Rattle.hp_model.specs.files.Fork.{forked}
-use Rattle.hp_model.specs.files.MakeMap.{tasks_of}
-use Rattle.hp_mount_laws.specs.Kept.{mount_from}
 use Rattle.hp_mount_laws.proofs.Forking.{by_tasks, many, many_maps, maps_are, tasks_are}
 use Rattle.hp_mount.proofs.mount.Mount.forks_too_many.Goals as goal
 

@@ -9,7 +9,6 @@ use Rattle.hp_mount_files.specs.Lent.{IsReadable}
 use Rattle.hp_mount.specs.declared.mount.reach.Asked.TheVariants.{Bytes}
 use Rattle.hp_mount.specs.Found.{IsPlaced, why_not}
 use Rattle.hp_mount.proofs.Commands.{backed_not_memory, denied, early_not_memory, follows, loads, not_begun, why_is_early}
-use Rattle.hp_mount.proofs.Here.{file_here, map_here}
 use Rattle.hp_mount.proofs.Loading.{loaded, loaded_found}
 use Rattle.hp_mount.proofs.mount.Mount.load.Goals as goal
 
@@ -24,12 +23,6 @@ returns-in-Err-clause-done g c k =
 
 pub returns-in-Err-clause-memory : goal.returns-in-Err-clause-memory
 returns-in-Err-clause-memory g c backed = grind (arith, common_steps, early_not_memory, why_is_early)
-
-pub found-requires-clause-file : goal.found-requires-clause-file
-found-requires-clause-file g c = file_here c.self.view_is c.in-Ok.at.file c.in-Ok.ensures.placed.file
-
-pub found-requires-clause-map : goal.found-requires-clause-map
-found-requires-clause-map g c = map_here c.self.view_is c.in-Ok.at.file c.in-Ok.at.map c.in-Ok.ensures.placed.map
 
 pub returns-in-Some-clause-done : goal.returns-in-Some-clause-done
 returns-in-Some-clause-done g c =

@@ -9,14 +9,7 @@ use Rattle.hp_mount_laws.specs.Done.{done}
 use Rattle.hp_mount_laws.specs.Reach.{spot_at}
 use Rattle.hp_mount.proofs.Commands.{backed_is_entered, shared_is}
 use Rattle.hp_mount_laws.proofs.Trying.{tried_as}
-use Rattle.hp_mount.proofs.Here.{file_here, map_here}
 use Rattle.hp_mount.proofs.mount.Mount.reach.Goals as goal
-
-pub map-requires-clause-file : goal.map-requires-clause-file
-map-requires-clause-file g c = file_here c.self.view_is c.args.at.file c.requires.file
-
-pub map-requires-clause-map : goal.map-requires-clause-map
-map-requires-clause-map g c = map_here c.self.view_is c.args.at.file c.args.at.map c.requires.map
 
 pub returns-then-is_shared-clause-done : goal.returns-then-is_shared-clause-done
 returns-then-is_shared-clause-done g c =

@@ -7,23 +7,8 @@ use Rattle.hp_mount_files.proofs.Lent.{unmapped_lent, reserve_lent}
 use Rattle.hp_mount_laws.proofs.Private as private
 use Rattle.hp_mount_laws.specs.Reach.{shows_page}
 use Rattle.hp_file.proofs.PutCopy.{bare_place}
-use Rattle.hp_mount.proofs.Here.{file_here, map_here, needs_copy}
+use Rattle.hp_mount.proofs.Here.{needs_copy}
 use Rattle.hp_mount.proofs.mount.Mount.reach_bare.Goals as goal
-
-pub map-requires-clause-file : goal.map-requires-clause-file
-map-requires-clause-file g c = file_here c.self.view_is c.args.at.file c.requires.file
-
-pub map-requires-clause-map : goal.map-requires-clause-map
-map-requires-clause-map g c = map_here c.self.view_is c.args.at.file c.args.at.map c.requires.map
-
-pub shows_page-requires : goal.shows_page-requires
-shows_page-requires g c = file_here c.self.view_is c.args.at.file c.requires.file
-
-pub map-requires-2-clause-file : goal.map-requires-2-clause-file
-map-requires-2-clause-file g c = file_here c.self.view_is c.args.at.file c.requires.file
-
-pub map-requires-2-clause-map : goal.map-requires-2-clause-map
-map-requires-2-clause-map g c = map_here c.self.view_is c.args.at.file c.args.at.map c.requires.map
 
 pub copy_reserved-requires-clause-needs : goal.copy_reserved-requires-clause-needs
 copy_reserved-requires-clause-needs g c = grind (arith, common_steps, unmapped_lent, needs_copy)

@@ -1,21 +1,12 @@
 use Rattle.std.proofs.lemmas.Grind.{common_steps}
-use Rattle.std.proofs.Common.{◌≡◌, Some, length, sym, ap, subst, ◌∙◌, arith}
+use Rattle.std.proofs.Common.{◌≡◌, Some, length, subst, arith}
 use Rattle.hp_model.specs.declared.step.Intent.TheVariants.{Write}
-use Rattle.hp_model.specs.files.File.{Mount, file_in, map_in}
-use Rattle.hp_model.specs.files.Mapping.{is_shared}
 use Rattle.hp_model.specs.machine.Plan.{and_then}
 use Rattle.hp_mount_files.proofs.Lent.{shared_lent}
 use Rattle.hp_mount.specs.declared.mount.reach.Asked.TheVariants.{Bytes}
-use Rattle.hp_mount.specs.Found.{IsPlaced, spot_of, why_not}
+use Rattle.hp_mount.specs.Found.{IsPlaced, why_not}
 use Rattle.hp_mount.proofs.Commands.{early_not_memory, follows, not_begun, stores, why_is_early}
-use Rattle.hp_mount.proofs.Here.{file_here, map_here}
 use Rattle.hp_mount.proofs.mount.Mount.store.Goals as goal
-
-pub map-requires-clause-file : goal.map-requires-clause-file
-map-requires-clause-file g c = file_here c.self.view_is c.in-Ok.at.file c.in-Ok.ensures.placed.file
-
-pub map-requires-clause-map : goal.map-requires-clause-map
-map-requires-clause-map g c = map_here c.self.view_is c.in-Ok.at.file c.in-Ok.at.map c.in-Ok.ensures.placed.map
 
 pub store_shared-requires-clause-placed : goal.store_shared-requires-clause-placed
 store_shared-requires-clause-placed g c =

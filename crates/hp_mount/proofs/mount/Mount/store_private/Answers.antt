@@ -8,15 +8,6 @@ use Rattle.hp_mount.proofs.Commands.{backed_not_memory, private_written}
 use Rattle.hp_mount.proofs.Storing.{stored, not_stored}
 use Rattle.hp_mount.proofs.mount.Mount.store_private.Goals as goal
 
-pub write_copy-requires-clause-file : goal.write_copy-requires-clause-file
-write_copy-requires-clause-file g c = (let file = c.requires.placed.file in let files = c.reach_private-reached.ensures.same.files in omega (arith, file, files))
-
-pub write_copy-requires-clause-map : goal.write_copy-requires-clause-map
-write_copy-requires-clause-map g c = (let map = c.requires.placed.map in let maps = c.reach_private-reached.ensures.same.maps in omega (arith, map, maps))
-
-pub write_copy-requires-clause-once : goal.write_copy-requires-clause-once
-write_copy-requires-clause-once g c = c.reach_private-reached.ensures.once refl c.in_default.is
-
 pub returns-clause-done : goal.returns-clause-done
 returns-clause-done g c =
     let n = c.reach_private-reached.new.self in
@@ -24,14 +15,16 @@ returns-clause-done g c =
     let once = c.reach_private-reached.ensures.once refl c.in_default.is in
     let live = live_of (place_at (map_in (file_in n c.args.at.file) c.args.at.map) c.args.access.now.index) once.0 once.1 in
     let placed = c.requires.placed in
-    stored g.D.PoolDoor.took g.D.PoolDoor.is_full g.N.Naming.page_bytes c.args.home c.args.self.now c.args.door.now c.args.access.now c.args.offset c.args.bytes.now c.args.at placed c.reach_private-reached.result n c.write_copy.new.self
+    stored g.D.PoolDoor.took g.D.PoolDoor.is_full g.N.Naming.page_bytes c.args.home c.args.self.now c.args.door.now c.args.access.now c.args.offset c.args.bytes.now c.args.at placed
+    c.reach_private-reached.result n c.write_copy.new.self
     c.reach_private-reached.new.door c.in_default.is c.reach_private-reached.ensures.done
     (c.write_copy.ensures ∙ sym (private_written n (spot_at c.args.self.now c.args.at.file c.args.at.map) c.args.access.now.index c.args.offset c.args.bytes.now live.0 once.0 c.requires.private
     (omega (arith, placed.file, same.files)) (omega (arith, placed.map, same.maps)) live.1))
 
 pub returns-in-Err-clause-done : goal.returns-in-Err-clause-done
 returns-in-Err-clause-done g c =
-    not_stored g.D.PoolDoor.took g.D.PoolDoor.is_full g.N.Naming.page_bytes c.args.home c.args.self.now c.args.door.now c.args.access.now c.args.offset c.args.bytes.now c.args.at c.requires.placed c.in-Err.refusal c.reach_private-reached.result
+    not_stored g.D.PoolDoor.took g.D.PoolDoor.is_full g.N.Naming.page_bytes c.args.home c.args.self.now c.args.door.now c.args.access.now c.args.offset c.args.bytes.now c.args.at c.requires.placed
+    c.in-Err.refusal c.reach_private-reached.result
     c.reach_private-reached.new.self c.reach_private-reached.new.door c.in-Err.is c.reach_private-reached.ensures.done
 
 pub returns-in-Err-clause-memory : goal.returns-in-Err-clause-memory

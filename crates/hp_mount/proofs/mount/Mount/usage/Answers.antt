@@ -1,9 +1,5 @@
 use Rattle.std.proofs.lemmas.Grind.{common_steps}
-use Rattle.std.proofs.Common.{subst, Some, Ok, ◌∙◌, arith}
-use Rattle.hp_model.specs.declared.answer.Answer.TheVariants.{Usage as UsageAnswer}
-use Rattle.hp_model.specs.declared.event.SlotEvent.TheVariants.{Df}
-use Rattle.hp_model.specs.files.File.{Mount}
-use Rattle.hp_mount_laws.specs.Alone.{IsDoneAlone}
+use Rattle.std.proofs.Common.{arith}
 use Rattle.hp_mount_laws.proofs.Making.{usage_alone}
 use Rattle.hp_mount.proofs.mount.Mount.usage.Goals as goal
 
