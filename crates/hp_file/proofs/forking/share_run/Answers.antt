@@ -12,9 +12,6 @@ loop-at-init g c = grind (arith, common_steps, shared_none)
 pub add_holder-requires-clause-held : goal.add_holder-requires-clause-held
 add_holder-requires-clause-held g c = grind (arith, common_steps, is_it, copied_in, sum_read)
 
-pub add_holder-requires-clause-some : goal.add_holder-requires-clause-some
-add_holder-requires-clause-some g c = c.loop-at.invariant.shared.sharing.some
-
 pub add_holder-requires-clause-few : goal.add_holder-requires-clause-few
 add_holder-requires-clause-few g c = grind (arith, common_steps, has_one, some_one, sum_read)
 
