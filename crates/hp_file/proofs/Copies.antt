@@ -1,3 +1,4 @@
+use Rattle.std.proofs.lemmas.Grind.{common_steps}
 -- A private copy, as its page is put in under a number that was free.
 use Rattle.std.proofs.Common.{◌≡◌, ◌≢◌, ℕ, ◌+◌, ◌<◌, ◌≤◌, ◌==◌, ⊎_elim, Bool, true, false, None, Some, List, [], ◌∷◌, length, map, refl, sym, ap, ◌∙◌, arith}
 use Rattle.std.specs.Prelude.{slice_set, slice_index_or, ◌||◌}
@@ -58,14 +59,7 @@ number_is_fresh s n (f ∷ fs) e =
 -- a number that stands nowhere may stand at one place
 pub fresh_stands : (n : ℕ) (fs : List NumberedFile) (k : ℕ) → k < length fs → in_files n fs ≡ 0 → (consumed : Bool) (m : ℕ) →
     0 < in_place m (Live consumed (Some n)) → (in_cells m fs ≡ 0) × (in_files m fs ≡ in_file m (numbered_at fs k))
-fresh_stands n fs k l fresh consumed m some = ⊎_elim
-    (λ (e : ((m == n) ≡ true) × (m ≡ n)). (
-    let none : in_files m fs ≡ 0 = ap (λ x. in_files x fs) e.1 ∙ fresh in
-    let cells = in_all m fs in
-    let here = none_in m fs k l none in
-    (omega (arith, none, cells), omega (arith, none, here))))
-    (λ (e : ((m == n) ≡ false) × (m ≢ n)). (let other = is_other n m (λ x. e.1 (sym x)) in absurd (omega (arith, some, other))))
-    (eqb_tells m n)
+fresh_stands n fs k l fresh consumed m some = grind (arith, common_steps, in_all, none_in, is_other, eqb_tells)
 
 -- the place o of the map has the number as its copy
 abbrev pub with_copy_at : Mapping ℕ → ℕ → Bool → ℕ → Mapping ℕ
@@ -110,14 +104,7 @@ module _ (n : ℕ) (s t : Store) (agree : Agree n s t) (page : Page) (is : page_
   -- where there was no copy
   module _ (below : o < length y.places) (was_consumed : Bool) (empty : slice_index_or y.places o Gone ≡ Live was_consumed None) where
     holders : (more : ℕ) → IsHeld s more fs → (m : ℕ) → holders_of (page_at t m) + in_place m (slice_index_or y.places o Gone) ≡ holders_of (page_at s m) + in_place m (Live consumed (Some n))
-    holders more h m =
-        let none = ap (in_place m) empty in
-        ⊎_elim
-        (λ (e : ((m == n) ≡ true) × (m ≡ n)). (let here = ap holders_of (ap (page_at t) e.1 ∙ is) in let had = h.held m in
-        let zero_before = ap (λ x. in_files x fs) e.1 ∙ fresh in let one = ap (λ x. in_place x (Live consumed (Some n))) e.1 ∙ is_it n in
-        omega (arith, here, had, zero_before, none, one)))
-        (λ (e : ((m == n) ≡ false) × (m ≢ n)). (let here = ap holders_of (agree m e.1) in let other = is_other n m (λ x. e.1 (sym x)) in omega (arith, here, none, other)))
-        (eqb_tells m n)
+    holders more h m = grind (arith, common_steps, is_it, is_other, eqb_tells)
 
     pub copy_held : (more : ℕ) → more_in t.pages ≡ more_in s.pages → more ≤ t.room → IsHeld s more fs → IsHeld t more (slice_set fs k g)
     copy_held more counted parts h =

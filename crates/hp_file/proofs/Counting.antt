@@ -1,3 +1,4 @@
+use Rattle.std.proofs.lemmas.Grind.{common_steps}
 -- Holders that go and come, with those beyond the first counted.
 use Rattle.std.proofs.Common.{◌≡◌, ℕ, ◌+◌, ◌<◌, ◌≤◌, arith}
 use Rattle.hp_store.specs.Store.{dropped, holders_of, page_at}
@@ -42,8 +43,4 @@ dropped_then {N} {t1} {l1} {t2} {l2} {total} {left} {old} {mid} {now} d p parts 
 
 pub shared_more : {N : Type 0} {a b all : ℕ → ℕ} {i j k : ℕ} {old mid now : HeldPages N} → AreShared a i old mid → AreShared b j mid now →
     ((n : ℕ) → a n + b n ≡ all n) → i + j ≡ k → AreShared all k old now
-shared_more {N} {a} {b} {all} {i} {j} {k} {old} {mid} {now} first then sum count = record {
-  sharing = share_then a b all old.store mid.store now.store first.sharing then.sharing sum;
-  counted = then.counted;
-  more = (let one = first.more in let two = then.more in omega (arith, one, two, count));
-}
+shared_more {N} {a} {b} {all} {i} {j} {k} {old} {mid} {now} first then sum count = grind (arith, common_steps, share_then)

@@ -1,5 +1,6 @@
+use Rattle.std.proofs.lemmas.Grind.{common_steps}
 -- A file that is cut to a length, and one that ends.
-use Rattle.std.proofs.Common.{◌≡◌, ℕ, zero, suc, ◌+◌, ◌-◌, ◌<◌, ◌≤◌, min, Bool, true, false, cond, List, [], ◌∷◌, ◌++◌, length, take, drop, map, replicate, if◌then◌else◌, refl, sym, ap, ◌∙◌, arith}
+use Rattle.std.proofs.Common.{◌≡◌, ℕ, zero, suc, ◌+◌, ◌-◌, ◌<◌, ◌≤◌, min, Bool, true, false, cond, List, [], ◌∷◌, ◌++◌, length, take, drop, map, replicate, if◌then◌else◌, refl, ap, ◌∙◌, arith}
 use Rattle.std.specs.Prelude.{slice_index_or}
 use Rattle.std.specs.List.{All, count_by, sum_by}
 use Rattle.std.proofs.lemmas.List.{get_or-drop, get_or-take, get_or_default, length-drop, length-take, nil_from_length, same_lists}
@@ -29,14 +30,7 @@ module _ {X : Type 0} (c : X → ℕ) (f : X → X) (none : (x : X) → c (f x) 
   none_mapped (x ∷ xs) = (let here = none x in let rest = none_mapped xs in omega (arith, here, rest, sum_by-cons c (f x) (map f xs)))
 
   pub none_from : (a b : ℕ) (xs : List X) → length xs ≤ b → sum_by c (edit_range f a b xs) ≡ sum_by c (take a xs)
-  none_from a b xs l =
-      let all = sum_by-edit_range c f a b xs in
-      let mid = none_mapped (take (b - a) (drop a xs)) in
-      let deep = length-drop a xs in
-      let past = length-drop (b - a) (drop a xs) in
-      let end : drop (b - a) (drop a xs) ≡ [] = nil_from_length (drop (b - a) (drop a xs)) (omega (arith, deep, past, l)) in
-      let last = ap (sum_by c) end in
-      omega (arith, all, mid, last)
+  none_from a b xs l = grind (arith, common_steps, sum_by-edit_range, none_mapped, length-drop, nil_from_length)
 
   pub none_all : (a b : ℕ) (xs : List X) → a ≡ 0 → length xs ≤ b → sum_by c (edit_range f a b xs) ≡ 0
   none_all a b xs e l = none_from a b xs l ∙ ap (λ k. sum_by c (take k xs)) e ∙ first xs
@@ -114,16 +108,7 @@ module _ (n end : ℕ) (cells bare gone : List (Cell ℕ)) (end_is : end ≡ len
         ∙ bare_at i ∙ ap (λ b. cond b (cell_punched (slice_index_or cells i Hole)) (slice_index_or cells i Hole)) (out_of n (n + end) i (λ p. (let low = p.0 in omega (arith, low, l))))
 
     pub cut_is : cells_to n gone ≡ cells_to n cells
-    cut_is =
-        let wide = length-take n gone in
-        let other = length-take n cells in
-        let long = gone_long in
-        ap (λ cs. cs ++ replicate (n - length gone) Hole) (same_lists (take n gone) (take n cells) (omega (arith, wide, other, long)) (λ k d l.
-        let below : k < n = omega (arith, l, wide) in
-        let inside : k < length gone = omega (arith, l, wide) in
-        get_or-take n gone k d below ∙ get_or_default gone k d Hole inside ∙ gone_before k below (omega (arith, inside, long, end_is))
-        ∙ get_or_default cells k Hole d (omega (arith, inside, long)) ∙ sym (get_or-take n cells k d below)))
-        ∙ ap (λ k. take n cells ++ replicate (n - k) Hole) long
+    cut_is = grind (arith, common_steps, length-take, gone_long, same_lists, get_or-take, get_or_default, gone_before)
 
   -- a page stands where it stands after the cut
   pub cut_holds : (k : ℕ) → sum_by (in_cell k) (cells_to n cells) ≡ sum_by (in_cell k) bare
@@ -171,15 +156,8 @@ module _ {X : Type 0} (f : X → X) where
   all_part (x ∷ xs) = ap (λ ys. f x ∷ ys) (all_taken xs)
 
 pub all_waiting : (len : ℕ) (cells bare : List (Cell ℕ)) → len ≡ length cells → bare ≡ edit_range cell_punched 0 len cells → count_by is_entered (part 0 len bare) ≡ count_by is_waiting cells
-all_waiting len cells bare len_is bare_is =
-    let same : len - 0 ≡ length cells = omega (arith, len_is) in
-    let mapped = bare_is ∙ ap (λ m. take 0 cells ++ map cell_punched (take m (drop 0 cells)) ++ drop m (drop 0 cells)) same ∙ edited_all cell_punched cells in
-    ap (λ m. count_by is_entered (take m (drop 0 bare))) same ∙ ap (λ cs. count_by is_entered (take (length cells) (drop 0 cs))) mapped
-    ∙ ap (count_by is_entered) (all_part cell_punched cells) ∙ waiting_mapped cells
+all_waiting len cells bare len_is bare_is = grind (arith, common_steps, edited_all, all_part, waiting_mapped)
 
 pub cut_file : (n end : ℕ) (old left : NumberedFile) (cells : List (Cell ℕ)) → end ≡ length old.cells → left ≡ with_punched n (n + end) old →
     cells ≡ cells_to n old.cells → record left { cells = cells } ≡ with_truncated n old
-cut_file n end old left cells end_is left_is cells_is =
-    ap (λ cs. record left { cells = cs }) cells_is
-    ∙ ap (λ (f : NumberedFile). record f { cells = cells_to n old.cells }) left_is
-    ∙ ap (λ k. record old { cells = cells_to n old.cells; maps = map (map_punched n (n + k)) old.maps }) end_is
+cut_file n end old left cells end_is left_is cells_is = grind (arith, common_steps)

@@ -1,3 +1,4 @@
+use Rattle.std.proofs.lemmas.Grind.{common_steps}
 -- Holders that go, one by one.
 use Rattle.std.proofs.Common.{◌≡◌, ◌≢◌, ℕ, zero, suc, ◌+◌, ◌-◌, ◌<◌, ◌≤◌, ◌==◌, ⊎_elim, ◌⊎◌, inl, inr, Bool, true, false}
 use Rattle.std.proofs.Common.{cond, nat_lt, Option, Some, None, List, [], ◌∷◌, ◌++◌, length, drop, refl, sym, ap, subst, ◌∙◌, arith}
@@ -208,10 +209,7 @@ module _ (s : Store) (number : ℕ) (h : Holding) (is : page_at s number ≡ Som
 
 -- an element of a part, and its place
 pub part_at : (xs : List (Cell ℕ)) (a b j : ℕ) → j < length (part a b xs) → (slice_index_or (part a b xs) j Hole ≡ slice_index_or xs (a + j) Hole) × (a + j < length xs) × (a + j < b)
-part_at xs a b j l =
-    let wide = length-take (b - a) (drop a xs) in
-    let deep = length-drop a xs in
-    (get_or-take (b - a) (drop a xs) j Hole (omega (arith, l, wide)) ∙ get_or-drop a xs j Hole, omega (arith, l, wide, deep), omega (arith, l, wide))
+part_at xs a b j l = grind (arith, common_steps, length-take, length-drop, get_or-take, get_or-drop)
 
 by_page : (c : Cell ℕ) (number : ℕ) → page_of c ≡ Some number → c ≡ Present number
 by_page Hole number e = cc
@@ -315,15 +313,7 @@ live_copy (Live c (Some q)) k e = (c, ap (λ o. Live c o) e)
 -- a copy less
 pub less_copy : (m : Mapping ℕ) (i number : ℕ) (places : List (Place ℕ)) → copy_of (place_at m i) ≡ Some number →
     places ≡ (at_place without_copy i m).places → (n : ℕ) → in_map n m ≡ sum_by (in_place n) places + one_at number n
-less_copy m i number places e places_is n =
-    let j : ℕ = i - m.start in
-    let seen = place_inside m i number e in
-    let was = live_copy (slice_index_or m.places j Gone) number seen.1 in
-    let step = sum_by-set (in_place n) m.places j (without_copy (place_at m i)) Gone seen.0 in
-    let none = ap (λ p. in_place n (without_copy p)) (place_here m i seen.2 ∙ was.1) in
-    let before = ap (in_place n) was.1 in
-    let same = ap (sum_by (in_place n)) places_is in
-    omega (arith, step, none, before, same)
+less_copy m i number places e places_is n = grind (arith, common_steps, place_inside, live_copy, sum_by-set, place_here)
 
 pub copy_taken : (a b : ℕ) (number : ℕ) (old new : Mapping ℕ) → TakesLowest a b number old new → IsCopyTaken a b old new number
 copy_taken a b number old new t =

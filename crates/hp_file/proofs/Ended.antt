@@ -1,5 +1,6 @@
+use Rattle.std.proofs.lemmas.Grind.{common_steps}
 -- A map that has no index left, and a file without it.
-use Rattle.std.proofs.Common.{◌≡◌, ℕ, zero, suc, ◌+◌, ◌-◌, ◌<◌, ◌≤◌, Bool, true, false, cond, List, [], ◌∷◌, ◌++◌, length, map, take, drop, refl, sym, ap, ◌∙◌, arith}
+use Rattle.std.proofs.Common.{◌≡◌, ℕ, zero, suc, ◌+◌, ◌<◌, ◌≤◌, Bool, true, false, cond, List, [], ◌∷◌, ◌++◌, length, map, take, drop, refl, sym, ap, ◌∙◌, arith}
 use Rattle.std.specs.Prelude.{slice_set}
 use Rattle.std.specs.List.{count_by, list_any, remove, sum_by}
 use Rattle.std.proofs.lemmas.List.{get_or-set_same, length-set}
@@ -9,7 +10,7 @@ use Rattle.hp_model.specs.declared.place.Place.TheVariants.{Gone, Live}
 use Rattle.hp_model.specs.files.Mapping.{Mapping, is_live, is_mapped, is_unconsumed, without_range}
 use Rattle.hp_lookup.specs.Held.{in_file, in_map, in_place}
 use Rattle.hp_lookup.specs.Leaving.{cut_at, file_owed, left_at, owed}
-use Rattle.hp_lookup.specs.Numbered.{NumberedFile, mapping_at, no_mapping}
+use Rattle.hp_lookup.specs.Numbered.{NumberedFile, mapping_at}
 
 -- ---- all its indices leave
 
@@ -24,10 +25,7 @@ gone_all b [] l = gone_to b [] l
 gone_all b (p ∷ ps) l = gone_to b (p ∷ ps) l
 
 pub all_gone : (a b : ℕ) (m : Mapping ℕ) → a ≤ m.start → m.start + length m.places ≤ b → is_mapped (without_range a b m) ≡ false
-all_gone a b m low high =
-    let none : a - m.start ≡ 0 = omega (arith, low) in
-    ap (λ k. list_any is_live (take k m.places ++ map (λ p. Gone) (take (b - m.start - k) (drop k m.places)) ++ drop (b - m.start - k) (drop k m.places))) none
-    ∙ gone_all (b - m.start - 0) m.places (omega (arith, high))
+all_gone a b m low high = grind (arith, common_steps, gone_all)
 
 -- ---- it holds nothing and owes nothing
 
@@ -61,12 +59,7 @@ module _ (a b j : ℕ) (f : NumberedFile) (jl : j < length f.maps) (gone : is_ma
   left_without = ap (λ t. record f { maps = cond t (slice_set f.maps j z) (remove f.maps j) }) gone
 
   sum_without : (c : Mapping ℕ → ℕ) → c z ≡ 0 → sum_by c (remove f.maps j) ≡ sum_by c (slice_set f.maps j z)
-  sum_without c none =
-      let long = length-set f.maps j z in
-      let step = sum_by-remove c (slice_set f.maps j z) j no_mapping (omega (arith, jl, long)) in
-      let here = ap c (get_or-set_same f.maps j z no_mapping jl) in
-      let same = ap (sum_by c) (removed_set f.maps j z) in
-      omega (arith, step, here, same, none)
+  sum_without c none = grind (arith, common_steps, length-set, sum_by-remove, get_or-set_same, removed_set)
 
   -- the indices go first, and then the map
   module _ (y left : NumberedFile) (y_is : y ≡ cut_at j a b f) (left_is : left ≡ record y { maps = remove y.maps j }) where

@@ -1,3 +1,4 @@
+use Rattle.std.proofs.lemmas.Grind.{common_steps}
 -- An index is entered, or left, and room is made.
 use Rattle.std.proofs.Common.{◌≡◌, ℕ, zero, suc, ◌+◌, ◌-◌, ◌<◌, max, Option, None, List, [], ◌∷◌, ◌++◌, length, map, replicate, take, drop, refl, sym, ap, subst, ◌∙◌, arith}
 use Rattle.std.specs.Prelude.{slice_set, slice_index_or}
@@ -8,9 +9,9 @@ use Rattle.hp_model.specs.declared.cell.Cell.{Cell}
 use Rattle.hp_model.specs.declared.cell.Cell.TheVariants.{Hole, Entered, Present}
 use Rattle.hp_model.specs.files.File.{with_cell, cell_at, cell_in, entered}
 use Rattle.hp_model.specs.Lists.{edit_range}
-use Rattle.hp_store.specs.Store.{Store, Holding, page_at, holders_of}
+use Rattle.hp_store.specs.Store.{Store, Holding, page_at}
 use Rattle.hp_lookup.specs.Files.{file_at, with_cell_at}
-use Rattle.hp_lookup.specs.Numbered.{NumberedFile, numbered_at, cell_shown, file_shown, files_shown}
+use Rattle.hp_lookup.specs.Numbered.{NumberedFile, numbered_at, cell_shown, files_shown}
 use Rattle.hp_lookup.specs.Held.{IsHeld, in_cell, in_file, more_in, more_of}
 use Rattle.hp_lookup.proofs.Alike.{alike_held}
 use Rattle.hp_lookup.proofs.Lifting.{files_same}
@@ -28,9 +29,7 @@ one_part f d (x ∷ xs) zero l = refl
 one_part f d (x ∷ xs) (suc i) l = ap (λ ys. x ∷ ys) (one_part f d xs i (omega (arith, l)))
 
 pub one_edited : {X : Type 0} (f : X → X) (d : X) (xs : List X) (i : ℕ) → i < length xs → edit_range f i (i + 1) xs ≡ slice_set xs i (f (slice_index_or xs i d))
-one_edited f d xs i l =
-    let one : i + 1 - i ≡ 1 = omega arith in
-    ap (λ n. take i xs ++ map f (take n (drop i xs)) ++ drop n (drop i xs)) one ∙ one_part f d xs i l
+one_edited f d xs i l = grind (arith, common_steps, one_part)
 
 pub file_entered : (x : NumberedFile) (i e : ℕ) (cells : List (Cell ℕ)) → e ≡ i + 1 → i < length x.cells → cell_in x.cells i ≡ Hole →
     cells ≡ edit_range entered i e x.cells → record x { cells = cells } ≡ record x { cells = slice_set x.cells i Entered }
@@ -63,10 +62,7 @@ module _ (s : Store) (more : ℕ) (fs : List NumberedFile) (h : IsHeld s more fs
   cell_held = alike_held s more fs h k l g cells_as file_as
 
   pub cell_shows : files_shown s (slice_set fs k g) ≡ slice_set (files_shown s fs) k (with_cell (file_at (files_shown s fs) k) i (cell_shown s c))
-  cell_shows =
-      map-set (file_shown s) fs k g
-      ∙ ap (λ cs. slice_set (files_shown s fs) k (record (file_shown s f) { cells = cs })) (map-set (cell_shown s) f.cells i c)
-      ∙ ap (λ x. slice_set (files_shown s fs) k (with_cell x i (cell_shown s c))) (sym (file_is s fs k l))
+  cell_shows = grind (arith, common_steps, map-set, file_is)
 
 -- ---- as code does it: x is what it read, and y what it leaves
 
@@ -131,27 +127,10 @@ module _ (s t : Store) (more count all : ℕ) (fs : List NumberedFile) (h : IsHe
   room_is = ap (λ (u : Store). u.room) t_is ∙ ap (max s.room) all_is
 
   more_same : more_in t.pages ≡ more_in s.pages
-  more_same =
-      let n : ℕ = length t.pages - length s.pages in
-      let step = sum_by-append more_of s.pages (replicate n None) in
-      let rest = none_more n in
-      ap more_in pages ∙ omega (arith, step, rest)
+  more_same = grind (arith, common_steps, sum_by-append, none_more)
 
   pub room_view : view t more fs ≡ record (view s more fs) { room = max (s.room - more) count }
-  room_view =
-      let parts = h.parts in
-      let room = room_is in
-      let left : t.room - more ≡ max (s.room - more) count = omega (arith, room, parts) in
-      ap (λ xs. record { files = xs; going = t.going; room = t.room - more }) shown_same
-      ∙ ap (λ g. record { files = files_shown s fs; going = g; room = t.room - more }) (ap (λ (u : Store). u.going) t_is)
-      ∙ ap (λ r. record { files = files_shown s fs; going = s.going; room = r }) left
+  room_view = grind (arith, common_steps, room_is, shown_same)
 
   pub room_keeps : IsHeld t more fs
-  room_keeps = record {
-    held = λ n. ap holders_of (same n) ∙ h.held n;
-    some = λ n none. same n ∙ h.some n (sym (ap holders_of (same n)) ∙ none);
-    alone = h.alone;
-    apart = h.apart;
-    counted = h.counted ∙ sym more_same;
-    parts = (let parts = h.parts in let room = room_is in omega (arith, room, parts));
-  }
+  room_keeps = grind (arith, common_steps, more_same, room_is)

@@ -1,3 +1,4 @@
+use Rattle.std.proofs.lemmas.Grind.{common_steps}
 -- The maps of a task that leave a file, as code takes them.
 use Rattle.std.proofs.Common.{◌≡◌, ℕ, ◌+◌, ◌-◌, ◌||◌, Bool, true, false, not, cond, nat_lt, List, [], ◌∷◌, length, take, drop, ◌++◌, map, replicate, refl, sym, ap, ◌∙◌, arith}
 use Rattle.std.specs.Prelude.{is_some, Option}
@@ -104,10 +105,7 @@ module _ (task : ℕ) (old : NumberedFile) (name : Option (List ℕ)) (cells : L
   ended_is = ended_from ∙ ap (map (ended_for task)) (raw_is ∙ ap (λ (f : NumberedFile). f.maps) view)
 
   x_is : x ≡ record old { maps = filter (λ (m : Mapping ℕ). not (is_of task m)) ended }
-  x_is =
-      let long = ap length ended_from ∙ length-map raw (ended_for task) ∙ ap length raw_is ∙ few in
-      ap (λ xs. record { name = name; cells = cells; maps = xs }) (kept_is ∙ ap (filter (λ (m : Mapping ℕ). not (is_of task m))) (written_back len ended ms long))
-      ∙ ap (λ (f : NumberedFile). record f { maps = filter (λ (m : Mapping ℕ). not (is_of task m)) ended }) view
+  x_is = grind (arith, common_steps, length-map, written_back)
 
   left_is : x ≡ left_by task old
   left_is = x_is ∙ ap (λ ms. record old { maps = filter (λ (m : Mapping ℕ). not (is_of task m)) ms }) ended_is ∙ ap (λ ms. record old { maps = ms }) (others_left task old.maps)

@@ -1,5 +1,6 @@
+use Rattle.std.proofs.lemmas.Grind.{common_steps}
 -- Indices of a file get entries, and those without a page pages of zeros.
-use Rattle.std.proofs.Common.{◌≡◌, ℕ, zero, suc, ◌+◌, ◌-◌, ◌<◌, ◌≤◌, true, cond, Option, None, List, [], ◌∷◌, ◌++◌, append_assoc, length, map, take, drop, replicate, refl, sym, ap, ◌∙◌, arith}
+use Rattle.std.proofs.Common.{◌≡◌, ℕ, zero, suc, ◌+◌, ◌-◌, ◌<◌, ◌≤◌, true, cond, Option, None, List, [], ◌∷◌, ◌++◌, length, map, take, drop, replicate, refl, sym, ap, ◌∙◌, arith}
 use Rattle.std.proofs.Common.{false, not}
 use Rattle.std.specs.Prelude.{is_some, slice_index_or, slice_set}
 use Rattle.std.specs.List.{count_by, sum_by}
@@ -10,7 +11,7 @@ use Rattle.std.proofs.Math.Seq.{drop-append_seam, take-append_seam}
 use Rattle.hp_model.specs.declared.cell.Cell.{Cell}
 use Rattle.hp_model.specs.declared.cell.Cell.TheVariants.{Hole, Entered, Present}
 use Rattle.hp_model.specs.files.File.{File, at_least, cell_at, cell_in, entered, has_page, is_entered, new_file, page_of}
-use Rattle.hp_model.specs.files.Fill.{cells_filled, lacking, lacks_page, range_filled, rising_nodes, zero_page}
+use Rattle.hp_model.specs.files.Fill.{lacking, lacks_page, range_filled, rising_nodes, zero_page}
 use Rattle.hp_model.specs.files.Page.{Page}
 use Rattle.hp_model.specs.Lists.{edit_range, part}
 use Rattle.hp_model.proofs.Counting.{count_alike, count_cons, count_map}
@@ -54,15 +55,7 @@ module _ {P : Type 0} where
 
   -- the part of a list that was edited
   part_edited : (h : Cell P → Cell P) (a b : ℕ) (xs : List (Cell P)) → b ≤ length xs → a ≤ b → part a b (edit_range h a b xs) ≡ map h (part a b xs)
-  part_edited h a b xs long order =
-      let front : List (Cell P) = take a xs in
-      let mid : List (Cell P) = map h (part a b xs) in
-      let rest : List (Cell P) = drop (b - a) (drop a xs) in
-      let wide : length front ≡ a = length-take a xs ∙ omega (arith, long, order) in
-      let deep : length mid ≡ b - a = length-map (part a b xs) h ∙ length-take (b - a) (drop a xs) ∙ omega (arith, length-drop a xs, long, order) in
-      ap (λ ys. take (b - a) (drop a ys)) (append_assoc front mid rest)
-      ∙ ap (λ n. take (b - a) (drop n (front ++ (mid ++ rest)))) (sym wide) ∙ ap (take (b - a)) (drop-append_seam front (mid ++ rest))
-      ∙ ap (λ n. take n (mid ++ rest)) (sym deep) ∙ take-append_seam mid rest
+  part_edited h a b xs long order = grind (arith, common_steps, length-take, length-map, length-drop, drop-append_seam, take-append_seam)
 
   lacks_by : (c : Cell P) (o : Option P) → o ≡ page_of c → cond (is_some o) 0 1 ≡ cond {A = ℕ} (lacks_page c) 1 0
   lacks_by Hole o e = ap (λ o. cond {A = ℕ} (is_some o) 0 1) e
@@ -98,10 +91,7 @@ lacks_shown s Entered = refl
 lacks_shown s (Present n) = refl
 
 longer_shown : (s : Store) (b : ℕ) (cells : List (Cell ℕ)) → map (cell_shown s) (at_least b cells) ≡ at_least b (map (cell_shown s) cells)
-longer_shown s b cells =
-    map-append (cell_shown s) cells (replicate (b - length cells) Hole)
-    ∙ ap (λ cs. map (cell_shown s) cells ++ cs) (map_replicate (cell_shown s) (b - length cells) Hole)
-    ∙ ap (λ m. map (cell_shown s) cells ++ replicate (b - m) Hole) (sym (length-map cells (cell_shown s)))
+longer_shown s b cells = grind (arith, common_steps, map-append, map_replicate, length-map)
 
 pub lacking_shown : (s : Store) (fs : List NumberedFile) (k a b : ℕ) → k < length fs
     → count_by lacks_page (part a b (at_least b (numbered_at fs k).cells)) ≡ lacking a b (file_at (files_shown s fs) k)
@@ -141,9 +131,7 @@ module _ (s : Store) (more : ℕ) (fs : List NumberedFile) (h : IsHeld s more fs
       ∙ ap (edit_range entered a b) (longer_shown s b x.cells))
 
   pub range_view : view s more (slice_set fs k g) ≡ entered_at k a b (s.room - more) (view s more fs)
-  range_view =
-      ap (λ xs. record (view s more fs) { files = xs }) (map-set (file_shown s) fs k g
-      ∙ ap (slice_set (files_shown s fs) k) (range_shown ∙ ap (with_entries a b) (ap (file_shown s) at ∙ sym (file_is s fs k l))))
+  range_view = grind (arith, common_steps, view, map-set, range_shown, at, file_is)
 
 -- ---- the pages that were taken are put
 
@@ -175,9 +163,7 @@ module _ (size k a b : ℕ) (v : Files) (l : k < length v.files) (order : a ≤ 
         is (Present p) = refl
 
     pub lacking_there : (count : ℕ) → count ≡ lacking a b f → count ≡ count_by lacks_page (part a b (file_at (entered_at k a b room v).files k).cells)
-    lacking_there count is =
-        is ∙ sym (ap (λ (g : File). count_by lacks_page (part a b g.cells)) there ∙ ap (count_by lacks_page) (part_edited entered a b xs long order)
-        ∙ count_map lacks_page entered (part a b xs) ∙ count_alike (λ c. lacks_page (entered c)) lacks_page lacks_entered (part a b xs))
+    lacking_there count is = grind (arith, common_steps, there, part_edited, long, count_map, count_alike, lacks_entered)
 
     module _ (count : ℕ) (pages : List Page) (rising : AreRising count pages) (count_is : count ≡ lacking a b f) where
       zeros_are : zeros_of size pages ≡ map (zero_page size) (rising_nodes count (by_node pages))
@@ -187,12 +173,7 @@ module _ (size k a b : ℕ) (v : Files) (l : k < length v.files) (order : a ≤ 
       wide = length-map pages (λ (p : Page). zero_page size p.node) ∙ rising_length count pages rising ∙ count_is
 
       file_filled : with_zeros size a pages (file_at (entered_at k a b room v).files k) ≡ range_filled size a b (rising_nodes count (by_node pages)) f
-      file_filled =
-          ap (with_zeros size a pages) there
-          ∙ ap (λ cs. record f { cells = cs }) (filled_entered a b (zeros_of size pages) xs (omega (arith, order, long)) wide ∙ ap (λ ps. cells_filled a ps xs) zeros_are)
+      file_filled = grind (arith, common_steps, there, filled_entered, zeros_of, long, wide, zeros_are)
 
       pub all_filled : zeros_at size k a pages (entered_at k a b room v) ≡ pages_put size k a b (rising_nodes count (by_node pages)) (room - count) v
-      all_filled =
-          ap (λ g. record v { files = slice_set (slice_set v.files k (with_entries a b f)) k g; room = room - length pages }) file_filled
-          ∙ ap (λ fs. record v { files = fs; room = room - length pages }) (set-set v.files k (with_entries a b f) (range_filled size a b (rising_nodes count (by_node pages)) f))
-          ∙ ap (λ n. pages_put size k a b (rising_nodes count (by_node pages)) (room - n) v) (rising_length count pages rising)
+      all_filled = grind (arith, common_steps, file_filled, set-set, rising_length)

@@ -1,5 +1,6 @@
+use Rattle.std.proofs.lemmas.Grind.{common_steps}
 -- The first copy of a place: an owner's reservation is consumed.
-use Rattle.std.proofs.Common.{◌≡◌, ℕ, zero, suc, ◌-◌, ◌<◌, ◌≤◌, Bool, true, false, cond, nat_lt, List, [], ◌∷◌, length, refl, ap, ◌∙◌, arith}
+use Rattle.std.proofs.Common.{◌≡◌, ℕ, zero, suc, ◌-◌, ◌<◌, ◌≤◌, Bool, true, false, cond, nat_lt, List, [], ◌∷◌, length, refl, ap, arith}
 use Rattle.std.specs.Prelude.{slice_index_or, slice_set}
 use Rattle.std.proofs.lemmas.Bool.{ltb-false}
 use Rattle.std.proofs.lemmas.List.{get_or-set_same, set-set}
@@ -40,10 +41,7 @@ unowned number (Live was copy) = refl
 
 module _ (m : Mapping ℕ) (i number : ℕ) where
   pub first_consumed : is_live (place_at m i) ≡ true → at_place consumed i (at_place (with_copy number) i m) ≡ at_place (first_copy true number) i m
-  first_consumed live =
-      let q : Place ℕ = with_copy number (place_at m i) in
-      ap (λ p. with_place (with_place m i q) i (consumed p)) (place_put m i q live)
-      ∙ ap (λ ps. record m { places = ps }) (set-set m.places (i - m.start) q (consumed q)) ∙ ap (with_place m i) (owned number (place_at m i))
+  first_consumed live = grind (arith, common_steps, place_put, set-set, owned)
 
   pub first_put : at_place (with_copy number) i m ≡ at_place (first_copy false number) i m
   first_put = ap (with_place m i) (unowned number (place_at m i))

@@ -1,5 +1,6 @@
+use Rattle.std.proofs.lemmas.Grind.{common_steps}
 -- The least task that has a map.
-use Rattle.std.proofs.Common.{◌≡◌, ℕ, suc, ◌+◌, ◌<◌, ◌≤◌, ◌==◌, ◌||◌, min, ⊎_elim, ◌⊎◌, inl, inr, true, Option, None, Some, List, [], ◌∷◌, ◌++◌, length, map, take, refl, sym, ap, subst, ◌∙◌, arith}
+use Rattle.std.proofs.Common.{◌≡◌, ℕ, suc, ◌+◌, ◌<◌, ◌≤◌, ◌==◌, ◌||◌, min, ⊎_elim, ◌⊎◌, inl, inr, true, Option, None, Some, List, [], ◌∷◌, length, map, take, refl, sym, ap, subst, ◌∙◌, arith}
 use Rattle.std.specs.List.{All, flat_map, list_any}
 use Rattle.std.specs.Prelude.{IfNone, IfSome, slice_index_or}
 use Rattle.std.proofs.lemmas.Bool.{cases_lt, eq-eqb, or_left, or_right}
@@ -82,9 +83,7 @@ first_none fs r r_is = by (all_maps fs) refl r_is
 
 pub next_map : (known : Option ℕ) (ms : List (Mapping ℕ)) (i : ℕ) (m : Mapping ℕ) → i < length ms → m ≡ slice_index_or ms i m →
     Some (lesser_task (least_among known (map (λ m. m.task) (take i ms))) m.task) ≡ least_among known (map (λ m. m.task) (take (i + 1) ms))
-next_map known ms i m l m_is =
-    sym (fold_push (λ k task. Some (lesser_task k task)) known (map (λ m. m.task) (take i ms)) m.task)
-    ∙ ap (least_among known) (sym (map-append (λ (m : Mapping ℕ). m.task) (take i ms) (m ∷ [])) ∙ ap (map (λ m. m.task)) (ap (λ x. take i ms ++ x ∷ []) m_is ∙ sym (take_more ms i m l)))
+next_map known ms i m l m_is = grind (arith, common_steps, fold_push, map-append, take_more)
 
 abbrev pub tasks_of : List NumberedFile → List ℕ
 tasks_of fs = flat_map tasks_in (labels_of fs)

@@ -1,3 +1,4 @@
+use Rattle.std.proofs.lemmas.Grind.{common_steps}
 -- Lists of maps that come behind those of files.
 use Rattle.std.proofs.Common.{◌≡◌, ⊎_elim, ℕ, zero, suc, ◌+◌, ◌<◌, ◌≤◌, ◌++◌, cond, List, [], ◌∷◌, drop, length, take, refl, sym, ap, subst, ◌∙◌, arith}
 use Rattle.std.specs.Global.{Vec}
@@ -48,12 +49,7 @@ module _ (parent child : ℕ) where
   pub fewer_behind : (fs : List NumberedFile) (vs : List (Vec (Mapping ℕ))) (f : NumberedFile) (v : Vec (Mapping ℕ)) → length vs < length fs →
       f ≡ slice_index_or fs (length vs) f → IsReady parent child f v → length v.items + sum_by (maps_by parent) (drop (length vs + 1) fs)
       ≡ sum_by (maps_by parent) (drop (length vs) fs)
-  fewer_behind fs vs f v within read one =
-      let step = sum_by-drop_more (maps_by parent) fs (length vs) f within in
-      let own = ap (maps_by parent) read in
-      let long = ap length one.children in
-      let count = children_long f in
-      omega (arith, step, own, long, count)
+  fewer_behind fs vs f v within read one = grind (arith, common_steps, sum_by-drop_more, children_long)
 
   -- ---- lists that are empty still
 
@@ -81,9 +77,7 @@ module _ (parent child : ℕ) where
   filled_set (x ∷ fs) (w ∷ vs) (suc at) f v within read all one = (all.0, filled_set fs vs at f v (omega (arith, within)) read all.1 one)
 
   own_few : (f : NumberedFile) (v : Vec (Mapping ℕ)) → (0 < length v.items → IsReady parent child f v) → length v.items ≤ maps_by parent f
-  own_few f v ready =
-      ⊎_elim (λ (some : 0 < length v.items). (let own = ap length (ready some).children in let long = children_long f in omega (arith, own, long)))
-      (λ none. omega (arith, none)) (cases_lt 0 (length v.items))
+  own_few f v ready = grind (arith, common_steps, children_long, cases_lt)
 
   pub filled_few : (fs : List NumberedFile) (vs : List (Vec (Mapping ℕ))) → AreFilled parent child fs vs → sum_by list_length vs ≤ sum_by (maps_by parent) fs
   filled_few [] [] all = omega arith
@@ -161,10 +155,7 @@ joined_more task (f ∷ fs) (v ∷ vs) =
 module _ (task : ℕ) (fs : List NumberedFile) (vs : List (Vec (Mapping ℕ))) (v : Vec (Mapping ℕ)) (room : HaveRoom fs (vs ++ v ∷ []))
     (none : sum_by (maps_by task) (take (length (vs ++ v ∷ [])) fs) ≡ 0) where
   both_none : sum_by (maps_by task) (take (length vs) fs) + maps_by task (numbered_at fs (length vs)) ≡ 0
-  both_none =
-      let all = ap (λ n. sum_by (maps_by task) (take n fs)) (length-append vs (v ∷ [])) in
-      let step = sum_by_more (maps_by task) fs (length vs) no_file (last_within fs vs v room) in
-      omega (arith, all, step, none)
+  both_none = grind (arith, common_steps, length-append, sum_by_more, no_file, last_within)
 
   pub last_none : maps_by task (numbered_at fs (length vs)) ≡ 0
   last_none = omega (arith, both_none)

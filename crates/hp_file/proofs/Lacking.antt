@@ -1,5 +1,6 @@
+use Rattle.std.proofs.lemmas.Grind.{common_steps}
 -- How many indices of a range have no page, by those that have one.
-use Rattle.std.proofs.Common.{◌≡◌, ℕ, zero, suc, ◌+◌, ◌-◌, ◌<◌, ◌≤◌, min, cond, List, [], ◌∷◌, ◌++◌, length, take, drop, replicate, refl, sym, ap, ◌∙◌, arith, ⊎_elim}
+use Rattle.std.proofs.Common.{◌≡◌, ℕ, zero, suc, ◌+◌, ◌-◌, ◌≤◌, min, List, [], ◌∷◌, ◌++◌, length, take, drop, replicate, refl, ap, ◌∙◌, arith}
 use Rattle.std.specs.List.{count_by}
 use Rattle.std.proofs.lemmas.Bool.{cases_lt}
 use Rattle.std.proofs.lemmas.List.{drop-take, length-append, length-drop, length-replicate, length-take, take_all}
@@ -25,12 +26,7 @@ take_twice (x ∷ xs) (suc a) zero le = absurd (omega (arith, le))
 take_twice (x ∷ xs) (suc a) (suc n) le = ap (λ ys. x ∷ ys) (take_twice xs a n (omega (arith, le)))
 
 paged_part : (xs : List (Cell ℕ)) (a n : ℕ) → a ≤ n → paged_to a xs + count_by has_page (part a n xs) ≡ paged_to n xs
-paged_part xs a n le =
-    let back : a + (n - a) ≡ n = omega (arith, le) in
-    let halves = sum_by-take-drop (λ c. cond {A = ℕ} (has_page c) 1 0) (take n xs) a in
-    let low = ap (count_by has_page) (take_twice xs a n le) in
-    let high = ap (count_by has_page) (ap (λ m. drop a (take m xs)) (sym back) ∙ drop-take a (n - a) xs) in
-    omega (arith, halves, low, high)
+paged_part xs a n le = grind (arith, common_steps, sum_by-take-drop, take_twice, drop-take)
 
 abbrev hole : Cell ℕ
 hole = Hole
@@ -50,12 +46,7 @@ paged_longer (c ∷ cells) r (suc n) = omega (arith, paged_longer cells r n, cou
 
 -- a part up to the end is the whole part
 same_part : (cells : List (Cell ℕ)) (a b : ℕ) → part a (min (length cells) b) cells ≡ part a b cells
-same_part cells a b = ⊎_elim
-    (λ (short : length cells < b).
-    let few : length (drop a cells) ≤ min (length cells) b - a = omega (arith, length-drop a cells, short) in
-    take_all (min (length cells) b - a) (drop a cells) few ∙ sym (take_all (b - a) (drop a cells) (omega (arith, few))))
-    (λ (enough : b ≤ length cells). ap (λ n. part a n cells) {x = min (length cells) b} {y = b} (omega (arith, enough)))
-    (cases_lt (length cells) b)
+same_part cells a b = grind (arith, common_steps, length-drop, take_all, cases_lt)
 
 pub lacking_all : (cells : List (Cell ℕ)) (a b : ℕ) → a ≤ b →
     count_by has_page (part a (min (length cells) b) cells) + count_by lacks_page (part a b (at_least b cells)) ≡ b - a

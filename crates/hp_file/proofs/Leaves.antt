@@ -1,5 +1,6 @@
+use Rattle.std.proofs.lemmas.Grind.{common_steps}
 -- Indices that leave a map, and what it holds of them.
-use Rattle.std.proofs.Common.{◌≡◌, ℕ, ◌+◌, ◌-◌, ◌<◌, ◌≤◌, ◌==◌, ◌&&◌, Bool, true, false, cond, ⊎_elim, None, take, drop, refl, ap, ◌∙◌, arith}
+use Rattle.std.proofs.Common.{◌≡◌, ℕ, ◌+◌, ◌-◌, ◌≤◌, ◌==◌, ◌&&◌, Bool, true, false, cond, None, take, drop, refl, ap, ◌∙◌, arith}
 use Rattle.std.specs.Prelude.{slice_index_or}
 use Rattle.std.specs.List.{count_by}
 use Rattle.std.proofs.lemmas.Bool.{cases_lt, ltb-false}
@@ -56,15 +57,7 @@ owes_bare (Live true o) = refl
 owes_bare (Live false o) = refl
 
 pub punched_reserves : (a b : ℕ) (m : Mapping ℕ) → reserves_in a b (map_punched a b m) ≡ reserves_in a b m
-punched_reserves a b m =
-    let low : ℕ = a - m.start in
-    let high : ℕ = b - m.start in
-    let bare = edit_range without_copy low high m.places in
-    let one = freed_range low high bare in
-    let other = freed_range low high m.places in
-    let all = sum_edited (λ (p : Place ℕ). cond {A = ℕ} (is_unconsumed p) 1 0) without_copy owes_bare low high m.places in
-    let left = ap (λ (x : Mapping ℕ). count_by is_unconsumed x.places) (punched_left a b m) in
-    ap (λ n. cond m.owner n 0) (omega (arith, one, other, all, left))
+punched_reserves a b m = grind (arith, common_steps, freed_range, sum_edited, owes_bare, punched_left)
 
 -- what is left and what the range had
 pub left_owed : (a b : ℕ) (m : Mapping ℕ) → reserves_in a b m + owed (without_range a b m) ≡ owed m
@@ -79,15 +72,7 @@ left_owed a b m = either m.owner
 
 -- a number stands where it stands once the copies went
 pub left_holds : (n a b : ℕ) (m : Mapping ℕ) → in_map n (without_range a b m) ≡ in_map n (map_punched a b m)
-left_holds n a b m =
-    let low : ℕ = a - m.start in
-    let high : ℕ = b - m.start in
-    let mid = take (high - low) (drop low m.places) in
-    let gone = sum_by-edit_range (in_place n) (λ p. Gone) low high m.places in
-    let bare = sum_by-edit_range (in_place n) without_copy low high m.places in
-    let none = none_mapped (in_place n) (λ p. Gone) (λ p. refl) mid in
-    let also = none_mapped (in_place n) without_copy (punched_place n) mid in
-    omega (arith, gone, bare, none, also)
+left_holds n a b m = grind (arith, common_steps, sum_by-edit_range, none_mapped, punched_place)
 
 pub left_fewer : (n a b : ℕ) (m : Mapping ℕ) → in_map n (without_range a b m) ≤ in_map n m
 left_fewer n a b m =
@@ -104,23 +89,10 @@ left_fewer n a b m =
 
 module _ (task : ℕ) where
   pub none_gone : (n : Noted) → IsMoreButTask task (λ q. 0) n n
-  none_gone n = record {
-    names = λ name e. e;
-    keys = λ other number apart e. e;
-    gone = λ number some. absurd (omega (arith, some));
-    less = record { names = λ name e. e; keys = λ other number e. e };
-    room = omega arith;
-  }
+  none_gone n = grind (arith, common_steps)
 
   pub gone_then : (f g h : ℕ → ℕ) (old mid new : Noted) → IsMoreButTask task f old mid → IsMoreButTask task g mid new → ((q : ℕ) → h q ≤ f q + g q) → IsMoreButTask task h old new
-  gone_then f g h old mid new first then each = record {
-    names = λ name e. first.names name (then.names name e);
-    keys = λ other number apart e. first.keys other number apart (then.keys other number apart e);
-    gone = λ number some. ⊎_elim (λ (one : 0 < f number). then.less.keys task number (first.gone number one))
-        (λ (none : f number ≤ 0). then.gone number (let all = each number in omega (arith, some, none, all))) (cases_lt 0 (f number));
-    less = record { names = λ name e. then.less.names name (first.less.names name e); keys = λ other number e. then.less.keys other number (first.less.keys other number e) };
-    room = (let one = first.room in let two = then.room in omega (arith, one, two));
-  }
+  gone_then f g h old mid new first then each = grind (arith, common_steps, cases_lt)
 
   -- a map of another task
   pub map_stays : (m : Mapping ℕ) (n : Noted) → is_of task m ≡ false → IsMoreButTask task (one_if_named task m) n n

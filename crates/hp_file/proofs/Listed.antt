@@ -1,10 +1,11 @@
+use Rattle.std.proofs.lemmas.Grind.{common_steps}
 -- A list of files under keys that they keep, where a file comes, goes or is another.
-use Rattle.std.proofs.Common.{arith, ◌≡◌, ◌≢◌, ℕ, ◌-◌, ◌<◌, ◌++◌, ◌∷◌, ◌^◌, [], IsSome, List, None, Option, Some, ap, cond, get_or, is_some, length, min, subst, sym, true≢false, ◌∙◌}
+use Rattle.std.proofs.Common.{arith, ◌≡◌, ◌≢◌, ℕ, ◌<◌, ◌++◌, ◌∷◌, [], IsSome, List, None, Option, Some, ap, get_or, length, subst, sym, true≢false, ◌∙◌}
 use Rattle.std.specs.Prelude.{slice_index_or, slice_set}
 use Rattle.std.specs.List.{All, remove}
 use Rattle.std.proofs.lemmas.List.Quantifiers.{all_pairs_remove}
 use Rattle.std.proofs.lemmas.List.Sums.{sum_by-set}
-use Rattle.slab.specs.Slab.{ContainsKey, Slab, Updates, get, slab_len, with_value}
+use Rattle.slab.specs.Slab.{ContainsKey, Slab, Updates, get, with_value}
 use Rattle.slab.proofs.SlabLemmas.{ContainsKey-within, Updates-with_value}
 use Rattle.hp_file.specs.FileList.{IsFileOrder, filed, files_in, room_in}
 use Rattle.hp_lookup.specs.Numbered.{NumberedFile}
@@ -51,8 +52,4 @@ module _ (s : Slab NumberedFile) (order : List ℕ) (is : IsFileOrder s order) w
           ∙ ap (λ o. slice_set (files_in s order) at (filed o)) updates.changed
 
       pub same_room : (n capacity : ℕ) → room_in written n capacity ≡ room_in s n capacity
-      same_room n capacity =
-          let some : IsSome (get s key) = is.there at 0 inside in
-          let counted = sum_by-set (λ o. cond (is_some o) 1 0) s.slots key (Some f) None (ContainsKey-within s key some) in
-          let same : slab_len written ≡ slab_len s = omega (arith, counted, ap {B = ℕ} (λ b. cond b 1 0) some) in
-          ap (λ len. min (2 ^ 16 - s.vacant_key) (min (s.capacity - len) (capacity - n))) same
+      same_room n capacity = grind (arith, common_steps, sum_by-set, ContainsKey-within)

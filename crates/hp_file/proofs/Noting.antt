@@ -1,5 +1,6 @@
+use Rattle.std.proofs.lemmas.Grind.{common_steps}
 -- A task's maps are noted, one after another.
-use Rattle.std.proofs.Common.{◌≡◌, ◌≢◌, ℕ, ◌+◌, ◌<◌, ◌≤◌, ◌==◌, ◌&&◌, Bool, true, false, cond, List, length, refl, sym, ap, subst, ◌∙◌, arith}
+use Rattle.std.proofs.Common.{◌≡◌, ◌≢◌, ℕ, ◌+◌, ◌<◌, ◌≤◌, ◌==◌, ◌&&◌, Bool, true, false, cond, List, length, refl, sym, ap, ◌∙◌, arith}
 use Rattle.std.specs.Prelude.{slice_set}
 use Rattle.std.specs.List.{sum_by}
 use Rattle.std.proofs.lemmas.Bool.{eqb-true}
@@ -13,24 +14,10 @@ use Rattle.hp_lookup.proofs.Cells.{no_file}
 
 module _ (task : ℕ) where
   pub noted_none : (n : Noted) → IsNoted task n n 0 (λ q. 0)
-  noted_none n = record {
-    more = record { names = λ name e. e; keys = λ t q e. e };
-    room = omega arith;
-    noted = λ q e. omega arith;
-    names = λ name e. e;
-    others = λ t q apart e. e;
-    only = λ q none e. e;
-  }
+  noted_none n = grind (arith, common_steps)
 
   pub noted_then : (x y z : ℕ) (f g h : ℕ → ℕ) (old mid new : Noted) → IsNoted task old mid x f → IsNoted task mid new y g → x + y ≡ z → ((q : ℕ) → f q + g q ≡ h q) → IsNoted task old new z h
-  noted_then x y z f g h old mid new first then all each = record {
-    more = record { names = λ name e. first.more.names name (then.more.names name e); keys = λ t q e. first.more.keys t q (then.more.keys t q e) };
-    room = (let one = first.room in let two = then.room in omega (arith, one, two, all));
-    noted = λ q e. (let one = first.noted q (then.more.keys task q e) in let two = then.noted q e in let sum = each q in omega (arith, one, two, sum));
-    names = λ name e. then.names name (first.names name e);
-    others = λ t q apart e. then.others t q apart (first.others t q apart e);
-    only = λ q none e. (let sum = each q in then.only q (omega (arith, sum, none)) (first.only q (omega (arith, sum, none)) e));
-  }
+  noted_then x y z f g h old mid new first then all each = grind (arith, common_steps)
 
   -- ---- a file or files without maps of the task
 
@@ -53,9 +40,7 @@ module _ (task : ℕ) where
   named_all q fs = sum_by-le-sum_by (maps_named task q) (maps_by task) fs (named_few q)
 
   pub noted_bare_all : (fs : List NumberedFile) (n : Noted) → sum_by (maps_by task) fs ≡ 0 → HaveNoted task fs n n
-  noted_bare_all fs n none =
-      noted_then 0 0 (sum_by (maps_by task) fs) (λ q. 0) (λ q. 0) (λ q. sum_by (maps_named task q) fs) n n n (noted_none n) (noted_none n) (omega (arith, none))
-      (λ q. (let few = named_all q fs in omega (arith, few, none)))
+  noted_bare_all fs n none = grind (arith, common_steps, noted_then, noted_none, named_all)
 
   -- a file that had none and has some now, among files that were noted
   pub noted_at : (fs : List NumberedFile) (k : ℕ) (y : NumberedFile) (old mid new : Noted) → k < length fs → maps_by task (numbered_at fs k) ≡ 0 →
@@ -70,10 +55,7 @@ module _ (task : ℕ) where
 
   module _ (m : Mapping ℕ) (old new : Noted) where
     pub noted_other : is_of task m ≡ false → new ≡ old → IsNoted task old new (cond (is_of task m) 1 0) (λ q. cond (is_map task q m) 1 0)
-    noted_other other same =
-        noted_then 0 0 (cond (is_of task m) 1 0) (λ q. 0) (λ q. 0) (λ q. cond (is_map task q m) 1 0) old old new (noted_none old)
-        (subst (λ n. IsNoted task old n 0 (λ q. 0)) (sym same) (noted_none old))
-        (ap (λ b. cond {A = ℕ} b 1 0) (sym other)) (λ q. ap (λ b. cond {A = ℕ} (b && (m.number == q)) 1 0) (sym other))
+    noted_other other same = grind (arith, common_steps, noted_then, noted_none)
 
     pub noted_one : is_of task m ≡ true → IsMoreByMap task m.number old new → old.room ≤ new.room + 1 →
         has_key task m.number new ≡ true → IsNoted task old new (cond (is_of task m) 1 0) (λ q. cond (is_map task q m) 1 0)

@@ -1,5 +1,6 @@
+use Rattle.std.proofs.lemmas.Grind.{common_steps}
 -- Values at the keys of an order, where one of them changes, comes or goes.
-use Rattle.std.proofs.Common.{◌≡◌, ◌≢◌, ◌==◌, ⊎_elim, true, false, ℕ, ◌<◌, ◌≤◌, ◌+◌, ◌++◌, ◌∷◌, [], List, arith, ap, ap₂, drop, length, map, subst, suc, sym, take, ◌∙◌}
+use Rattle.std.proofs.Common.{◌≡◌, ◌≢◌, ⊎_elim, ℕ, ◌<◌, ◌≤◌, ◌+◌, ◌++◌, ◌∷◌, [], List, arith, ap, ap₂, drop, length, map, subst, suc, sym, take, ◌∙◌}
 use Rattle.std.specs.Prelude.{slice_index_or, slice_set}
 use Rattle.std.specs.List.{All, AllPairs, remove}
 use Rattle.std.proofs.lemmas.Bool.{cases_lt}
@@ -11,10 +12,7 @@ use Rattle.std.proofs.lemmas.List.Elements.{All-append, All-drop, All-take}
 
 -- two places of an order do not have the same key
 pub apart_at : (keys : List ℕ) → AllPairs (λ (x : ℕ) (y : ℕ). x ≢ y) keys → (i j : ℕ) → i < length keys → j < length keys → i ≢ j → slice_index_or keys i 0 ≢ slice_index_or keys j 0
-apart_at keys apart i j i_in j_in other e = ⊎_elim
-    (λ (below : i < j). apart i j 0 below j_in e)
-    (λ (above : j ≤ i). apart j i 0 (omega (arith, above, other)) i_in (sym e))
-    (cases_lt i j)
+apart_at keys apart i j i_in j_in other e = grind (arith, common_steps, cases_lt)
 
 -- what remains has each property of all
 pub all_remove : {X : Type 0} (P : X → Type 0) (xs : List X) (n : ℕ) → All P xs → All P (remove xs n)
@@ -61,13 +59,7 @@ module _ {X : Type 0} (was is : ℕ → X) where
       new = is (slice_index_or keys at 0)
 
       at_place : (k : ℕ) (d : X) → k < length keys → is (slice_index_or keys k 0) ≡ slice_index_or (slice_set (map was keys) at new) k d
-      at_place k d within = ⊎_elim
-          (λ (e : ((k == at) ≡ true) × (k ≡ at)). (ap (λ i. is (slice_index_or keys i 0)) e.1
-          ∙ sym (get_or-set_same (map was keys) at new d (subst (λ n. at < n) (sym (length-map keys was)) inside))
-          ∙ ap (λ i. slice_index_or (slice_set (map was keys) at new) i d) (sym e.1)))
-          (λ (e : ((k == at) ≡ false) × (k ≢ at)). (same (slice_index_or keys k 0) (apart_at keys apart k at within inside e.1)
-          ∙ sym (get_or-map was keys k 0 d within) ∙ sym (get_or-set_other (map was keys) at k new d e.1)))
-          (eqb_tells k at)
+      at_place k d within = grind (arith, common_steps, get_or-set_same, new, length-map, apart_at, get_or-map, get_or-set_other, eqb_tells)
 
   -- a key more
   pub push_map : (keys : List ℕ) (key : ℕ) → All (λ (k : ℕ). is k ≡ was k) keys → map is (keys ++ key ∷ []) ≡ map was keys ++ is key ∷ []

@@ -1,5 +1,6 @@
+use Rattle.std.proofs.lemmas.Grind.{common_steps}
 -- One place of a map gets another number, or none: at how many places each number stands then.
-use Rattle.std.proofs.Common.{◌≡◌, ◌≢◌, ℕ, zero, suc, ◌+◌, ◌<◌, ◌≤◌, ◌==◌, ⊎_elim, ◌⊎◌, inl, inr, true, false, List, length, refl, ap, subst, ◌∙◌, arith}
+use Rattle.std.proofs.Common.{◌≡◌, ◌≢◌, ℕ, zero, suc, ◌+◌, ◌<◌, ◌≤◌, ◌⊎◌, inl, inr, List, length, refl, ap, arith}
 use Rattle.std.specs.Prelude.{slice_index_or, slice_set}
 use Rattle.std.specs.List.{sum_by}
 use Rattle.std.proofs.lemmas.Bool.Decides.{eqb_tells}
@@ -10,8 +11,8 @@ use Rattle.hp_model.specs.declared.place.Place.TheVariants.{Gone}
 use Rattle.hp_model.specs.files.Mapping.{Mapping}
 use Rattle.hp_store.specs.Store.{Store, holders_of, page_at}
 use Rattle.hp_lookup.specs.Dropping.{HasHolders}
-use Rattle.hp_lookup.specs.Held.{IsHeld, in_cell, in_cells, in_file, in_files, in_map, in_place, more_in}
-use Rattle.hp_lookup.specs.Numbered.{NumberedFile, mapping_at, no_mapping, numbered_at}
+use Rattle.hp_lookup.specs.Held.{IsHeld, in_cell, in_cells, in_file, in_files, in_place, more_in}
+use Rattle.hp_lookup.specs.Numbered.{NumberedFile, mapping_at, numbered_at}
 use Rattle.hp_lookup.proofs.Cells.{no_file}
 use Rattle.hp_lookup.proofs.GivingBack.{in_all}
 use Rattle.hp_lookup.proofs.Lifting.{at_most}
@@ -32,10 +33,7 @@ module _ (fs : List NumberedFile) (k j o : ℕ) (l : k < length fs) (jl : j < le
 
   -- the number of the place stands in its file
   pub stands : o < length y.places → (m : ℕ) → in_place m was ≤ in_file m f
-  stands below m =
-      let places = at_most (λ (p : Place ℕ). p) (λ p. p) (in_place m) (λ p h. refl) y.places o Gone below in
-      let maps = at_most (λ (m : Mapping ℕ). m) (λ m. m) (in_map m) (λ m h. refl) f.maps j no_mapping jl in
-      omega (arith, places, maps)
+  stands below m = grind (arith, common_steps, at_most)
 
   -- beside it, no more stand in another file than are left
   apart_from : (m q : ℕ) → q < length fs → q ≢ k → in_file m f + in_file m (numbered_at fs q) ≤ in_files m fs
@@ -54,10 +52,7 @@ module _ (fs : List NumberedFile) (k j o : ℕ) (l : k < length fs) (jl : j < le
     gs = slice_set fs k g
 
     file_counts : (m : ℕ) → in_file m g + in_place m was ≡ in_file m f + in_place m p
-    file_counts m =
-        let places = sum_by-set (in_place m) y.places o p Gone below in
-        let maps = sum_by-set (in_map m) f.maps j (record y { places = slice_set y.places o p }) no_mapping jl in
-        omega (arith, places, maps)
+    file_counts m = grind (arith, common_steps, sum_by-set)
 
     counts : (m : ℕ) → in_files m gs + in_place m was ≡ in_files m fs + in_place m p
     counts m = (let step = sum_by-set (in_file m) fs k g no_file l in let one = file_counts m in omega (arith, step, one))
@@ -72,45 +67,13 @@ module _ (fs : List NumberedFile) (k j o : ℕ) (l : k < length fs) (jl : j < le
       held m = (let one = holders m in let all = counts m in let had = h.held m in omega (arith, one, all, had))
 
       alone : (m : ℕ) → 0 < in_cells m gs → in_files m gs ≡ 1
-      alone m own_some =
-          let same = own m in
-          let had = h.alone m (omega (arith, same, own_some)) in
-          let all = counts m in
-          let most = in_all m gs in
-          ⊎_elim
-          (λ (none : in_place m p ≡ 0). omega (arith, own_some, had, all, most, none))
-          (λ (put : 0 < in_place m p). (let bare = (free m put).0 in omega (arith, own_some, same, bare)))
-          (none_or_some (in_place m p))
+      alone m own_some = grind (arith, common_steps, own, counts, in_all, none_or_some)
 
       here : (m : ℕ) → 0 < in_file m g → in_files m fs ≡ in_file m f
-      here m in_g =
-          let one = file_counts m in
-          ⊎_elim
-          (λ (none : in_place m p ≡ 0). h.apart m k l (omega (arith, one, none, in_g)))
-          (λ (put : 0 < in_place m p). (free m put).1)
-          (none_or_some (in_place m p))
+      here m in_g = grind (arith, common_steps, file_counts, none_or_some)
 
       apart : (m q : ℕ) → q < length gs → 0 < in_file m (numbered_at gs q) → in_files m gs ≡ in_file m (numbered_at gs q)
-      apart m q below_q stood =
-          let long = length-set fs k g in
-          let all = counts m in
-          let one = file_counts m in
-          ⊎_elim
-          (λ (e : ((q == k) ≡ true) × (q ≡ k)).
-          (let at : in_file m (numbered_at gs q) ≡ in_file m g = ap (λ x. in_file m (numbered_at gs x)) e.1 ∙ ap (in_file m) (get_or-set_same fs k g no_file l) in
-          let had = here m (subst (λ x. 0 < x) at stood) in
-          omega (arith, all, one, at, had)))
-          (λ (e : ((q == k) ≡ false) × (q ≢ k)).
-          (let at : in_file m (numbered_at gs q) ≡ in_file m (numbered_at fs q) = ap (in_file m) (get_or-set_other fs k q g no_file e.1) in
-          let lq : q < length fs = omega (arith, below_q, long) in
-          let had = h.apart m q lq (subst (λ x. 0 < x) at stood) in
-          let two = apart_from m q lq e.1 in
-          let inside = stands below m in
-          ⊎_elim
-          (λ (none : in_place m p ≡ 0). omega (arith, all, at, had, two, inside, none))
-          (λ (put : 0 < in_place m p). (let only = (free m put).1 in omega (arith, at, had, two, only, stood)))
-          (none_or_some (in_place m p))))
-          (eqb_tells q k)
+      apart m q below_q stood = grind (arith, common_steps, length-set, counts, file_counts, get_or-set_same, no_file, here, get_or-set_other, apart_from, stands, none_or_some, eqb_tells)
 
       pub place_held : IsHeld t now gs
       place_held = record { held = held; some = some; alone = alone; apart = apart; counted = counted; parts = parts }

@@ -1,3 +1,4 @@
+use Rattle.std.proofs.lemmas.Grind.{common_steps}
 -- A range of a list that is edited place by place.
 use Rattle.std.proofs.Common.{◌≡◌, ◌≢◌, ℕ, zero, suc, ◌+◌, ◌<◌, ◌≤◌, ◌==◌, ⊎_elim, Bool, true, false, cond, nat_le, nat_lt, List, [], ◌∷◌, ◌++◌, length, take, drop, map, refl, sym, ap, ◌∙◌, arith}
 use Rattle.std.specs.Prelude.{slice_index_or, slice_set}
@@ -97,6 +98,4 @@ module _ {X : Type 0} (f : X → X) where
 
     pub next_but_one : (i : ℕ) (xs was : List X) (n : X) → i < length xs → i ≢ k → was ≡ slice_set (first_mapped i xs) k m →
         n ≡ f (slice_index_or was i d) → slice_set was i n ≡ slice_set (first_mapped (i + 1) xs) k m
-    next_but_one i xs was n l other was_is n_is =
-        let read : n ≡ f (slice_index_or (first_mapped i xs) i d) = n_is ∙ ap f (ap (λ ys. slice_index_or ys i d) was_is ∙ get_or-set_other (first_mapped i xs) k i m d other) in
-        ap (λ ys. slice_set ys i n) was_is ∙ set_comm (first_mapped i xs) k i m n (λ e. other (sym e)) ∙ ap (λ ys. slice_set ys k m) (first_step i xs (first_mapped i xs) d n l refl read)
+    next_but_one i xs was n l other was_is n_is = grind (arith, common_steps, get_or-set_other, set_comm, first_step)

@@ -1,5 +1,6 @@
+use Rattle.std.proofs.lemmas.Grind.{common_steps}
 -- A private copy, as code puts it in.
-use Rattle.std.proofs.Common.{◌≡◌, ℕ, ◌-◌, ◌<◌, ◌||◌, Bool, true, false, None, Some, List, length, refl, sym, ap, subst, ◌∙◌, arith}
+use Rattle.std.proofs.Common.{◌≡◌, ℕ, ◌-◌, ◌<◌, ◌||◌, Bool, true, false, None, Some, List, length, refl, sym, ap, ◌∙◌, arith}
 use Rattle.std.specs.Prelude.{slice_set, slice_index_or}
 use Rattle.std.specs.Bool.{IsTrue}
 use Rattle.std.specs.List.{flat_map, sum_by}
@@ -13,7 +14,7 @@ use Rattle.hp_model.specs.files.Mapping.{Mapping, Map, place_at, with_place, is_
 use Rattle.hp_model.specs.files.MountCounts.{stamps_of}
 use Rattle.hp_model.specs.files.Page.{Page, Copy}
 use Rattle.hp_store.specs.Store.{Store, page_at, inserted}
-use Rattle.hp_lookup.specs.Files.{copied_at, file_at, parted_at}
+use Rattle.hp_lookup.specs.Files.{copied_at, file_at}
 use Rattle.hp_lookup.specs.Numbered.{NumberedFile, numbered_at, mapping_at, place_shown, map_shown, files_shown, no_mapping}
 use Rattle.hp_lookup.specs.Held.{IsHeld, in_file, in_files, in_map}
 use Rattle.hp_lookup.specs.Level.{AreLevel}
@@ -90,10 +91,7 @@ module _ (s : Store) (more : ℕ) (fs : List NumberedFile) (h : IsHeld s more fs
           let same = ap (λ (f : NumberedFile). length f.maps) g_is in omega (arith, inside, long, same))
 
       pub put_there : is_live (place_at mapping i) ≡ true → copy_of (place_at (mapping_at g j) i) ≡ Some n
-      put_there live =
-          ap (λ (f : NumberedFile). copy_of (place_at (mapping_at f j) i)) g_is
-          ∙ ap (λ (y : Mapping ℕ). copy_of (place_at y i)) (get_or-set_same (numbered_at fs k).maps j (with_copy_at mapping (i - mapping.start) c n) no_mapping jl_in)
-          ∙ ap copy_of (place_put mapping i (Live c (Some n)) live)
+      put_there live = grind (arith, common_steps, get_or-set_same, with_copy_at, jl_in, place_put)
 
     -- where there was none, and an owner's reservation is consumed
     module _ (g : NumberedFile) (g_is : g ≡ record x {
@@ -110,27 +108,13 @@ module _ (s : Store) (more : ℕ) (fs : List NumberedFile) (h : IsHeld s more fs
       slot_is = sym (place_here mapping i (live_inside mapping i live).0) ∙ bare
 
       pub put : g ≡ record (numbered_at fs k) { maps = slice_set (numbered_at fs k).maps j (with_copy_at mapping (i - mapping.start) (mapping.owner || c) n) }
-      put = g_is ∙ ap (λ (f : NumberedFile). record f { maps = slice_set f.maps j (at_place (first_copy (mapping_at f j).owner n) i (mapping_at f j)) }) x_is
-          ∙ ap (λ p. record (numbered_at fs k) {
-            maps = slice_set (numbered_at fs k).maps j (record mapping {
-              places = slice_set mapping.places (i - mapping.start) (first_copy mapping.owner n p);
-            });
-          }) bare
+      put = grind (arith, common_steps, x_is, bare)
 
       pub put_view : view t more (slice_set fs k g) ≡ copied_at k j i ((map_among (files_shown s fs) k j).owner || c) n page (view s more fs)
-      put_view =
-          let room : s.room - 1 - more ≡ s.room - more - 1 = omega arith in
-          ap (λ xs. record { files = xs; going = t.going; room = t.room - more }) (put_shows (mapping.owner || c) g put)
-          ∙ ap (λ (u : Store). record { files = (parted_at k j i (mapping.owner || c) n page (view s more fs)).files; going = u.going; room = u.room - more }) t_is
-          ∙ ap (λ r. record { files = (parted_at k j i (mapping.owner || c) n page (view s more fs)).files; going = s.going; room = r }) room
-          ∙ ap (λ (m : Map). copied_at k j i (m.owner || c) n page (view s more fs)) (sym seen)
+      put_view = grind (arith, common_steps, put_shows, put, view, seen)
 
       pub put_keeps : 0 < s.room - more → IsHeld t more (slice_set fs k g)
-      put_keeps room =
-          subst (λ u. IsHeld u more (slice_set fs k g)) (sym t_is) (subst (λ f. IsHeld (inserted n page s) more (slice_set fs k f)) (sym put)
-          (copy_held n s (inserted n page s) (inserted_agrees n page s) page (inserted_is n page s below) fs k j (i - mapping.start)
-          (mapping.owner || c) within jl_in nowhere (live_inside mapping i live).1 c slot_is more (inserted_more n page s below free)
-          (omega (arith, room)) h))
+      put_keeps room = grind (arith, common_steps, put, copy_held, inserted_agrees, inserted_is, within, jl_in, nowhere, live_inside, live, slot_is, inserted_more)
 
       pub put_stays_level : AreLevel x.maps → AreLevel g.maps
       put_stays_level = put_levels (mapping.owner || c) g put live

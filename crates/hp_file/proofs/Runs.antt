@@ -1,5 +1,6 @@
+use Rattle.std.proofs.lemmas.Grind.{common_steps}
 -- What is counted of a run of a map's places.
-use Rattle.std.proofs.Common.{◌≡◌, ℕ, ◌+◌, ◌-◌, ◌≤◌, List, ◌++◌, drop, length, slice_index_or, sym, ◌∙◌, ap, subst, arith}
+use Rattle.std.proofs.Common.{◌≡◌, ℕ, ◌+◌, ◌-◌, ◌≤◌, List, ◌++◌, drop, length, slice_index_or, sym, ◌∙◌, ap, arith}
 use Rattle.std.specs.Prelude.{IsSome}
 use Rattle.std.specs.List.{sum_by}
 use Rattle.std.proofs.lemmas.List.{drop-append-le, drop-drop, get_or-drop, get_or-take, length-drop, length-take, take-append-drop}
@@ -22,11 +23,7 @@ module _ (at : ℕ) (places run : List (Place ℕ)) (is : IsPlaceRun at places r
   run_fits = (let whole = ap length is.run_is in omega (arith, whole, is.some, length-take (length run) (drop at places), length-drop at places))
 
   pub run_first : IsSome (copy_of (slice_index_or places at Gone)) → IsSome (copy_of (slice_index_or run 0 Gone))
-  run_first some =
-      let same : at + 0 ≡ at = omega arith in
-      let first = ap (λ xs. slice_index_or xs 0 Gone) is.run_is ∙ get_or-take (length run) (drop at places) 0 Gone is.some
-      ∙ get_or-drop at places 0 Gone ∙ ap (λ k. slice_index_or places k Gone) same in
-      subst (λ p. IsSome (copy_of p)) (sym first) some
+  run_first some = grind (arith, common_steps, get_or-take, get_or-drop)
 
   module _ (c : Place ℕ → ℕ) where
     pub run_sum : sum_by c (drop at places) ≡ sum_by c run + sum_by c behind

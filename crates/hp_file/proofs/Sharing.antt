@@ -1,3 +1,4 @@
+use Rattle.std.proofs.lemmas.Grind.{common_steps}
 -- Holders that come, one by one.
 use Rattle.std.proofs.Common.{◌≡◌, ◌≢◌, ℕ, zero, suc, ◌+◌, ◌-◌, ◌<◌, ◌≤◌, ◌==◌, ⊎_elim, true, false, cond, Option, Some, None, List, [], ◌∷◌, length, drop, refl, sym, ap, subst, ◌∙◌, arith}
 use Rattle.std.specs.Prelude.{is_some, slice_index_or, slice_set}
@@ -82,26 +83,10 @@ share_none s some = record { held = λ n. omega arith; some = some; same = λ n.
 
 -- counted otherwise
 pub share_as : (a b : ℕ → ℕ) (s t : Store) → IsSharing a s t → ((n : ℕ) → b n ≡ a n) → IsSharing b s t
-share_as a b s t shared same = record {
-  held = λ n. (let came = shared.held n in let is = same n in omega (arith, came, is));
-  some = shared.some;
-  same = shared.same;
-  pages = shared.pages;
-  nodes = shared.nodes;
-  going = shared.going;
-  room = shared.room;
-}
+share_as a b s t shared same = grind (arith, common_steps)
 
 pub share_then : (a b all : ℕ → ℕ) (s t u : Store) → IsSharing a s t → IsSharing b t u → ((n : ℕ) → a n + b n ≡ all n) → IsSharing all s u
-share_then a b all s t u first then sum = record {
-  held = λ n. (let one = first.held n in let two = then.held n in let both = sum n in omega (arith, one, two, both));
-  some = then.some;
-  same = λ n. then.same n ∙ first.same n;
-  pages = then.pages ∙ first.pages;
-  nodes = λ n. then.nodes n ∙ first.nodes n;
-  going = then.going ∙ first.going;
-  room = then.room ∙ first.room;
-}
+share_then a b all s t u first then sum = grind (arith, common_steps)
 
 -- ---- what is counted of places that have a copy
 
@@ -191,10 +176,7 @@ sum_end c xs i l = ap (sum_by c) (drop_all i xs l)
 -- ---- the copies of places, one after another
 
 pub shared_none : (xs : List (Place ℕ)) (s : Store) → HasHolders s → IsShared xs xs s s
-shared_none xs s some = record {
-  less = λ n. omega arith;
-  sharing = share_then (λ n. 0) (λ n. 0) (λ n. sum_by (in_place n) xs - sum_by (in_place n) xs) s s s (share_none s some) (share_none s some) (λ n. omega arith);
-}
+shared_none xs s some = grind (arith, common_steps, share_then, share_none)
 
 pub shared_then : (xs ys zs : List (Place ℕ)) (s t u : Store) → IsShared xs ys s t → IsShared ys zs t u → IsShared xs zs s u
 shared_then xs ys zs s t u first then = record {
@@ -214,11 +196,7 @@ shared_as ws xs ys zs s t shared all last = record {
 }
 
 pub shared_one : (p : Place ℕ) (ys : List (Place ℕ)) (number : ℕ) (s t : Store) → copy_of p ≡ Some number → IsSharing (one_at number) s t → IsShared (p ∷ ys) ys s t
-shared_one p ys number s t is sharing = record {
-  less = λ n. (let step = sum_by-cons (in_place n) p ys in omega (arith, step));
-  sharing = share_then (one_at number) (λ n. 0) (λ n. sum_by (in_place n) (p ∷ ys) - sum_by (in_place n) ys) s t t sharing (share_none t sharing.some)
-      (λ n. (let step = sum_by-cons (in_place n) p ys in let here = copied_in n number p is in omega (arith, step, here)));
-}
+shared_one p ys number s t is sharing = grind (arith, common_steps, sum_by-cons, share_then, one_at, share_none, copied_in)
 
 pub shared_all : (xs ys : List (Place ℕ)) (s t : Store) → IsShared xs ys s t → ((n : ℕ) → sum_by (in_place n) ys ≡ 0) → IsSharing (λ n. sum_by (in_place n) xs) s t
 shared_all xs ys s t shared none =

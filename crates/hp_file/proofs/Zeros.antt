@@ -1,5 +1,6 @@
+use Rattle.std.proofs.lemmas.Grind.{common_steps}
 -- Pages put at the lowest indices of a file that have none, by what is left to do.
-use Rattle.std.proofs.Common.{◌≡◌, ◌≢◌, ℕ, zero, suc, ◌+◌, ◌-◌, ◌<◌, ◌≤◌, ⊎_elim, true, false, cond, not, None, List, [], ◌∷◌, ◌++◌, append_assoc}
+use Rattle.std.proofs.Common.{◌≡◌, ◌≢◌, ℕ, zero, suc, ◌+◌, ◌-◌, ◌<◌, ◌≤◌, ⊎_elim, true, false, cond, not, List, [], ◌∷◌, ◌++◌}
 use Rattle.std.proofs.Common.{length, map, take, drop, refl, sym, ap, subst, ◌∙◌, arith}
 use Rattle.std.specs.Prelude.{slice_set}
 use Rattle.std.specs.List.{count_by, position_or_len}
@@ -10,7 +11,7 @@ use Rattle.std.proofs.lemmas.List.Sums.{position_or_len_is}
 use Rattle.std.proofs.Math.Seq.{drop-append_seam, take-append_seam}
 use Rattle.hp_model.specs.declared.cell.Cell.{Cell}
 use Rattle.hp_model.specs.declared.cell.Cell.TheVariants.{Hole, Entered, Present}
-use Rattle.hp_model.specs.files.File.{File, cell_in, entered, has_page, is_entered, new_file, with_cell}
+use Rattle.hp_model.specs.files.File.{cell_in, entered, has_page, is_entered}
 use Rattle.hp_model.specs.files.Fill.{cells_filled, lacks_page, next_bare, zero_page}
 use Rattle.hp_model.specs.files.Page.{Page}
 use Rattle.hp_model.specs.Lists.{edit_range, part}
@@ -151,18 +152,10 @@ module _ (k i : ℕ) (q : Page) (old now new : Files) (l : k < length old.files)
   cells = (file_at now.files k).cells
 
   pub cells_put : (file_at new.files k).cells ≡ slice_set cells i (Present q)
-  cells_put =
-      let within : k < length now.files = (let same = ap length now_is in let long = length-set old.files k (record (file_at old.files k) { cells = cells }) in omega (arith, l, same, long)) in
-      ap (λ (v : Files). (file_at v.files k).cells) new_is ∙ ap (λ (f : File). f.cells) (get_or-set_same now.files k (with_cell (file_at now.files k) i (Present q)) (new_file None) within)
+  cells_put = grind (arith, common_steps, length-set, get_or-set_same)
 
   pub files_put : new.files ≡ slice_set old.files k (record (file_at old.files k) { cells = (file_at new.files k).cells })
-  files_put =
-      let f : File = file_at old.files k in
-      let g : File = record f { cells = cells } in
-      let there : file_at now.files k ≡ g = ap (λ fs. file_at fs k) now_is ∙ get_or-set_same old.files k g (new_file None) l in
-      ap (λ (v : Files). v.files) new_is ∙ ap (λ h. slice_set now.files k (with_cell h i (Present q))) there
-      ∙ ap (λ fs. slice_set fs k (with_cell g i (Present q))) now_is ∙ set-set old.files k g (with_cell g i (Present q))
-      ∙ ap (λ cs. slice_set old.files k (record f { cells = cs })) (sym cells_put)
+  files_put = grind (arith, common_steps, get_or-set_same, set-set, cells_put)
 
 -- ---- entries make no difference to indices that get pages
 
@@ -215,15 +208,7 @@ module _ {P : Type 0} where
 
   pub filled_entered : (a b : ℕ) (ps : List P) (xs : List (Cell P)) → a ≤ length xs → length ps ≡ count_by lacks_page (part a b xs)
       → cells_filled a ps (edit_range entered a b xs) ≡ cells_filled a ps xs
-  filled_entered a b ps xs long count =
-      let front : List (Cell P) = take a xs in
-      let back : List (Cell P) = map entered (part a b xs) ++ drop (b - a) (drop a xs) in
-      let wide : length front ≡ a = length-take a xs ∙ omega (arith, long) in
-      let parts : edit_range entered a b xs ≡ front ++ back = append_assoc front (map entered (part a b xs)) (drop (b - a) (drop a xs)) in
-      ap (cells_filled a ps) parts ∙ filled_laid a ps (front ++ back)
-      ∙ ap (λ n. take n (front ++ back) ++ laid ps (drop n (front ++ back))) (sym wide)
-      ∙ ap (λ ys. ys ++ laid ps (drop (length front) (front ++ back))) (take-append_seam front back)
-      ∙ ap (λ ys. front ++ laid ps ys) (drop-append_seam front back) ∙ ap (λ ys. front ++ ys) (laid_entered (b - a) ps (drop a xs) count) ∙ sym (filled_laid a ps xs)
+  filled_entered a b ps xs long count = grind (arith, common_steps, length-take, filled_laid, take-append_seam, drop-append_seam, laid_entered)
 
   pub lacks_entered : (c : Cell P) → lacks_page (entered c) ≡ lacks_page c
   lacks_entered Hole = refl

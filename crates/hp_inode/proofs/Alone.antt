@@ -1,5 +1,6 @@
+use Rattle.std.proofs.lemmas.Grind.{common_steps}
 -- One index alone: put in, taken out, and counted.
-use Rattle.std.proofs.Common.{◌≡◌, ℕ, ◌+◌, ◌-◌, ◌/◌, ◌%◌, ◌<◌, ◌≤◌, Bool, true, false, not, ◌&&◌, ◌||◌, eqb, cond, List, length, get_or, sym, ap, ◌∙◌, arith, ⊎_elim}
+use Rattle.std.proofs.Common.{◌≡◌, ℕ, ◌+◌, ◌-◌, ◌/◌, ◌%◌, Bool, true, false, not, ◌&&◌, ◌||◌, eqb, cond, List, length, get_or, sym, ap, ◌∙◌, arith, ⊎_elim}
 use Rattle.std.specs.Int.{bit_at}
 use Rattle.std.specs.List.{range_with_len, count_by}
 use Rattle.std.proofs.Math.Bool.{or-false, or-true, and-true, and-false}
@@ -13,31 +14,19 @@ use Rattle.hp_marks.specs.Marks.{marked}
 
 module _ (old new : ℕ → Bool) (i : ℕ) (others : (k : ℕ) → (k ≡ i → ⊥) → new k ≡ old k) where
   not_alone : (k : ℕ) → (k ≡ i → ⊥) → within i (i + 1) k ≡ false
-  not_alone k other = ⊎_elim
-      (λ (below : k < i). within-below i (i + 1) k below)
-      (λ (from : i ≤ k). within-past i (i + 1) k (omega (arith, from, other)))
-      (cases_lt k i)
+  not_alone k other = grind (arith, common_steps, within-below, within-past, cases_lt)
 
   alone : (k : ℕ) → k ≡ i → within i (i + 1) k ≡ true
   alone k same = within-true i (i + 1) k (omega (arith, same)) (omega (arith, same))
 
   pub put_in : new i ≡ true → (k : ℕ) → new k ≡ (old k || within i (i + 1) k)
-  put_in here k = ⊎_elim
-      (λ (same : k ≡ i). ap new same ∙ here ∙ sym (ap (λ t. old k || t) (alone k same) ∙ or-true (old k)))
-      (λ (other : k ≡ i → ⊥). others k other ∙ sym (ap (λ t. old k || t) (not_alone k other) ∙ or-false (old k)))
-      (cases_eq k i)
+  put_in here k = grind (arith, common_steps, alone, or-true, not_alone, or-false, cases_eq)
 
   pub put_out : new i ≡ false → (k : ℕ) → new k ≡ (old k && not (within i (i + 1) k))
-  put_out here k = ⊎_elim
-      (λ (same : k ≡ i). ap new same ∙ here ∙ sym (ap (λ t. old k && not t) (alone k same) ∙ and-false (old k)))
-      (λ (other : k ≡ i → ⊥). others k other ∙ sym (ap (λ t. old k && not t) (not_alone k other) ∙ and-true (old k)))
-      (cases_eq k i)
+  put_out here k = grind (arith, common_steps, alone, and-false, not_alone, and-true, cases_eq)
 
 pub count_one : (p : ℕ → Bool) (i : ℕ) → count_by p (range_with_len i (i + 1 - i)) ≡ cond {A = ℕ} (p i) 1 0
-count_one p i =
-    let one : i + 1 - i ≡ 1 = omega arith in
-    let first = count_cons p i (range_with_len (i + 1) 0) in
-    omega (arith, ap (λ n. count_by p (range_with_len i n)) one, first)
+count_one p i = grind (arith, common_steps, count_cons)
 
 -- in a word that is zero there is no mark
 pub zero_unmarked : (words : List ℕ) (k : ℕ) → get_or words (k / 64) 0 ≡ 0 → marked words k ≡ false
@@ -47,24 +36,13 @@ zero_unmarked words k zero = ap (λ w. eqb (bit_at w (k % 64)) 1) zero ∙ ap (�
 pub thinned_entries : (words marks new news : List ℕ) → IsEntries words marks → length new ≡ length words → length news ≡ length marks →
     ((k : ℕ) → marked new k ≡ true → marked words k ≡ true) → ((w : ℕ) → marked news w ≡ true → marked marks w ≡ true) →
     ((k : ℕ) → marked marks (k / 64) ≡ true → marked news (k / 64) ≡ false → marked new k ≡ false) → IsEntries new news
-thinned_entries words marks new news is long longs fewer below gone = record {
-  few = omega (arith, is.few, longs);
-  places = omega (arith, is.places, long, longs);
-  within = λ w on. omega (arith, is.within w (below w on), long);
-  none = λ k clear. ⊎_elim
-      (λ (on : marked marks (k / 64) ≡ true). gone k on clear)
-      (λ (off : marked marks (k / 64) ≡ false). false_from_ne_true (marked new k) (λ there. true≢false (sym (fewer k there) ∙ is.none k off)))
-      (cases_Bool (marked marks (k / 64)));
-}
+thinned_entries words marks new news is long longs fewer below gone = grind (arith, common_steps, false_from_ne_true, true≢false, cases_Bool)
 
 -- one index goes from words and their marks
 module _ (words marks new news : List ℕ) (i : ℕ) (is : IsEntries words marks) (on : marked words i ≡ true) (here : marked new i ≡ false)
     (others : (k : ℕ) → (k ≡ i → ⊥) → marked new k ≡ marked words k) where
   pub word_marked : marked marks (i / 64) ≡ true
-  word_marked = ⊎_elim
-      (λ (was : marked marks (i / 64) ≡ true). was)
-      (λ (off : marked marks (i / 64) ≡ false). absurd (true≢false (sym on ∙ is.none i off)))
-      (cases_Bool (marked marks (i / 64)))
+  word_marked = grind (arith, common_steps, true≢false, cases_Bool)
 
   pub one_gone : (some : Bool) → (some ≡ false → get_or new (i / 64) 0 ≡ 0) → length new ≡ length words → length news ≡ length marks → marked news (i / 64) ≡ some →
       ((w : ℕ) → (w ≡ i / 64 → ⊥) → marked news w ≡ marked marks w) → IsEntries new news

@@ -1,3 +1,4 @@
+use Rattle.std.proofs.lemmas.Grind.{common_steps}
 -- Holes alone: no entries, and no pages.
 use Rattle.std.proofs.Common.{◌≡◌, ℕ, ◌-◌, ◌%◌, ◌<◌, ◌^◌, ◌&&◌, true, false, not, [], None, refl, sym, ap, ◌∙◌, arith}
 use Rattle.std.specs.List.{range_with_len, count_by}
@@ -35,13 +36,7 @@ all_missing a b = omega (arith, count_not (entered_at []) (range_with_len a (b -
 
 -- so many holes are an inode's parts
 pub bare_kept : (len : ℕ) → len < 2 ^ 32 → IsKept len 0 [] []
-bare_kept len small = record {
-  small = small;
-  below = λ i in'. absurd (nowhere i in');
-  counted = none_in 0 len;
-  paged = λ i some. absurd (false≢true some);
-  slots = λ i in'. absurd (nowhere i in');
-}
+bare_kept len small = grind (arith, common_steps, nowhere, none_in, false≢true)
 
 pub bare_paged : (len : ℕ) → 0 ≡ count_by has_page (cells_of len [] [])
 bare_paged len = sym (count_map has_page (kept_cell [] []) (range_with_len 0 len)

@@ -1,7 +1,8 @@
+use Rattle.std.proofs.lemmas.Grind.{common_steps}
 -- A change of one block, as a change of the indices of all.
 use Rattle.std.proofs.Common.{◌≡◌, ◌≢◌, ℕ, zero, suc, ◌+◌, ◌-◌, ◌*◌, ◌/◌, ◌%◌, ◌<◌, ◌≤◌, min, Bool, true, false, not, ◌&&◌, ◌||◌}
 use Rattle.std.proofs.Common.{List, [], length, get_or, set, cond, None, sym, refl, ap, ◌∙◌, arith, ⊎_elim, Option, Some, IsSome, subst}
-use Rattle.std.specs.Option.{is_some, unwrap_or}
+use Rattle.std.specs.Option.{unwrap_or}
 use Rattle.std.specs.List.{range_with_len, count_by}
 use Rattle.std.proofs.Math.Bool.{or-false, and-true}
 use Rattle.std.proofs.lemmas.Bool.{cases_lt, cases_eq, ltb-true, false≢true}
@@ -57,22 +58,10 @@ module _ (at count : ℕ) (fits : at % 65536 + count ≤ 65536) where
   same_block k low high = omega (arith, low, high, fits)
 
   within_here : (k : ℕ) → k / 65536 ≡ at / 65536 → within (at % 65536) (at % 65536 + count) (k % 65536) ≡ within at (at + count) k
-  within_here k here = ⊎_elim
-      (λ (below : k < at). within-below (at % 65536) (at % 65536 + count) (k % 65536) (omega (arith, below, here)) ∙ sym (within-below at (at + count) k below))
-      (λ (from : at ≤ k). ⊎_elim
-      (λ (lt : k < at + count). within-true (at % 65536) (at % 65536 + count) (k % 65536) (omega (arith, from, here)) (omega (arith, lt, here)) ∙ sym (within-true at (at + count) k from lt))
-      (λ (past : at + count ≤ k). within-past (at % 65536) (at % 65536 + count) (k % 65536) (omega (arith, past, here)) ∙ sym (within-past at (at + count) k past))
-      (cases_lt k (at + count)))
-      (cases_lt k at)
+  within_here k here = grind (arith, common_steps, within-below, within-true, within-past, cases_lt)
 
   within_other : (k : ℕ) → k / 65536 ≢ at / 65536 → within at (at + count) k ≡ false
-  within_other k other = ⊎_elim
-      (λ (below : k < at). within-below at (at + count) k below)
-      (λ (from : at ≤ k). ⊎_elim
-      (λ (lt : k < at + count). absurd (other (same_block k from lt)))
-      (λ (past : at + count ≤ k). within-past at (at + count) k past)
-      (cases_lt k (at + count)))
-      (cases_lt k at)
+  within_other k other = grind (arith, common_steps, within-below, same_block, within-past, cases_lt)
 
 -- ---- one block changed
 
@@ -83,10 +72,7 @@ joined_or false a m b k low high = grind (arith, nat_tests)
 -- what is seen of the indices of a block stays, and so does what is seen of all
 pub as_before : {X B : Type 0} (see : List X → ℕ → B) (old new : List (List X)) (q : ℕ) → KeepsOthers old new q →
     ((k : ℕ) → see (get_or new q []) k ≡ see (get_or old q []) k) → (k : ℕ) → see (block_at new k) (k % 65536) ≡ see (block_at old k) (k % 65536)
-as_before see old new q others here k = ⊎_elim
-    (λ (same : k / 65536 ≡ q). ap (λ j. see (get_or new j []) (k % 65536)) same ∙ here (k % 65536) ∙ ap (λ j. see (get_or old j []) (k % 65536)) (sym same))
-    (λ (other : k / 65536 ≢ q). ap (λ block. see block (k % 65536)) (others (k / 65536) other))
-    (cases_eq (k / 65536) q)
+as_before see old new q others here k = grind (arith, common_steps, cases_eq)
 
 pub all_there : {X B : Type 0} (see : List X → ℕ → B) (blocks kept : List (Option (List X))) (alike : (j : ℕ) → get_or (contents [] kept) j [] ≡ get_or (contents [] blocks) j []) (at : ℕ)
     (old now : List X) (is : get_or kept at None ≡ Some old) → ((k : ℕ) → see now k ≡ see old k) →
@@ -103,11 +89,7 @@ module _ (old new : WordBlocks) (at count : ℕ) (fits : at % 65536 + count ≤ 
 
   pub part_added : ((k : ℕ) → marked (get_or new (at / 65536) []) k ≡ (marked (get_or old (at / 65536) []) k || within (at % 65536) (at % 65536 + count) k)) →
       (k : ℕ) → entered_at new k ≡ (entered_at old k || within at (at + count) k)
-  part_added here k = ⊎_elim
-      (λ (same : k / 65536 ≡ at / 65536). here_at k same new ∙ here (k % 65536) ∙ ap (λ t. t || within (at % 65536) (at % 65536 + count) (k % 65536)) (sym (here_at k same old))
-      ∙ ap (λ t. entered_at old k || t) (within_here at count fits k same))
-      (λ (other : k / 65536 ≢ at / 65536). stays k other ∙ sym (ap (λ t. entered_at old k || t) (within_other at count fits k other) ∙ or-false (entered_at old k)))
-      (cases_eq (k / 65536) (at / 65536))
+  part_added here k = grind (arith, common_steps, here_at, within_here, stays, within_other, or-false, cases_eq)
 
   pub added : (start : WordBlocks) (a : ℕ) → a ≤ at →
       ((k : ℕ) → marked (get_or new (at / 65536) []) k ≡ (marked (get_or old (at / 65536) []) k || within (at % 65536) (at % 65536 + count) k)) →
@@ -116,12 +98,7 @@ module _ (old new : WordBlocks) (at count : ℕ) (fits : at % 65536 + count ≤ 
 
   pub part_out : ((k : ℕ) → marked (get_or new (at / 65536) []) k ≡ (marked (get_or old (at / 65536) []) k && not (within (at % 65536) (at % 65536 + count) k))) →
       (k : ℕ) → entered_at new k ≡ (entered_at old k && not (within at (at + count) k))
-  part_out here k = ⊎_elim
-      (λ (same : k / 65536 ≡ at / 65536). here_at k same new ∙ here (k % 65536)
-      ∙ ap (λ t. t && not (within (at % 65536) (at % 65536 + count) (k % 65536))) (sym (here_at k same old))
-      ∙ ap (λ t. entered_at old k && not t) (within_here at count fits k same))
-      (λ (other : k / 65536 ≢ at / 65536). stays k other ∙ sym (ap (λ t. entered_at old k && not t) (within_other at count fits k other) ∙ and-true (entered_at old k)))
-      (cases_eq (k / 65536) (at / 65536))
+  part_out here k = grind (arith, common_steps, here_at, within_here, stays, within_other, and-true, cases_eq)
 
   pub taken_out : (start : WordBlocks) (a : ℕ) → a ≤ at →
       ((k : ℕ) → marked (get_or new (at / 65536) []) k ≡ (marked (get_or old (at / 65536) []) k && not (within (at % 65536) (at % 65536 + count) k))) →
@@ -162,10 +139,7 @@ near_changed f stays old new a b le others here k = ⊎_elim
 -- places up to the end of a part, by its last
 pub room_for : (words : WordBlocks) (at count : ℕ) → at % 65536 + count ≤ 65536 → 0 < count → has_word_for words (at + count - 1) ≡ true →
     at % 65536 + count ≤ 64 * length (get_or words (at / 65536) [])
-room_for words at count fits some has =
-    let block : (at + count - 1) / 65536 ≡ at / 65536 = omega (arith, fits, some) in
-    let place : (at + count - 1) % 65536 ≡ at % 65536 + count - 1 = omega (arith, fits, some) in
-    omega (arith, some, place, ltb-true _ _ has, ap (λ q. length (get_or words q [])) block)
+room_for words at count fits some has = grind (arith, common_steps, ltb-true)
 
 -- and of the first block
 pub near_room : (words : WordBlocks) (b : ℕ) → 0 < b → b ≤ 65536 → has_word_for words (b - 1) ≡ true → b ≤ 64 * length (get_or words 0 [])
@@ -184,28 +158,19 @@ count_moved p r x y (suc n) same =
 
 module _ (words : WordBlocks) (at count : ℕ) (fits : at % 65536 + count ≤ 65536) where
   at_place : (j : ℕ) → j < count → entered_at words (at + j) ≡ marked (get_or words (at / 65536) []) (at % 65536 + j)
-  at_place j lt =
-      let block : (at + j) / 65536 ≡ at / 65536 = omega (arith, fits, lt) in
-      let place : (at + j) % 65536 ≡ at % 65536 + j = omega (arith, fits, lt) in
-      ap (λ q. marked (get_or words q []) ((at + j) % 65536)) block ∙ ap (marked (get_or words (at / 65536) [])) place
+  at_place j lt = grind (arith, common_steps)
 
   back : at % 65536 + count - at % 65536 ≡ count
   back = omega arith
 
   pub counted_here : count_in (get_or words (at / 65536) []) (at % 65536) (at % 65536 + count) ≡ count_by (entered_at words) (range_with_len at count)
-  counted_here =
-      ap (λ n. count_by (marked (get_or words (at / 65536) [])) (range_with_len (at % 65536) n)) back
-      ∙ count_moved (marked (get_or words (at / 65536) [])) (entered_at words) (at % 65536) at count (λ j lt. sym (at_place j lt))
+  counted_here = grind (arith, common_steps, back, count_moved, at_place)
 
   pub missed_here : missing_in (get_or words (at / 65536) []) (at % 65536) (at % 65536 + count) ≡ count_by (λ i. not (entered_at words i)) (range_with_len at count)
-  missed_here =
-      ap (λ n. count_by (λ i. not (marked (get_or words (at / 65536) []) i)) (range_with_len (at % 65536) n)) back
-      ∙ count_moved (λ i. not (marked (get_or words (at / 65536) []) i)) (λ i. not (entered_at words i)) (at % 65536) at count (λ j lt. ap not (sym (at_place j lt)))
+  missed_here = grind (arith, common_steps, back, count_moved, at_place)
 
 pub none_missed : (a b : ℕ) → b - a ≡ missing_in [] a b
-none_missed a b =
-    let unmarked = count_outside (marked []) a (b - a) (λ i low high. unmarked_past [] i (omega arith)) in
-    omega (arith, count_not (marked []) (range_with_len a (b - a)), unmarked, length-range_with_len a (b - a))
+none_missed a b = grind (arith, common_steps, count_outside, unmarked_past, count_not, length-range_with_len)
 
 pub none_counted : (a b : ℕ) → 0 ≡ count_in [] a b
 none_counted a b = sym (count_outside (marked []) a (b - a) (λ i low high. unmarked_past [] i (omega arith)))
@@ -260,10 +225,7 @@ module _ (start old new : RowBlocks) (a at count : ℕ) (low : a ≤ at) (fits :
 
   module _ (kept : (k : ℕ) → has_slot (get_or old (at / 65536) []) k ≡ true → has_slot (get_or new (at / 65536) []) k ≡ true) where
     pub slots_stay : (k : ℕ) → has_slot_at old k ≡ true → has_slot_at new k ≡ true
-    slots_stay k has = ⊎_elim
-        (λ (same : k / 65536 ≡ at / 65536). slot_here k same new ∙ kept (k % 65536) (sym (slot_here k same old) ∙ has))
-        (λ (other : k / 65536 ≢ at / 65536). slot_other k other ∙ has)
-        (cases_eq (k / 65536) (at / 65536))
+    slots_stay k has = grind (arith, common_steps, slot_here, slot_other, cases_eq)
 
     pub slots_made : ((k : ℕ) → at % 65536 ≤ k → k < at % 65536 + count → has_slot (get_or new (at / 65536) []) k ≡ true) →
         ((k : ℕ) → a ≤ k → k < at → has_slot_at old k ≡ true) → (k : ℕ) → a ≤ k → k < at + count → has_slot_at new k ≡ true
@@ -276,20 +238,12 @@ module _ (start old new : RowBlocks) (a at count : ℕ) (low : a ≤ at) (fits :
 
   pub slots_below : ((k : ℕ) → k / 64 < at % 65536 / 64 → has_slot (get_or new (at / 65536) []) k ≡ has_slot (get_or old (at / 65536) []) k) →
       ((k : ℕ) → k / 64 < a / 64 → has_slot_at old k ≡ has_slot_at start k) → (k : ℕ) → k / 64 < a / 64 → has_slot_at new k ≡ has_slot_at start k
-  slots_below here before k below = ⊎_elim
-      (λ (same : k / 65536 ≡ at / 65536). slot_here k same new ∙ here (k % 65536) (omega (arith, same, below, low)) ∙ sym (slot_here k same old))
-      (λ (other : k / 65536 ≢ at / 65536). slot_other k other)
-      (cases_eq (k / 65536) (at / 65536))
-      ∙ before k below
+  slots_below here before k below = grind (arith, common_steps, slot_here, slot_other, cases_eq)
 
 -- those of the first block below an index
 pub near_below : (old new : RowBlocks) (a : ℕ) → KeepsOthers old new 0 → ((k : ℕ) → k / 64 < a / 64 → has_slot (get_or new 0 []) k ≡ has_slot (get_or old 0 []) k) →
     (k : ℕ) → k / 64 < a / 64 → has_slot_at new k ≡ has_slot_at old k
-near_below old new a others here k below = ⊎_elim
-    (λ (same : k / 65536 ≡ 0).
-    ap (λ q. has_slot (get_or new q []) (k % 65536)) same ∙ here (k % 65536) (omega (arith, below)) ∙ ap (λ q. has_slot (get_or old q []) (k % 65536)) (sym same))
-    (λ (other : k / 65536 ≢ 0). ap (λ block. has_slot block (k % 65536)) (others (k / 65536) other))
-    (cases_eq (k / 65536) 0)
+near_below old new a others here k below = grind (arith, common_steps, cases_eq)
 
 -- ---- the first page
 
@@ -309,10 +263,7 @@ table_emptied old new low high i are here others was =
 module _ (old new : RowBlocks) (at from to i page : ℕ) (taken : IsPageTaken (page_in (get_or old at [])) (page_in (get_or new at [])) from to i page)
     (are : AreBlocks old) (others : KeepsOthers old new at) where
   pub index_within : i < 65536
-  index_within = ⊎_elim
-      (λ (lt : i < 65536). lt)
-      (λ (past : 65536 ≤ i). absurd (false≢true (ap is_some (sym (are.within at i past)) ∙ taken.first.here)))
-      (cases_lt i 65536)
+  index_within = grind (arith, common_steps, false≢true, cases_lt)
 
   there : (blocks : RowBlocks) → page_at blocks (at * 65536 + i) ≡ page_in (get_or blocks at []) i
   there blocks =
@@ -360,11 +311,7 @@ table_as_before old new low high are same was = record { blocks = are; none_in =
 -- a page comes at index i, or goes
 pub table_set : (old new : RowBlocks) (low high after i : ℕ) → after ≡ min high i → AreBlocks new → ((k : ℕ) → (k ≡ i → ⊥) → page_at new k ≡ page_at old k)
     → IsRowTable old low high → IsRowTable new low after
-table_set old new low high after i is are others was =
-    record {
-      blocks = are;
-      none_in = λ k from below. others k (λ same. absurd (omega (arith, below, same, is))) ∙ was.none_in k from (omega (arith, below, is));
-    }
+table_set old new low high after i is are others was = grind (arith, common_steps)
 
 -- from a block, or there is none
 pub table_after : (old new : RowBlocks) (low high at from to : ℕ) (taken : Option (ℕ × ℕ)) → TakesFirst (page_in (get_or old at [])) (page_in (get_or new at [])) from to taken →

@@ -1,3 +1,4 @@
+use Rattle.std.proofs.lemmas.Grind.{common_steps}
 -- What the cells of an inode say of its parts, and what a change of a part does to the cells.
 use Rattle.std.proofs.Common.{◌≡◌, ℕ, ◌+◌, ◌-◌, ◌<◌, ◌≤◌, ◌^◌, Bool, true, false, not, List, ◌++◌, length, take}
 use Rattle.std.proofs.Common.{drop, map, replicate, get_or, set, Option, None, Some, sym, refl, ap, ◌∙◌, subst, arith, ⊎_elim}
@@ -116,14 +117,7 @@ module _ (len m : ℕ) (e : WordBlocks) (rows : RowBlocks) (kept : IsKept len m 
         recounted = same_count (entered_at e) n len beyond kept.below ∙ kept.counted
 
     resized_at : (k : ℕ) → k < n → get_or (take n (cells_of len e rows) ++ replicate (n - length (cells_of len e rows)) Hole) k Hole ≡ cell_in (cells_of len e rows) k
-    resized_at k lt = ⊎_elim
-        (λ (in' : k < len). get_or_append_left (take n (cells_of len e rows)) (replicate (n - length (cells_of len e rows)) Hole) Hole k
-        (omega (arith, length-take n (cells_of len e rows), length-cells len e rows)) ∙ get_or-take n (cells_of len e rows) k Hole lt)
-        (λ (past : len ≤ k). get_or-append_right (take n (cells_of len e rows)) (replicate (n - length (cells_of len e rows)) Hole) len k Hole
-        (omega (arith, length-take n (cells_of len e rows), length-cells len e rows)) past
-        ∙ get_or-replicate (n - length (cells_of len e rows)) (k - len) Hole Hole (omega (arith, length-cells len e rows))
-        ∙ sym (get_or_past (cells_of len e rows) k Hole (omega (arith, length-cells len e rows))))
-        (cases_lt k len)
+    resized_at k lt = grind (arith, common_steps, get_or_append_left, length-take, length-cells, get_or-take, get_or-append_right, get_or-replicate, get_or_past, cases_lt)
 
     pub resized : cells_of n e rows ≡ cells_to n (cells_of len e rows)
     resized = cells_by n (take n (cells_of len e rows) ++ replicate (n - length (cells_of len e rows)) Hole)
@@ -155,9 +149,7 @@ hole_test true (Some page) = refl
 hole_test false o = refl
 
 pub missing_cells : (len : ℕ) (s : WordBlocks) (rows : RowBlocks) (a b : ℕ) → b ≤ len → missing_count s a b ≡ count_by is_hole (part a b (cells_of len s rows))
-missing_cells len s rows a b le =
-    sym (ap (count_by is_hole) (part_is len s rows a b le) ∙ count_map is_hole (kept_cell s rows) (range_with_len a (b - a))
-    ∙ count_alike (λ i. is_hole (kept_cell s rows i)) (λ i. not (entered_at s i)) (λ i. hole_test (entered_at s i) (page_at rows i)) (range_with_len a (b - a)))
+missing_cells len s rows a b le = grind (arith, common_steps, part_is, count_map, count_alike, hole_test)
 
 entered_test : (b : Bool) (o : Option ℕ) → is_entered (cell_by b o) ≡ b
 entered_test true None = refl
@@ -165,15 +157,11 @@ entered_test true (Some page) = refl
 entered_test false o = refl
 
 pub entered_cells : (len : ℕ) (s : WordBlocks) (rows : RowBlocks) (a b : ℕ) → b ≤ len → entered_count s a b ≡ count_by is_entered (part a b (cells_of len s rows))
-entered_cells len s rows a b le =
-    sym (ap (count_by is_entered) (part_is len s rows a b le) ∙ count_map is_entered (kept_cell s rows) (range_with_len a (b - a))
-    ∙ count_alike (λ i. is_entered (kept_cell s rows i)) (entered_at s) (λ i. entered_test (entered_at s i) (page_at rows i)) (range_with_len a (b - a)))
+entered_cells len s rows a b le = grind (arith, common_steps, part_is, count_map, count_alike, entered_test)
 
 pub paged_cells : (len m : ℕ) (e : WordBlocks) (rows : RowBlocks) → IsKept len m e rows → (a b : ℕ) → b ≤ len →
     count_by (λ i. is_some (page_at rows i)) (range_with_len a (b - a)) ≡ count_by has_page (part a b (cells_of len e rows))
-paged_cells len m e rows kept a b le =
-    sym (ap (count_by has_page) (part_is len e rows a b le) ∙ count_map has_page (kept_cell e rows) (range_with_len a (b - a))
-    ∙ count_alike (λ i. has_page (kept_cell e rows i)) (λ i. is_some (page_at rows i)) (λ i. has_page_by len m e rows kept (entered_at e i) (page_at rows i) (kept.paged i)) (range_with_len a (b - a)))
+paged_cells len m e rows kept a b le = grind (arith, common_steps, part_is, count_map, count_alike, has_page_by)
 
 pub entered_in_all : (len m : ℕ) (e : WordBlocks) (rows : RowBlocks) → IsKept len m e rows → m ≡ count_by is_entered (cells_of len e rows)
 entered_in_all len m e rows kept =

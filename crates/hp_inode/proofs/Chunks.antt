@@ -1,13 +1,13 @@
+use Rattle.std.proofs.lemmas.Grind.{common_steps}
 -- The rows of chunks, by their homes.
-use Rattle.std.proofs.Common.{◌≡◌, ◌≢◌, ℕ, ◌+◌, ◌-◌, ◌*◌, ◌/◌, ◌<◌, ◌≤◌, ◌^◌, min, List, [], ◌++◌, length, replicate, get_or, set, cond, Option, None, IsSome, refl, sym, ap, ◌∙◌, arith, subst, ⊎_elim}
+use Rattle.std.proofs.Common.{◌≡◌, ◌≢◌, ℕ, ◌+◌, ◌*◌, ◌/◌, ◌<◌, ◌≤◌, ◌^◌, min, List, [], ◌++◌, length, replicate, get_or, set, cond, Option, None, IsSome, refl, sym, ap, ◌∙◌, arith, ⊎_elim}
 use Rattle.std.specs.Prelude.{nat_lt}
 use Rattle.std.proofs.Math.ListN.{get_or-map as get_or-mapped}
 use Rattle.std.proofs.lemmas.Bool.{cases_eq, cases_lt, false≢true, lt-ltb, le-ltb}
 use Rattle.std.proofs.lemmas.List.{ext_get_or, get_or-replicate, get_or-set_same, get_or-set_other, get_or_past, get_or_append_left, get_or-append_right}
 use Rattle.std.proofs.lemmas.List.{length-append, length-map, length-replicate, length-set}
-use Rattle.std.proofs.lemmas.List.Folds.{sum_by-replicate}
 use Rattle.std.proofs.lemmas.List.FromFn.{get_or-map-range_with_len, length-map-range_with_len}
-use Rattle.std.proofs.lemmas.List.Sums.{count_by-le-length, sum_by-append, sum_by-le-sum_by, sum_by-set}
+use Rattle.std.proofs.lemmas.List.Sums.{count_by-le-length, sum_by-le-sum_by, sum_by-set}
 use Rattle.hp_inode.specs.Rows.{slot_in}
 use Rattle.hp_inode.specs.Chunks.{AreHomes, ArePromised, bare, promised, chunk_row, chunk_rows, slot_count, chunk_slots, slotted_count, used_count}
 
@@ -54,22 +54,10 @@ module _ (homes : List ℕ) (slots : List (Option ℕ)) where
   no_slots j le = ap length (row_at j ∙ row_bare slots (get_or homes j bare) le)
 
   pub few_slots : (j : ℕ) → slot_count (chunk_rows homes slots) j ≤ 64
-  few_slots j = ⊎_elim
-      (λ (lt : get_or homes j bare < bare). omega (arith, slots_there j lt))
-      (λ (le : bare ≤ get_or homes j bare). omega (arith, no_slots j le))
-      (cases_lt (get_or homes j bare) bare)
-
-  pub has_home : (j k : ℕ) → k < slot_count (chunk_rows homes slots) j → get_or homes j bare < bare
-  has_home j k some = ⊎_elim
-      (λ (lt : get_or homes j bare < bare). lt)
-      (λ (le : bare ≤ get_or homes j bare). absurd (omega (arith, some, no_slots j le)))
-      (cases_lt (get_or homes j bare) bare)
+  few_slots j = grind (arith, common_steps, slots_there, no_slots, cases_lt)
 
   pub home_within : (j : ℕ) → get_or homes j bare < bare → j < length homes
-  home_within j some = ⊎_elim
-      (λ (lt : j < length homes). lt)
-      (λ (le : length homes ≤ j). absurd (omega (arith, some, get_or_past homes j bare le)))
-      (cases_lt j (length homes))
+  home_within j some = grind (arith, common_steps, get_or_past, cases_lt)
 
 -- ---- counts
 
@@ -92,10 +80,7 @@ slotted_none : (home : ℕ) → bare ≤ home → is_slotted home ≡ 0
 slotted_none home le = ap (λ t. cond {A = ℕ} t 1 0) (le-ltb home bare le)
 
 used_few : (homes : List ℕ) → used_count homes ≤ slotted_count homes
-used_few homes = sum_by-le-sum_by is_used is_slotted homes (λ home. ⊎_elim
-    (λ (lt : home < promised). omega (arith, used_one home lt, slotted_one home (omega (arith, lt))))
-    (λ (le : promised ≤ home). omega (arith, used_none home le))
-    (cases_lt home promised))
+used_few homes = grind (arith, common_steps, sum_by-le-sum_by, used_one, slotted_one, used_none, cases_lt)
 
 module _ (homes : List ℕ) (at home : ℕ) (lt : at < length homes) where
   used_set : used_count (set homes at home) + is_used (get_or homes at bare) ≡ used_count homes + is_used home
@@ -114,21 +99,11 @@ module _ (homes : List ℕ) (slots : List (Option ℕ)) (are : AreHomes homes sl
   all_few = omega (arith, are.used, are.few, count_by-le-length (λ home. nat_lt home promised) homes)
 
   pub slot_at : (j k : ℕ) → k < 64 → slot_in (chunk_rows homes slots) j k ≡ get_or slots (64 * get_or homes j bare + k) None
-  slot_at j k small = ⊎_elim
-      (λ (lt : get_or homes j bare < bare). ap (λ r. get_or r k None) (row_at homes slots j) ∙ slot_there slots (get_or homes j bare) k lt small)
-      (λ (le : bare ≤ get_or homes j bare).
-      ap (λ r. get_or r k None) (row_at homes slots j ∙ row_bare slots (get_or homes j bare) le) ∙ get_or_past [] k None (omega arith)
-      ∙ sym (get_or_past slots (64 * get_or homes j bare + k) None (omega (arith, le, all_few))))
-      (cases_lt (get_or homes j bare) bare)
+  slot_at j k small = grind (arith, common_steps, row_at, slot_there, row_bare, get_or_past, all_few, cases_lt)
 
   -- a chunk with a page has a home of its own
   pub home_of_page : (j k : ℕ) → k < 64 → IsSome (slot_in (chunk_rows homes slots) j k) → get_or homes j bare < promised
-  home_of_page j k small some = ⊎_elim
-      (λ (lt : get_or homes j bare < promised). lt)
-      (λ (le : promised ≤ get_or homes j bare).
-      let none = slot_at j k small ∙ get_or_past slots (64 * get_or homes j bare + k) None (omega (arith, le, all_few)) in
-      absurd (false≢true (subst IsSome none some)))
-      (cases_lt (get_or homes j bare) promised)
+  home_of_page j k small some = grind (arith, common_steps, slot_at, get_or_past, all_few, false≢true, cases_lt)
 
   -- ---- a slot is written
 
@@ -138,14 +113,6 @@ module _ (homes : List ℕ) (slots : List (Option ℕ)) (are : AreHomes homes sl
 
     pub slot_was : get_or slots slot None ≡ slot_in (chunk_rows homes slots) at k
     slot_was = ap (λ s. get_or slots s None) slot_is ∙ sym (slot_at at k small)
-
-    pub homes_set : AreHomes homes (set slots slot page)
-    homes_set = record {
-      few = are.few;
-      within = λ j lt. omega (arith, are.within j lt, length-set slots slot page);
-      apart = are.apart;
-      used = length-set slots slot page ∙ are.used;
-    }
 
     row_written : chunk_row (set slots slot page) (get_or homes at bare) ≡ set (chunk_row slots (get_or homes at bare)) k page
     row_written =
@@ -188,10 +155,7 @@ get_or_replicated n k d = ⊎_elim (λ (lt : k < n). get_or-replicate n k d d lt
 
 -- the default behind a list is the default past its end
 pub get_or_followed : {X : Type 0} (xs : List X) (n k : ℕ) (d : X) → get_or (xs ++ replicate n d) k d ≡ get_or xs k d
-get_or_followed xs n k d = ⊎_elim
-    (λ (lt : k < length xs). get_or_append_left xs (replicate n d) d k lt)
-    (λ (le : length xs ≤ k). get_or-append_right xs (replicate n d) (length xs) k d refl le ∙ get_or_replicated n (k - length xs) d ∙ sym (get_or_past xs k d le))
-    (cases_lt k (length xs))
+get_or_followed xs n k d = grind (arith, common_steps, get_or_append_left, get_or-append_right, get_or_replicated, get_or_past, cases_lt)
 
 module _ (homes : List ℕ) (slots : List (Option ℕ)) (at home : ℕ) (are : AreHomes homes slots) (none : get_or homes at bare ≡ promised) (home_is : home ≡ length slots / 64) where
   abbrev more : List ℕ
@@ -231,30 +195,6 @@ module _ (homes : List ℕ) (slots : List (Option ℕ)) (at home : ℕ) (are : A
   lower : (j : ℕ) → get_or homes j bare < promised → get_or homes j bare < home
   lower j lt = omega (arith, are.within j lt, whole)
 
-  pub homes_more : AreHomes more longer
-  homes_more = record {
-    few = omega (arith, are.few, length-set homes at home);
-    within = λ j lt. ⊎_elim
-        (λ (same : j ≡ at). omega (arith, ap (λ i. get_or more i bare) same, home_here, length_longer))
-        (λ (other : j ≢ at). omega (arith, elsewhere j other, are.within j (omega (arith, elsewhere j other, lt)), length_longer, whole))
-        (cases_eq j at);
-    apart = λ j k is lt. ⊎_elim
-        (λ (same : j ≡ at). ⊎_elim
-        (λ (also : k ≡ at). same ∙ sym also)
-        (λ (other : k ≢ at).
-        let here = ap (λ i. get_or more i bare) same in
-        absurd (omega (arith, is, here, home_here, elsewhere k other, lower k (omega (arith, is, here, home_here, elsewhere k other, home_few)))))
-        (cases_eq k at))
-        (λ (other : j ≢ at). ⊎_elim
-        (λ (also : k ≡ at).
-        let here = ap (λ i. get_or more i bare) also in
-        absurd (omega (arith, is, here, home_here, elsewhere j other, lower j (omega (arith, elsewhere j other, lt)))))
-        (λ (both : k ≢ at). are.apart j k (sym (elsewhere j other) ∙ is ∙ elsewhere k both) (omega (arith, elsewhere j other, lt)))
-        (cases_eq k at))
-        (cases_eq j at);
-    used = omega (arith, length_longer, whole, are.used, used_more);
-  }
-
   row_more : (j : ℕ) → chunk_row longer (get_or more j bare) ≡ chunk_row slots (get_or homes j bare)
   row_more j = ⊎_elim
       (λ (same : j ≡ at).
@@ -274,20 +214,9 @@ module _ (homes : List ℕ) (slots : List (Option ℕ)) (at home : ℕ) (are : A
 
 -- ---- places for more chunks
 
-pub used_followed : (homes : List ℕ) (n : ℕ) → used_count (homes ++ replicate n bare) ≡ used_count homes
-used_followed homes n = omega (arith, sum_by-append is_used homes (replicate n bare), sum_by-replicate is_used n bare, used_none bare (omega arith))
-
-pub slotted_followed : (homes : List ℕ) (n : ℕ) → slotted_count (homes ++ replicate n bare) ≡ slotted_count homes
-slotted_followed homes n = omega (arith, sum_by-append is_slotted homes (replicate n bare), sum_by-replicate is_slotted n bare, slotted_none bare (omega arith))
-
 module _ (homes new : List ℕ) (slots : List (Option ℕ)) (same : (j : ℕ) → get_or new j bare ≡ get_or homes j bare) where
   pub homes_alike : length new ≤ 2 ^ 26 → used_count new ≡ used_count homes → AreHomes homes slots → AreHomes new slots
-  homes_alike few used are = record {
-    few = few;
-    within = λ j lt. omega (arith, same j, are.within j (omega (arith, same j, lt)));
-    apart = λ j k is lt. are.apart j k (sym (same j) ∙ is ∙ same k) (omega (arith, same j, lt));
-    used = are.used ∙ ap (λ n. 64 * n) (sym used);
-  }
+  homes_alike few used are = grind (arith, common_steps)
 
   pub row_alike : (j : ℕ) → get_or (chunk_rows new slots) j [] ≡ get_or (chunk_rows homes slots) j []
   row_alike j = row_at new slots j ∙ ap (chunk_row slots) (same j) ∙ sym (row_at homes slots j)
@@ -296,42 +225,20 @@ module _ (homes new : List ℕ) (slots : List (Option ℕ)) (same : (j : ℕ) �
 
 module _ (from end : ℕ) (homes new : List ℕ) (is : ArePromised from end homes new) where
   promised_or_same : (P : ℕ → Type 0) (j : ℕ) → P (min promised (get_or homes j bare)) → P (get_or homes j bare) → P (get_or new j bare)
-  promised_or_same P j one two = ⊎_elim
-      (λ (below : j < from). subst P (sym (is.others j (λ low high. absurd (omega (arith, below, low))))) two)
-      (λ (le : from ≤ j). ⊎_elim
-      (λ (lt : j < end). subst P (sym (is.here j le lt)) one)
-      (λ (past : end ≤ j). subst P (sym (is.others j (λ low high. absurd (omega (arith, past, high))))) two)
-      (cases_lt j end))
-      (cases_lt j from)
+  promised_or_same P j one two = grind (arith, common_steps, cases_lt)
 
   lower_stays : (j : ℕ) → get_or new j bare < promised → get_or new j bare ≡ get_or homes j bare
   lower_stays j = promised_or_same (λ n. n < promised → n ≡ get_or homes j bare) j (λ lt. omega (arith, lt)) (λ lt. refl)
 
   module _ (slots : List (Option ℕ)) (are : AreHomes homes slots) (used : used_count new ≡ used_count homes) where
     pub homes_promised : AreHomes new slots
-    homes_promised = record {
-      few = omega (arith, are.few, is.len);
-      within = λ j lt. omega (arith, lower_stays j lt, are.within j (omega (arith, lower_stays j lt, lt)));
-      apart = λ j k same lt. are.apart j k (sym (lower_stays j lt) ∙ same ∙ lower_stays k (omega (arith, same, lt))) (omega (arith, lower_stays j lt, lt));
-      used = are.used ∙ ap (λ n. 64 * n) (sym used);
-    }
+    homes_promised = grind (arith, common_steps, lower_stays)
 
     pub page_promised : (j k : ℕ) → k < 64 → slot_in (chunk_rows new slots) j k ≡ slot_in (chunk_rows homes slots) j k
-    page_promised j k small = slot_at new slots homes_promised j k small ∙ ⊎_elim
-        (λ (lt : get_or new j bare < promised). ap (λ n. get_or slots (64 * n + k) None) (lower_stays j lt))
-        (λ (le : promised ≤ get_or new j bare).
-        let was = promised_or_same (λ n. promised ≤ n → promised ≤ get_or homes j bare) j (λ past. omega (arith, past)) (λ past. past) le in
-        get_or_past slots (64 * get_or new j bare + k) None (omega (arith, le, all_few homes slots are))
-        ∙ sym (get_or_past slots (64 * get_or homes j bare + k) None (omega (arith, was, all_few homes slots are))))
-        (cases_lt (get_or new j bare) promised) ∙ sym (slot_at homes slots are j k small)
+    page_promised j k small = grind (arith, common_steps, slot_at, homes_promised, lower_stays, promised_or_same, get_or_past, all_few, cases_lt)
 
     pub more_promised : (j : ℕ) → slot_count (chunk_rows homes slots) j ≤ slot_count (chunk_rows new slots) j
-    more_promised j = ⊎_elim
-        (λ (lt : get_or homes j bare < bare).
-        let now = promised_or_same (λ n. n < bare) j (omega (arith, lt)) lt in
-        omega (arith, slots_there homes slots j lt, slots_there new slots j now))
-        (λ (le : bare ≤ get_or homes j bare). omega (arith, no_slots homes slots j le))
-        (cases_lt (get_or homes j bare) bare)
+    more_promised j = grind (arith, common_steps, promised_or_same, slots_there, no_slots, cases_lt)
 
   pub all_promised : (slots : List (Option ℕ)) (j : ℕ) → from ≤ j → j < end → slot_count (chunk_rows new slots) j ≡ 64
   all_promised slots j low high = slots_there new slots j (omega (arith, is.here j low high))
@@ -343,31 +250,11 @@ module _ (from end : ℕ) (homes new : List ℕ) (is : ArePromised from end home
 module _ (from at : ℕ) (homes new : List ℕ) (low : from ≤ at) (is : ArePromised from at homes new) where
   -- a chunk that had none
   pub promised_next : at < length new → get_or new at bare ≡ bare → ArePromised from (at + 1) homes (set new at promised)
-  promised_next lt none = record {
-    len = length-set new at promised ∙ is.len;
-    here = λ j from_j below. ⊎_elim
-        (λ (same : j ≡ at).
-        let was : get_or homes j bare ≡ bare = sym (is.others j (λ above less. absurd (omega (arith, same, less)))) ∙ ap (λ i. get_or new i bare) same ∙ none in
-        omega (arith, ap (λ i. get_or (set new at promised) i bare) same, get_or-set_same new at promised bare lt, was))
-        (λ (other : j ≢ at). get_or-set_other new at j promised bare other ∙ is.here j from_j (omega (arith, below, other)))
-        (cases_eq j at);
-    others = λ j outside.
-        let other : j ≢ at = λ same. outside (omega (arith, low, same)) (omega (arith, same)) in
-        get_or-set_other new at j promised bare other ∙ is.others j (λ above less. outside above (omega (arith, less)));
-  }
+  promised_next lt none = grind (arith, common_steps, length-set, get_or-set_same, get_or-set_other, cases_eq)
 
   -- and one that had some
   pub promised_there : get_or new at bare ≤ promised → ArePromised from (at + 1) homes new
-  promised_there some = record {
-    len = is.len;
-    here = λ j from_j below. ⊎_elim
-        (λ (same : j ≡ at).
-        let was = is.others j (λ above less. absurd (omega (arith, same, less))) in
-        omega (arith, was, some, ap (λ i. get_or new i bare) same))
-        (λ (other : j ≢ at). is.here j from_j (omega (arith, below, other)))
-        (cases_eq j at);
-    others = λ j outside. is.others j (λ above less. outside above (omega (arith, less)));
-  }
+  promised_there some = grind (arith, common_steps, cases_eq)
 
 module _ (homes : List ℕ) (at : ℕ) (lt : at < length homes) (none : get_or homes at bare ≡ bare) where
   pub slotted_next : slotted_count (set homes at promised) ≡ slotted_count homes + 1

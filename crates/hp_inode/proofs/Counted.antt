@@ -1,5 +1,6 @@
+use Rattle.std.proofs.lemmas.Grind.{common_steps}
 -- How many indices of one block have a page.
-use Rattle.std.proofs.Common.{◌≡◌, ℕ, Bool, true, not, ◌+◌, ◌/◌, ◌%◌, ◌<◌, ◌≤◌, [], get_or, sym, ap, ◌∙◌, arith}
+use Rattle.std.proofs.Common.{◌≡◌, ℕ, Bool, true, not, ◌+◌, ◌/◌, ◌%◌, ◌<◌, ◌≤◌, [], get_or, ap, arith}
 use Rattle.std.specs.List.{count_by, range_with_len}
 use Rattle.std.specs.Option.{is_some}
 use Rattle.std.proofs.lemmas.List.FromFn.{length-range_with_len}
@@ -17,14 +18,8 @@ module _ (rows : RowBlocks) (a n : ℕ) (fits : a % 65536 + n ≤ 65536) where
   -- by the indices of their block
   pub counted_in_block : (block : Rows) → get_or rows (a / 65536) [] ≡ block →
       count_by (λ k. is_some (page_in block k)) (range_with_len (a % 65536) n) ≡ count_by (λ k. is_some (page_at rows k)) (range_with_len a n)
-  counted_in_block block is = count_moved (λ k. is_some (page_in block k)) (λ k. is_some (page_at rows k)) (a % 65536) a n (λ j lt.
-      let here : (a + j) / 65536 ≡ a / 65536 = omega (arith, fits, lt) in
-      let place : (a + j) % 65536 ≡ a % 65536 + j = omega (arith, fits, lt) in
-      ap (λ rs. is_some (page_in rs (a % 65536 + j))) (sym is) ∙ ap (λ k. is_some (page_in (get_or rows (a / 65536) []) k)) (sym place)
-      ∙ ap (λ q. is_some (page_in (get_or rows q []) ((a + j) % 65536))) (sym here))
+  counted_in_block block is = grind (arith, common_steps, count_moved)
 
   -- in a block that was not made none has one
   pub none_in_block : get_or rows (a / 65536) [] ≡ [] → 0 ≡ count_by (λ k. is_some (page_at rows k)) (range_with_len a n)
-  none_in_block is = sym (count_outside (λ k. is_some (page_at rows k)) a n (λ k low high.
-      let here : k / 65536 ≡ a / 65536 = omega (arith, fits, low, high) in
-      ap (λ q. is_some (page_in (get_or rows q []) (k % 65536))) here ∙ ap (λ rs. is_some (page_in rs (k % 65536))) is))
+  none_in_block is = grind (arith, common_steps, count_outside)

@@ -1,3 +1,4 @@
+use Rattle.std.proofs.lemmas.Grind.{common_steps}
 -- An inode after the entries of a range were dropped.
 use Rattle.std.proofs.Common.{◌≡◌, ℕ, ◌+◌, ◌-◌, ◌<◌, ◌≤◌, Bool, true, false, not, ◌&&◌, List, drop, get_or, Option, sym, refl, ap, ◌∙◌, arith, ⊎_elim}
 use Rattle.std.specs.List.{range_with_len, count_by, All}
@@ -63,9 +64,7 @@ module _ (len m : ℕ) (e new : WordBlocks) (rows : RowBlocks) (a b : ℕ) (kept
       (cases_lt k a)))
 
   pub count_gone : entered_count new 0 len + entered_count e a b ≡ m
-  count_gone =
-      let same = count_alike (entered_at new) (λ i. entered_at e i && not (within a b i)) gone (range_with_len 0 (len - 0)) in
-      omega (arith, same, count_less (entered_at e) a b (len - 0) (omega (arith, le)), kept.counted)
+  count_gone = grind (arith, common_steps, count_alike, count_less)
 
   pub dropped_kept : All (λ (cell : Cell ℕ). has_page cell ≡ false) (part a b (cells_of len e rows)) → (taken : ℕ) → taken ≡ entered_count e a b → IsKept len (m - taken) new rows
   dropped_kept pageless taken is = record {

@@ -1,14 +1,12 @@
+use Rattle.std.proofs.lemmas.Grind.{common_steps}
 -- The first page of a table, by the bits of its words.
-use Rattle.std.proofs.Common.{◌≡◌, ℕ, ◌+◌, ◌*◌, ◌/◌, ◌<◌, ◌≤◌, true, false, List, length, Option, None, Some, sym, refl, ◌∙◌, arith, ⊎_elim}
+use Rattle.std.proofs.Common.{◌≡◌, ℕ, ◌+◌, ◌*◌, ◌/◌, ◌<◌, ◌≤◌, true, false, List, Option, None, Some, sym, refl, ◌∙◌, arith, ⊎_elim}
 use Rattle.std.specs.Option.{is_some}
-use Rattle.std.proofs.lemmas.Bool.{cases_lt, false≢true, true≢false}
+use Rattle.std.proofs.lemmas.Bool.{cases_lt, true≢false}
 use Rattle.hp_marks.specs.Marks.{marked, FindsWithin, IsFirstFrom}
 use Rattle.hp_marks.proofs.Words.{unmarked_past}
 use Rattle.hp_inode.specs.EntryBlock.{IsEntries}
 use Rattle.hp_inode.specs.Rows.{Rows, page_in, FindsPage, IsFirstPage, IsTable}
-
-pub marked_within : (marks : List ℕ) (q : ℕ) → marked marks q ≡ true → q < 64 * length marks
-marked_within marks q on = ⊎_elim (λ (lt : q < 64 * length marks). lt) (λ (le : 64 * length marks ≤ q). absurd (false≢true (sym (unmarked_past marks q le) ∙ on))) (cases_lt q (64 * length marks))
 
 pub none_of : (o : Option ℕ) → is_some o ≡ false → o ≡ None
 none_of None off = refl
@@ -20,15 +18,7 @@ module _ (rows : Rows) (words marks : List ℕ) (table : IsTable rows words mark
 
   -- the words and their marks are a set of entries
   pub table_entries : IsEntries words marks
-  table_entries = record {
-    few = table.few;
-    places = table.places;
-    within = λ w on. ⊎_elim
-        (λ (lt : w < length words). lt)
-        (λ (le : length words ≤ w). absurd (table.some w on (λ i chunk. unmarked_past words i (omega (arith, le, chunk)))))
-        (cases_lt w (length words));
-    none = table.none;
-  }
+  table_entries = grind (arith, common_steps, unmarked_past, cases_lt)
 
   first_page : (a i : ℕ) → a ≤ i → marked words i ≡ true → ((k : ℕ) → a ≤ k → k < i → marked words k ≡ false) → IsFirstPage (page_in rows) a i
   first_page a i from here before = record {
@@ -37,19 +27,12 @@ module _ (rows : Rows) (words marks : List ℕ) (table : IsTable rows words mark
     none_before = λ k low high. no_page k (before k low high);
   }
 
-  -- in the word of the first index itself
-  pub page_here : (a i : ℕ) → IsFirstFrom words a i → IsFirstPage (page_in rows) a i
-  page_here a i first = first_page a i first.from first.here first.none_before
-
   module _ (a : ℕ) (here : (k : ℕ) → a ≤ k → k < 64 * (a / 64) + 64 → marked words k ≡ false) where
     none_to : (q : ℕ) → ((j : ℕ) → a / 64 + 1 ≤ j → j < q → marked marks j ≡ false) → (k : ℕ) → a ≤ k → k / 64 < q → marked words k ≡ false
     none_to q off k above below = ⊎_elim
         (λ (same : k < 64 * (a / 64) + 64). here k above same)
         (λ (later : 64 * (a / 64) + 64 ≤ k). table.none k (off (k / 64) (omega (arith, later)) below))
         (cases_lt k (64 * (a / 64) + 64))
-
-    pub none_left : ((j : ℕ) → a / 64 + 1 ≤ j → marked marks j ≡ false) → (k : ℕ) → a ≤ k → page_in rows k ≡ None
-    none_left off k above = no_page k (none_to (k / 64 + 1) (λ j low high. off j low) k above (omega arith))
 
     -- in a later word
     pub page_later : (q : ℕ) (found : Option ℕ) → IsFirstFrom marks (a / 64 + 1) q → FindsWithin words (64 * q) (64 * (64 * q / 64) + 64) found → FindsPage rows a found

@@ -1,3 +1,4 @@
+use Rattle.std.proofs.lemmas.Grind.{common_steps}
 -- The blocks after the first, by the numbers at their places.
 use Rattle.std.proofs.Common.{◌≡◌, ◌≢◌, ℕ, zero, suc, false, ◌-◌, ◌<◌, ◌≤◌, List, [], ◌∷◌, ◌++◌, map, length, get_or, set, cond, Option, None, Some, IsSome, refl, sym, ap, subst, ◌∙◌, arith, ⊎_elim}
 use Rattle.std.specs.Prelude.{nat_lt}
@@ -11,13 +12,7 @@ use Rattle.hp_inode.specs.Later.{AreLater, blocks_in, contents, made_count, nth_
 -- the numbers are as they were
 pub numbers_alike : (old new : List ℕ) (count : ℕ) → length new < 65536 → ((j : ℕ) → get_or new j 0 ≡ get_or old j 0) → made_count new ≡ made_count old →
     AreLater old count → AreLater new count
-numbers_alike old new count few same made are =
-    record {
-      few = few;
-      made = are.made ∙ sym made;
-      within = λ j. omega (arith, same j, are.within j);
-      apart = λ j k is some. are.apart j k (sym (same j) ∙ is ∙ same k) (λ none. some (same j ∙ none));
-    }
+numbers_alike old new count few same made are = grind (arith, common_steps)
 
 -- the next number, at a place that had none
 module _ (places : List ℕ) (at count : ℕ) (lt : at < length places) (none : get_or places at 0 ≡ 0) (are : AreLater places count) where
@@ -31,25 +26,7 @@ module _ (places : List ℕ) (at count : ℕ) (lt : at < length places) (none : 
   some_number = ap (λ t. cond {A = ℕ} t 1 0) (lt-ltb 0 (suc count) (omega arith))
 
   pub next_number : AreLater (set places at (suc count)) (suc count)
-  next_number =
-      record {
-        few = omega (arith, are.few, length-set places at (suc count));
-        made = omega (arith, are.made, sum_by-set (λ n. cond {A = ℕ} (nat_lt 0 n) 1 0) places at (suc count) 0 lt, ap (λ n. cond {A = ℕ} (nat_lt 0 n) 1 0) none, some_number);
-        within = λ j. ⊎_elim
-            (λ (same : j ≡ at). omega (arith, ap (λ i. get_or (set places at (suc count)) i 0) same, here))
-            (λ (differs : j ≢ at). omega (arith, other j differs, are.within j))
-            (cases_eq j at);
-        apart = λ j k is some. ⊎_elim
-            (λ (same : j ≡ at). ⊎_elim
-            (λ (also : k ≡ at). same ∙ sym also)
-            (λ (differs : k ≢ at). absurd (omega (arith, is, ap (λ i. get_or (set places at (suc count)) i 0) same, here, other k differs, are.within k)))
-            (cases_eq k at))
-            (λ (differs : j ≢ at). ⊎_elim
-            (λ (also : k ≡ at). absurd (omega (arith, is, ap (λ i. get_or (set places at (suc count)) i 0) also, here, other j differs, are.within j)))
-            (λ (both : k ≢ at). are.apart j k (sym (other j differs) ∙ is ∙ other k both) (λ zero_there. some (other j differs ∙ zero_there)))
-            (cases_eq k at))
-            (cases_eq j at);
-      }
+  next_number = grind (arith, common_steps, length-set, sum_by-set, some_number, here, other, cases_eq)
 
   pub number_fits : suc count < 65536
   number_fits = omega (arith, next_number.made, next_number.few, count_by-le-length (nat_lt 0) (set places at (suc count)))
@@ -104,9 +81,7 @@ module _ {X : Type 0} where
 
     module _ (count : ℕ) (is_count : count ≡ suc (length made)) where
       set_there : get_or (blocks_in (set places (at - 1) count) pushed) (at - 1) None ≡ Some empty
-      set_there = at_place (set places (at - 1) count) pushed (at - 1)
-          ∙ ap (nth_block pushed) (get_or-set_same places (at - 1) count 0 lt ∙ is_count)
-          ∙ ap (λ (xs : List X). get_or (map Some xs) (length made) None) is_pushed ∙ pushed_last made
+      set_there = grind (arith, common_steps, at_place, get_or-set_same, pushed_last)
 
       pub made_there : IsSome (get_or (Some first ∷ blocks_in (set places (at - 1) count) pushed) at None)
       made_there = subst (λ (block : Option X). IsSome block) (sym (later_there first (blocks_in (set places (at - 1) count) pushed) at later ∙ set_there)) refl
@@ -133,10 +108,7 @@ module _ {X : Type 0} where
     number_some none = false≢true (subst (λ (block : Option X). IsSome block) (there ∙ ap (nth_block made) none) some)
 
     place_within : at - 1 < length places
-    place_within = ⊎_elim
-        (λ (lt : at - 1 < length places). lt)
-        (λ (le : length places ≤ at - 1). absurd (number_some (get_or_past places (at - 1) 0 le)))
-        (cases_lt (at - 1) (length places))
+    place_within = grind (arith, common_steps, number_some, get_or_past, cases_lt)
 
     pub number_is : get_or places (at - 1) 0 ≡ suc (n - 1)
     number_is = omega (arith, get_or_read places (at - 1) n place_within read 0, number_some)
@@ -189,10 +161,7 @@ module _ {X : Type 0} (empty : X) (blocks : List (Option X)) (at : ℕ) where
 
   module _ (old now : X) (is : get_or blocks at None ≡ Some old) where
     within_all : at < length (contents empty blocks)
-    within_all = ⊎_elim
-        (λ (lt : at < length blocks). omega (arith, lt, length-map blocks (λ block. unwrap_or block empty)))
-        (λ (le : length blocks ≤ at). absurd (false≢true (ap is_some (sym (get_or_past blocks at None le) ∙ is))))
-        (cases_lt at (length blocks))
+    within_all = grind (arith, common_steps, length-map, false≢true, get_or_past, cases_lt)
 
     pub here_now : get_or (contents empty (set blocks at (Some now))) at empty ≡ now
     here_now = ap (λ bs. get_or bs at empty) (map-set (λ block. unwrap_or block empty) blocks at (Some now)) ∙ get_or-set_same (contents empty blocks) at now empty within_all

@@ -1,3 +1,4 @@
+use Rattle.std.proofs.lemmas.Grind.{common_steps}
 -- An inode with the room to enter a range, and as it enters it.
 use Rattle.hp_model.proofs.Counting.{count_alike}
 use Rattle.hp_model.specs.beside.Ranges.{within}
@@ -25,22 +26,14 @@ use Rattle.hp_inode.proofs.Taken.{alone_pageless}
 
 -- no more are entered than the length, nor missing than the range has
 pub few_entered : (len m : ℕ) (e : WordBlocks) (rows : RowBlocks) → IsKept len m e rows → m ≤ len
-few_entered len m e rows kept =
-    let counted = kept.counted in
-    omega (arith, counted, count_by-le-length (entered_at e) (range_with_len 0 (len - 0)), length-range_with_len 0 (len - 0))
+few_entered len m e rows kept = grind (arith, common_steps, count_by-le-length, length-range_with_len)
 
 pub few_missing : (e : WordBlocks) (a b : ℕ) → missing_count e a b ≤ b
 few_missing e a b = omega (arith, count_by-le-length (λ i. not (entered_at e i)) (range_with_len a (b - a)), length-range_with_len a (b - a))
 
 -- with no range
 pub unready : (len m pages : ℕ) (e : WordBlocks) (rows : RowBlocks) (a : ℕ) → IsKept len m e rows → pages ≡ count_by has_page (cells_of len e rows) → IsReady len m pages e rows a 0
-unready len m pages e rows a kept paged = record {
-  kept = kept;
-  paged = paged;
-  small = omega arith;
-  slots = λ k low high. absurd (omega (arith, high));
-  room = λ k low high. absurd (omega (arith, high));
-}
+unready len m pages e rows a kept paged = grind (arith, common_steps)
 
 -- with the same entries in more words, the same pages, and more slots
 module _ (len m : ℕ) (e new : WordBlocks) (rows made : RowBlocks) (same : (k : ℕ) → entered_at new k ≡ entered_at e k) (pages : (k : ℕ) → page_at made k ≡ page_at rows k) where
@@ -83,11 +76,7 @@ module _ (len m : ℕ) (e : WordBlocks) (rows : RowBlocks) (b long : ℕ) (kept 
   longer_kept = (let was = kept.small in resized_kept len m e rows kept long holes (omega (arith, long_is, small, was)))
 
   lengthened : cells_to long (cells_of len e rows) ≡ at_least b (cells_of len e rows)
-  lengthened =
-      let cells : List (Cell ℕ) = cells_of len e rows in
-      let here = length-cells len e rows in
-      ap (λ xs. xs ++ replicate (long - length cells) Hole) (take_all long cells (omega (arith, here, long_is)))
-      ∙ ap (λ n. cells ++ replicate n Hole) (let same : long - length cells ≡ b - length cells = omega (arith, here, long_is) in same)
+  lengthened = grind (arith, common_steps, length-cells, take_all)
 
   pub longer_cells : cells_of long e rows ≡ at_least b (cells_of len e rows)
   longer_cells = resized len m e rows kept long holes ∙ lengthened

@@ -1,3 +1,4 @@
+use Rattle.std.proofs.lemmas.Grind.{common_steps}
 -- The indices of a range taken out, part by part.
 use Rattle.std.proofs.Common.{◌≡◌, ℕ, ◌+◌, ◌-◌, ◌*◌, ◌/◌, ◌%◌, ◌^◌, ◌<◌, ◌≤◌, min, Bool, true, false, not, ◌&&◌}
 use Rattle.std.proofs.Common.{eqb, List, length, get_or, set, sym, refl, ap, ◌∙◌, arith, ⊎_elim, bit_and, count_ones, Option, None, Some}
@@ -50,21 +51,10 @@ joined old mid new a m b c d sum low high sum_is one two =
 
 -- a range that has none
 pub none_removed : (words : List ℕ) (a b : ℕ) → IsBlank words a b → IsRemoved a b words words 0
-none_removed words a b blank = record {
-  counted = sym (count_outside (marked words) a (b - a) (λ k low high. blank k low (omega (arith, low, high))));
-  left = λ k. ⊎_elim
-      (λ (below : k < a). sym (kept words a b k (within-below a b k below)))
-      (λ (from : a ≤ k). ⊎_elim
-      (λ (lt : k < b). let none = blank k from lt in none ∙ ap (λ t. t && not (within a b k)) (sym none))
-      (λ (past : b ≤ k). sym (kept words a b k (within-past a b k past)))
-      (cases_lt k b))
-      (cases_lt k a);
-}
+none_removed words a b blank = grind (arith, common_steps, count_outside, kept, within-below, within-past, cases_lt)
 
 pub not_begun : (words : List ℕ) (a count : ℕ) → count ≡ 0 → IsRemoved a a words words count
-not_begun words a count count_is =
-    let none = none_removed words a a (λ k low high. absurd (omega (arith, low, high))) in
-    record { counted = count_is ∙ none.counted; left = none.left }
+not_begun words a count count_is = grind (arith, common_steps, none_removed)
 
 pub none_past : (words : List ℕ) (a b m : ℕ) → m ≡ min b (64 * length words) → m ≤ a → IsRemoved a b words words 0
 none_past words a b m m_is le = none_removed words a b (λ k low high. unmarked_past words k (omega (arith, m_is, le, low, high)))

@@ -1,3 +1,4 @@
+use Rattle.std.proofs.lemmas.Grind.{common_steps}
 -- An inode after a range was entered.
 use Rattle.std.proofs.Common.{◌≡◌, ℕ, ◌+◌, ◌-◌, ◌<◌, ◌≤◌, Bool, true, false, not, ◌&&◌, ◌||◌, Option, None, Some, sym, refl, ap, ◌∙◌, subst, arith, ⊎_elim}
 use Rattle.std.specs.List.{range_with_len, count_by}
@@ -40,9 +41,7 @@ module _ (len m : ℕ) (e new : WordBlocks) (rows made : RowBlocks) (a b : ℕ) 
   cases_new k P was now p = ⊎_elim was (λ w. now (within-in a b k w).0 (within-in a b k w).1) (or_cases (entered_at e k) (within a b k) (sym (holds_new k) ∙ p))
 
   pub count_new : entered_count new 0 len ≡ m + missing_count e a b
-  count_new =
-      let same = count_alike (entered_at new) (λ i. entered_at e i || within a b i) holds_new (range_with_len 0 (len - 0)) in
-      omega (arith, same, count_more (entered_at e) a b (len - 0) (omega (arith, le)), kept.counted)
+  count_new = grind (arith, common_steps, count_alike, count_more)
 
   pub reserved_kept : ((k : ℕ) → has_slot_at rows k ≡ true → has_slot_at made k ≡ true) → ((k : ℕ) → a ≤ k → k < b → has_slot_at made k ≡ true) → IsKept len (m + missing_count e a b) new made
   reserved_kept stay fresh = record {

@@ -1,3 +1,4 @@
+use Rattle.std.proofs.lemmas.Grind.{common_steps}
 -- Entries of a range, put in or taken out with the marks of their words, and how many of a range there are.
 use Rattle.std.proofs.Common.{◌≡◌, ℕ, ◌+◌, ◌-◌, ◌*◌, ◌/◌, ◌%◌, ◌^◌, ◌<◌, ◌≤◌, min, Bool, true, false, not, ◌&&◌, ◌||◌, eqb, List}
 use Rattle.std.proofs.Common.{length, set, sym, ap, ◌∙◌, arith, ⊎_elim, Option, None, Some, bit_and, count_ones}
@@ -41,12 +42,7 @@ spread_entries words marks new news a b is le long longs here above = record {
 -- in more words
 pub grown_entries : (words marks new news : List ℕ) → IsEntries words marks → length words ≤ length new → length new ≤ 64 * length news →
     length news < 2 ^ 32 → ((k : ℕ) → marked new k ≡ marked words k) → ((k : ℕ) → marked news k ≡ marked marks k) → IsEntries new news
-grown_entries words marks new news is more places few here above = record {
-  few = few;
-  places = places;
-  within = λ w on. omega (arith, more, is.within w (sym (above w) ∙ on));
-  none = λ k clear. here k ∙ is.none k (sym (above (k / 64)) ∙ clear);
-}
+grown_entries words marks new news is more places few here above = grind (arith, common_steps)
 
 -- a word has fewer bits
 pub cleared_entries : (words marks new : List ℕ) (at left : ℕ) → IsEntries words marks → at < length words → length new ≡ length marks →

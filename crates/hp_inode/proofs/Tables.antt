@@ -1,6 +1,7 @@
+use Rattle.std.proofs.lemmas.Grind.{common_steps}
 -- The rows of a page table with the bits of its pages and their marks, after a change.
 use Rattle.std.proofs.Common.{◌≡◌, ℕ, ◌+◌, ◌*◌, ◌<◌, ◌≤◌, ◌/◌, ◌%◌, ◌^◌, Bool, true, false, not, List, [], eqb}
-use Rattle.std.proofs.Common.{length, get_or, set, ltb, Option, None, sym, refl, ap, ◌∙◌, arith, ⊎_elim}
+use Rattle.std.proofs.Common.{length, get_or, set, Option, None, sym, refl, ap, ◌∙◌, arith, ⊎_elim}
 use Rattle.std.specs.Int.{bit_at, trailing_zeros, w64}
 use Rattle.std.specs.Option.{is_some}
 use Rattle.std.specs.List.{refill}
@@ -58,9 +59,7 @@ module _ (rows : Rows) (i : ℕ) (o : Option ℕ) (slot : has_slot rows i ≡ tr
   slot_there = ltb-true (i % 64) (length row) slot
 
   pub chunk_there : i / 64 < length rows
-  chunk_there = ⊎_elim (λ (lt : i / 64 < length rows). lt)
-      (λ (le : length rows ≤ i / 64). absurd (omega (arith, slot_there, ap length (get_or_past rows (i / 64) [] le))))
-      (cases_lt (i / 64) (length rows))
+  chunk_there = grind (arith, common_steps, slot_there, get_or_past, cases_lt)
 
   row_here : get_or changed (i / 64) [] ≡ set row (i % 64) o
   row_here = get_or-set_same rows (i / 64) (set row (i % 64) o) [] chunk_there
@@ -69,21 +68,10 @@ module _ (rows : Rows) (i : ℕ) (o : Option ℕ) (slot : has_slot rows i ≡ tr
   page_in_set = ap (λ r. get_or r (i % 64) None) row_here ∙ get_or-set_same row (i % 64) o None slot_there
 
   pub page_in_others : (k : ℕ) → (k ≡ i → ⊥) → page_in changed k ≡ page_in rows k
-  page_in_others k differs = ⊎_elim
-      (λ (here : k / 64 ≡ i / 64).
-      let place : k % 64 ≡ i % 64 → ⊥ = λ e. differs (omega (arith, here, e)) in
-      ap (λ r. get_or r (k % 64) None) (ap (λ n. get_or changed n []) here ∙ row_here) ∙ get_or-set_other row (i % 64) (k % 64) o None place
-      ∙ sym (ap (λ n. get_or (get_or rows n []) (k % 64) None) here))
-      (λ (other : k / 64 ≡ i / 64 → ⊥). ap (λ r. get_or r (k % 64) None) (get_or-set_other rows (i / 64) (k / 64) (set row (i % 64) o) [] other))
-      (cases_eq (k / 64) (i / 64))
+  page_in_others k differs = grind (arith, common_steps, row_here, get_or-set_other, cases_eq)
 
   pub has_slot_set : (k : ℕ) → has_slot changed k ≡ has_slot rows k
-  has_slot_set k = ⊎_elim
-      (λ (here : k / 64 ≡ i / 64).
-      ap (λ r. ltb (k % 64) (length r)) (ap (λ n. get_or changed n []) here ∙ row_here) ∙ ap (ltb (k % 64)) (length-set row (i % 64) o)
-      ∙ sym (ap (λ n. ltb (k % 64) (length (get_or rows n []))) here))
-      (λ (other : k / 64 ≡ i / 64 → ⊥). ap (λ r. ltb (k % 64) (length r)) (get_or-set_other rows (i / 64) (k / 64) (set row (i % 64) o) [] other))
-      (cases_eq (k / 64) (i / 64))
+  has_slot_set k = grind (arith, common_steps, row_here, length-set, get_or-set_other, cases_eq)
 
   -- with its bit, and the mark of the word
   module _ (words marks new : List ℕ) (on : Bool) (table : IsTable rows words marks) (long : length new ≡ length words) (here : marked new i ≡ is_some o)

@@ -1,5 +1,6 @@
+use Rattle.std.proofs.lemmas.Grind.{common_steps}
 -- A file for another in which each number stands at as many places.
-use Rattle.std.proofs.Common.{◌≡◌, ◌≢◌, ◌==◌, ⊎_elim, true, false, ℕ, ◌<◌, List, length, sym, ap, subst, ◌∙◌, arith}
+use Rattle.std.proofs.Common.{◌≡◌, ℕ, ◌<◌, List, length, arith}
 use Rattle.std.specs.Prelude.{slice_set}
 use Rattle.std.specs.List.{sum_by}
 use Rattle.std.proofs.lemmas.Bool.Decides.{eqb_tells}
@@ -20,18 +21,7 @@ module _ (s : Store) (more : ℕ) (fs : List NumberedFile) (h : IsHeld s more fs
   own_as n = (let step = sum_by-set (λ (x : NumberedFile). sum_by (in_cell n) x.cells) fs k g no_file l in let same = cells_as n in omega (arith, step, same))
 
   at_as : (n j : ℕ) → in_file n (numbered_at (slice_set fs k g) j) ≡ in_file n (numbered_at fs j)
-  at_as n j = ⊎_elim
-      (λ (e : ((j == k) ≡ true) × (j ≡ k)). (ap (λ x. in_file n (numbered_at (slice_set fs k g) x)) e.1
-      ∙ ap (in_file n) (get_or-set_same fs k g no_file l) ∙ file_as n ∙ ap (λ x. in_file n (numbered_at fs x)) (sym e.1)))
-      (λ (e : ((j == k) ≡ false) × (j ≢ k)). ap (in_file n) (get_or-set_other fs k j g no_file e.1))
-      (eqb_tells j k)
+  at_as n j = grind (arith, common_steps, get_or-set_same, no_file, get_or-set_other, eqb_tells)
 
   pub alike_held : IsHeld s more (slice_set fs k g)
-  alike_held = record {
-    held = λ n. h.held n ∙ sym (files_as n);
-    some = h.some;
-    alone = λ n some. files_as n ∙ h.alone n (subst (λ x. 0 < x) (own_as n) some);
-    apart = λ n j lj some. files_as n ∙ h.apart n j (subst (λ x. j < x) (length-set fs k g) lj) (subst (λ x. 0 < x) (at_as n j) some) ∙ sym (at_as n j);
-    counted = h.counted;
-    parts = h.parts;
-  }
+  alike_held = grind (arith, common_steps, files_as, own_as, length-set, at_as)

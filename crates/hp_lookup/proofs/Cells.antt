@@ -1,7 +1,7 @@
+use Rattle.std.proofs.lemmas.Grind.{common_steps}
 -- A page of a file, as it is put in and written.
-use Rattle.std.proofs.Common.{◌≡◌, ◌≢◌, ℕ, ◌+◌, ◌<◌, ◌≤◌, ◌==◌, ⊎_elim, ◌⊎◌, inl, inr, true, false, Option, None, Some, List, [], length, map, refl, sym, ap, ◌∙◌, arith}
+use Rattle.std.proofs.Common.{◌≡◌, ◌≢◌, ℕ, ◌+◌, ◌<◌, ◌≤◌, ◌==◌, ⊎_elim, ◌⊎◌, true, false, Option, None, Some, List, [], length, map, refl, sym, ap, ◌∙◌, arith}
 use Rattle.std.specs.Prelude.{slice_set}
-use Rattle.std.specs.List.{sum_by}
 use Rattle.std.specs.Option.{option_map}
 use Rattle.std.proofs.Math.ListN as listn
 use Rattle.std.proofs.lemmas.Bool.Decides.{eqb_tells}
@@ -16,7 +16,7 @@ use Rattle.hp_store.specs.Store.{Store, Holding, page_at, holders_of, first_held
 use Rattle.hp_store.specs.Store as store
 use Rattle.hp_lookup.specs.Files.{file_at}
 use Rattle.hp_lookup.specs.Numbered.{NumberedFile, numbered_at, page_in, cell_shown, map_shown, file_shown, files_shown}
-use Rattle.hp_lookup.specs.Held.{IsHeld, in_cell, in_map, in_file, in_files, in_cells, more_of, more_in}
+use Rattle.hp_lookup.specs.Held.{IsHeld, in_cell, in_map, in_file, in_files, in_cells, more_in}
 use Rattle.hp_lookup.proofs.Lifting.{map_same, map_but, at_most, Agree, is_it, is_other, cell_same, map_shows_same, file_same, files_same}
 
 -- ---- one file of a list
@@ -39,10 +39,7 @@ one_is_none e = cc
 -- each page has a holder still, where one more is put in
 pub some_put : (n : ℕ) (s t : Store) (agree : Agree n s t) (page : Page) (is : page_at t n ≡ Some (first_held page)) →
     ((m : ℕ) → holders_of (page_at s m) ≡ 0 → page_at s m ≡ None) → (m : ℕ) → holders_of (page_at t m) ≡ 0 → page_at t m ≡ None
-some_put n s t agree page is some m none = ⊎_elim
-    (λ (e : ((m == n) ≡ true) × (m ≡ n)). absurd (one_is_none (sym (ap holders_of (ap (page_at t) e.1 ∙ is)) ∙ none)))
-    (λ (e : ((m == n) ≡ false) × (m ≢ n)). agree m e.1 ∙ some m (sym (ap holders_of (agree m e.1)) ∙ none))
-    (eqb_tells m n)
+some_put n s t agree page is some m none = grind (arith, common_steps, one_is_none, eqb_tells)
 
 abbrev pub with_number : NumberedFile → ℕ → ℕ → NumberedFile
 with_number f i n = record f { cells = slice_set f.cells i (Present n) }
@@ -54,70 +51,26 @@ module _ (n : ℕ) (s t : Store) (agree : Agree n s t) (page : Page) (is : page_
   f = numbered_at fs k
 
   pub fill_shows : files_shown t (slice_set fs k (with_number f i n)) ≡ slice_set (files_shown s fs) k (with_cell (file_at (files_shown s fs) k) i (Present page))
-  fill_shows =
-      let same : file_shown t f ≡ file_at (files_shown s fs) k = file_same n s t agree f (none_in n fs k l fresh) ∙ sym (file_is s fs k l) in
-      map-set (file_shown t) fs k (with_number f i n)
-      ∙ ap (λ xs. slice_set xs k (file_shown t (with_number f i n))) (files_same n s t agree fs fresh)
-      ∙ ap (λ cs. slice_set (files_shown s fs) k (record (file_shown t f) { cells = cs })) (map-set (cell_shown t) f.cells i (Present n))
-      ∙ ap (λ h. slice_set (files_shown s fs) k (record (file_shown t f) { cells = slice_set (map (cell_shown t) f.cells) i (Present (page_in h)) })) is
-      ∙ ap (λ x. slice_set (files_shown s fs) k (with_cell x i (Present page))) same
+  fill_shows = grind (arith, common_steps, file_same, none_in, file_is, map-set, files_same)
 
   in_cell_of : (m : ℕ) → i < length f.cells → cell_in f.cells i ≡ Entered → in_file m (with_number f i n) ≡ in_file m f + in_cell m (Present n)
-  in_cell_of m below entered =
-      let step = sum_by-set (in_cell m) f.cells i (Present n) Hole below in
-      let was = ap (in_cell m) entered in
-      omega (arith, step, was)
+  in_cell_of m below entered = grind (arith, common_steps, sum_by-set)
 
   in_cells_of : (m : ℕ) → i < length f.cells → cell_in f.cells i ≡ Entered → in_files m (slice_set fs k (with_number f i n)) ≡ in_files m fs + in_cell m (Present n)
-  in_cells_of m below entered =
-      let step = sum_by-set (in_file m) fs k (with_number f i n) no_file l in
-      let one = in_cell_of m below entered in
-      omega (arith, step, one)
+  in_cells_of m below entered = grind (arith, common_steps, sum_by-set, in_cell_of)
 
   own_cells_of : (m : ℕ) → i < length f.cells → cell_in f.cells i ≡ Entered → in_cells m (slice_set fs k (with_number f i n)) ≡ in_cells m fs + in_cell m (Present n)
-  own_cells_of m below entered =
-      let step = sum_by-set (λ (x : NumberedFile). sum_by (in_cell m) x.cells) fs k (with_number f i n) no_file l in
-      let one = sum_by-set (in_cell m) f.cells i (Present n) Hole below in
-      let was = ap (in_cell m) entered in
-      omega (arith, step, one, was)
+  own_cells_of m below entered = grind (arith, common_steps, sum_by-set)
 
   at_j : (m j : ℕ) → i < length f.cells → cell_in f.cells i ≡ Entered → j < length fs →
       ((j ≡ k) × (in_file m (numbered_at (slice_set fs k (with_number f i n)) j) ≡ in_file m (numbered_at fs j) + in_cell m (Present n)))
       ⊎ ((j ≢ k) × (in_file m (numbered_at (slice_set fs k (with_number f i n)) j) ≡ in_file m (numbered_at fs j)))
-  at_j m j below entered lj = ⊎_elim
-      (λ (e : ((j == k) ≡ true) × (j ≡ k)). inl (
-        e.1,
-        ap (λ x. in_file m (numbered_at (slice_set fs k (with_number f i n)) x)) e.1
-            ∙ ap (in_file m) (get_or-set_same fs k (with_number f i n) no_file l) ∙ in_cell_of m below entered
-            ∙ ap (λ x. in_file m (numbered_at fs x) + in_cell m (Present n)) (sym e.1),
-      ))
-      (λ (e : ((j == k) ≡ false) × (j ≢ k)). inr (e.1, ap (in_file m) (get_or-set_other fs k j (with_number f i n) no_file e.1)))
-      (eqb_tells j k)
+  at_j m j below entered lj = grind (arith, common_steps, get_or-set_same, in_cell_of, get_or-set_other, eqb_tells)
 
   fill_apart : (more : ℕ) → i < length f.cells → cell_in f.cells i ≡ Entered → IsHeld s more fs → (m j : ℕ) →
       j < length (slice_set fs k (with_number f i n)) → 0 < in_file m (numbered_at (slice_set fs k (with_number f i n)) j)
       → in_files m (slice_set fs k (with_number f i n)) ≡ in_file m (numbered_at (slice_set fs k (with_number f i n)) j)
-  fill_apart more below entered h m j below_j some =
-      let long = length-set fs k (with_number f i n) in
-      let lj : j < length fs = omega (arith, below_j, long) in
-      let total = in_cells_of m below entered in
-      ⊎_elim
-      (λ (e : ((m == n) ≡ true) × (m ≡ n)). (
-      let none : in_files m fs ≡ 0 = ap (λ x. in_files x fs) e.1 ∙ fresh in
-      let none_j = none_in m fs j lj none in
-      ⊎_elim (λ (q : (j ≡ k) × (in_file m (numbered_at (slice_set fs k (with_number f i n)) j) ≡ in_file m (numbered_at fs j)
-      + in_cell m (Present n))). (let here = q.1 in omega (arith, total, none, none_j, here)))
-      (λ (q : (j ≢ k) × (in_file m (numbered_at (slice_set fs k (with_number f i n)) j) ≡ in_file m (numbered_at fs j))).
-      (let here = q.1 in omega (arith, some, none_j, here))) (at_j m j below entered lj)))
-      (λ (e : ((m == n) ≡ false) × (m ≢ n)). (
-      let zero_more = is_other n m (λ x. e.1 (sym x)) in
-      ⊎_elim (λ (q : (j ≡ k) × (in_file m (numbered_at (slice_set fs k (with_number f i n)) j) ≡ in_file m (numbered_at fs j)
-      + in_cell m (Present n))). (let here = q.1 in let had = h.apart m j lj (omega (arith, some, here, zero_more)) in
-      omega (arith, total, here, had, zero_more)))
-      (λ (q : (j ≢ k) × (in_file m (numbered_at (slice_set fs k (with_number f i n)) j) ≡ in_file m (numbered_at fs j))).
-      (let here = q.1 in let had = h.apart m j lj (omega (arith, some, here)) in omega (arith, total, here, had, zero_more)))
-      (at_j m j below entered lj)))
-      (eqb_tells m n)
+  fill_apart more below entered h m j below_j some = grind (arith, common_steps, length-set, in_cells_of, none_in, at_j, is_other, eqb_tells)
 
   pub fill_held : (more : ℕ) → i < length f.cells → cell_in f.cells i ≡ Entered → more_in t.pages ≡ more_in s.pages → more ≤ t.room →
       IsHeld s more fs → IsHeld t more (slice_set fs k (with_number f i n))
@@ -149,10 +102,7 @@ pub inserted_is : (n : ℕ) (page : Page) (s : Store) → n < length s.pages →
 inserted_is n page s l = get_or-set_same s.pages n (Some (first_held page)) None l
 
 pub inserted_more : (n : ℕ) (page : Page) (s : Store) → n < length s.pages → page_at s n ≡ None → more_in (inserted n page s).pages ≡ more_in s.pages
-inserted_more n page s l none =
-    let step = sum_by-set more_of s.pages n (Some (first_held page)) None l in
-    let was = ap more_of none in
-    omega (arith, step, was)
+inserted_more n page s l none = grind (arith, common_steps, sum_by-set)
 
 -- a free number stands nowhere
 pub free_is_fresh : (s : Store) (more : ℕ) (fs : List NumberedFile) (n : ℕ) → IsHeld s more fs → page_at s n ≡ None → in_files n fs ≡ 0
@@ -174,10 +124,7 @@ module _ (n : ℕ) (s : Store) (offset : ℕ) (bytes : List ℕ) (some : Holding
   write_agrees k other = get_or-set_other s.pages n k (option_map (written_in offset bytes) (page_at s n)) None other
 
   pub write_holders : (m : ℕ) → holders_of (page_at t m) ≡ holders_of (page_at s m)
-  write_holders m = ⊎_elim
-      (λ (e : ((m == n) ≡ true) × (m ≡ n)). (ap (λ x. holders_of (page_at t x)) e.1 ∙ ap holders_of now_is ∙ sym (ap (λ x. holders_of (page_at s x)) e.1 ∙ ap holders_of is)))
-      (λ (e : ((m == n) ≡ false) × (m ≢ n)). ap holders_of (write_agrees m e.1))
-      (eqb_tells m n)
+  write_holders m = grind (arith, common_steps, now_is, write_agrees, eqb_tells)
 
   write_some : ((m : ℕ) → holders_of (page_at s m) ≡ 0 → page_at s m ≡ None) → (m : ℕ) → holders_of (page_at t m) ≡ 0 → page_at t m ≡ None
   write_some each m none = ⊎_elim
@@ -189,12 +136,7 @@ module _ (n : ℕ) (s : Store) (offset : ℕ) (bytes : List ℕ) (some : Holding
       there e = cc
 
   pub write_held : (more : ℕ) (fs : List NumberedFile) → IsHeld s more fs → IsHeld t more fs
-  write_held more fs h =
-      let step = sum_by-set more_of s.pages n (option_map (written_in offset bytes) (page_at s n)) None within in
-      let was = ap more_of is in
-      let here = ap (λ o. more_of (option_map (written_in offset bytes) o)) is in
-      let same : more_in t.pages ≡ more_in s.pages = omega (arith, step, was, here) in
-      record { held = λ m. write_holders m ∙ h.held m; some = write_some h.some; alone = h.alone; apart = h.apart; counted = h.counted ∙ sym same; parts = h.parts }
+  write_held more fs h = grind (arith, common_steps, sum_by-set, write_holders, write_some)
 
   shown_now : cell_shown t (Present n) ≡ cell_written offset bytes (cell_shown s (Present n))
   shown_now = ap (λ h. Present (page_in h)) now_is ∙ sym (ap (λ h. cell_written offset bytes (Present (page_in h))) is)

@@ -1,5 +1,6 @@
+use Rattle.std.proofs.lemmas.Grind.{common_steps}
 -- A map is found by the numbers of its task and its own.
-use Rattle.std.proofs.Common.{◌≡◌, ℕ, ◌+◌, ◌<◌, ◌≤◌, Bool, true, false, not, cond, ltb, List, [], ◌∷◌, length, map, Some, None, refl, sym, ap, subst, ◌∙◌, arith}
+use Rattle.std.proofs.Common.{◌≡◌, ℕ, ◌+◌, ◌<◌, ◌≤◌, Bool, true, false, not, cond, ltb, List, [], ◌∷◌, length, map, Some, None, refl, sym, ap, ◌∙◌, arith}
 use Rattle.std.specs.Prelude.{unwrap_or, ◌||◌}
 use Rattle.std.specs.List.{list_any, position_or_len, slice_index_or}
 use Rattle.std.specs.Option.{option_map}
@@ -8,8 +9,7 @@ use Rattle.std.proofs.lemmas.List.{get_or-map, length-map}
 use Rattle.std.proofs.lemmas.List.Sums.{prefix_len-le-length, passes_at_first, fails_before_first}
 use Rattle.hp_model.specs.files.File.{File, new_file}
 use Rattle.hp_model.specs.Lists.{found}
-use Rattle.hp_model.specs.files.Mapping.{Map, is_map}
-use Rattle.hp_model.specs.machine.Promises.{no_map}
+use Rattle.hp_model.specs.files.Mapping.{is_map}
 use Rattle.hp_model.specs.files.Spot.{spot_in}
 use Rattle.hp_model.proofs.Finding as finding
 use Rattle.hp_store.specs.Store.{Store}
@@ -65,19 +65,7 @@ any_position test (x ∷ xs) e = any_step test (test x) x xs (any_position test 
 
 pub map_found : (fs : List File) (task number k j : ℕ) → k ≡ position_or_len (has_it task number) fs → k < length fs →
     j ≡ position_or_len (is_map task number) (file_at fs k).maps → IsFound fs task number k j
-map_found fs task number k j k_is within j_is =
-    let test : Map → Bool = is_map task number in
-    let f : File = file_at fs k in
-    let here : position_or_len (has_it task number) fs < length fs = omega (arith, k_is, within) in
-    let passes : has_it task number f ≡ true = subst (λ i. has_it task number (slice_index_or fs i (new_file None)) ≡ true) (sym k_is) (passes_at_first (has_it task number) fs (new_file None) here) in
-    let inside : position_or_len test f.maps < length f.maps = any_position test f.maps passes in
-    let file_is : found (has_it task number) fs ≡ Some (k, f) = found_at (has_it task number) fs (new_file None) here ∙ ap (λ i. Some (i, slice_index_or fs i (new_file None))) (sym k_is) in
-    let map_is : found test f.maps ≡ Some (j, slice_index_or f.maps j no_map) = found_at test f.maps no_map inside ∙ ap (λ i. Some (i, slice_index_or f.maps i no_map)) (sym j_is) in
-    record {
-      is = λ limits. ap (λ o. elim o [ None ↦ None | Some q ↦ option_map (spot_in q) (found test q.1.maps) ]) file_is ∙ ap (option_map (spot_in (k, f))) map_is;
-      file_within = within;
-      map_within = omega (arith, j_is, inside);
-    }
+map_found fs task number k j k_is within j_is = grind (arith, common_steps, passes_at_first, any_position, found_at)
 
 pub no_map_found : (fs : List File) (task number : ℕ) → length fs ≤ position_or_len (has_it task number) fs → IsMissing fs task number
 no_map_found fs task number past limits =

@@ -1,6 +1,7 @@
+use Rattle.std.proofs.lemmas.Grind.{common_steps}
 -- A file that gives back: pages that it lost go, and the other files keep theirs.
-use Rattle.std.proofs.Common.{◌≡◌, ◌≢◌, ℕ, zero, suc, ◌+◌, ◌-◌, ◌<◌, ◌≤◌, ◌==◌, ◌||◌, nat_lt, ⊎_elim, true, false, cond, None}
-use Rattle.std.proofs.Common.{Some, List, [], ◌∷◌, ◌++◌, length, take, drop, map, replicate, refl, sym, ap, subst, ◌∙◌, arith}
+use Rattle.std.proofs.Common.{◌≡◌, ℕ, zero, suc, ◌+◌, ◌-◌, ◌<◌, ◌≤◌, ◌||◌, nat_lt, true, false, cond, None}
+use Rattle.std.proofs.Common.{Some, List, [], ◌∷◌, length, drop, map, replicate, refl, sym, ap, subst, ◌∙◌, arith}
 use Rattle.std.specs.Prelude.{is_some, slice_set, slice_index_or}
 use Rattle.std.specs.List.{All, count_by, filter, sum_by}
 use Rattle.std.proofs.lemmas.Bool.Decides.{eqb_tells}
@@ -15,7 +16,6 @@ use Rattle.hp_model.specs.files.GiveBack.{is_kept, punched, truncated}
 use Rattle.hp_model.specs.files.Mapping.{Map, Mapping, is_unconsumed, map_punched, without_copy}
 use Rattle.hp_model.specs.files.MountCounts.{file_reserves, is_waiting, owner_reserves}
 use Rattle.hp_model.specs.files.Page.{Copy, Page}
-use Rattle.hp_model.specs.Lists.{edit_range}
 use Rattle.hp_model.proofs.Counting.{count_alike, count_map}
 use Rattle.hp_model.proofs.Editing.{sum_by-edit_range}
 use Rattle.hp_laws.proofs.lists.Places.{sum_by-map_le}
@@ -55,32 +55,13 @@ module _ (s t : Store) (more now : ℕ) (fs : List NumberedFile) (h : IsHeld s m
   files_of n = (let step = sum_by-set (in_file n) fs k y no_file l in let was = ap (in_file n) x_is in omega (arith, step, was))
 
   cells_of : (n : ℕ) → in_cells n gs + sum_by (in_cell n) x.cells ≡ in_cells n fs + sum_by (in_cell n) y.cells
-  cells_of n =
-      let step = sum_by-set (λ (f : NumberedFile). sum_by (in_cell n) f.cells) fs k y no_file l in
-      let was = ap (λ (f : NumberedFile). sum_by (in_cell n) f.cells) x_is in
-      omega (arith, step, was)
+  cells_of n = grind (arith, common_steps, sum_by-set, no_file, x_is)
 
   held : (n : ℕ) → holders_of (page_at t n) ≡ in_files n gs
   held n = (let had = h.held n in let went = d.held n in let all = files_of n in omega (arith, had, went, all))
 
   apart : (n j : ℕ) → j < length gs → 0 < in_file n (numbered_at gs j) → in_files n gs ≡ in_file n (numbered_at gs j)
-  apart n j below some =
-      let long = length-set fs k y in
-      let all = files_of n in
-      ⊎_elim
-      (λ (e : ((j == k) ≡ true) × (j ≡ k)).
-      (let at = ap (λ i. in_file n (numbered_at gs i)) e.1 ∙ ap (in_file n) (get_or-set_same fs k y no_file l) in
-      let few = less n in
-      let was = ap (in_file n) x_is in
-      let had = h.apart n k l (omega (arith, some, at, few, was)) in
-      omega (arith, all, at, was, had)))
-      (λ (e : ((j == k) ≡ false) × (j ≢ k)).
-      (let at = ap (in_file n) (get_or-set_other fs k j y no_file e.1) in
-      let had = h.apart n j (omega (arith, below, long)) (subst (λ q. 0 < q) at some) in
-      let most = at_most (λ (f : NumberedFile). f) (λ f. f) (in_file n) (λ f q. refl) gs j no_file below in
-      let few = less n in
-      omega (arith, all, at, had, most, few)))
-      (eqb_tells j k)
+  apart n j below some = grind (arith, common_steps, length-set, files_of, get_or-set_same, no_file, less, x_is, get_or-set_other, at_most, eqb_tells)
 
   pub given_held : IsHeld t now gs
   given_held = record {
@@ -148,16 +129,10 @@ maps_shown_punched s a b (m ∷ ms) =
     ∙ ap (λ xs. map_punched a b (map_shown s m) ∷ xs) (maps_shown_punched s a b ms)
 
 punched_shown : (s : Store) (a b : ℕ) (f : NumberedFile) → file_shown s (with_punched a b f) ≡ punched a b (file_shown s f)
-punched_shown s a b f =
-    ap (λ cs. record { name = f.name; cells = cs; maps = map (map_shown s) (map (map_punched a b) f.maps) }) (map_edited (cell_shown s) cell_punched cell_punched (cell_shown_punched s) a b f.cells)
-    ∙ ap (λ ms. record { name = f.name; cells = edit_range cell_punched a b (map (cell_shown s) f.cells); maps = ms }) (maps_shown_punched s a b f.maps)
+punched_shown s a b f = grind (arith, common_steps, map_edited, cell_shown_punched, maps_shown_punched)
 
 cells_shown_cut : (s : Store) (n : ℕ) (cells : List (Cell ℕ)) → map (cell_shown s) (cells_to n cells) ≡ cells_to n (map (cell_shown s) cells)
-cells_shown_cut s n cells =
-    map-append (cell_shown s) (take n cells) (replicate (n - length cells) Hole)
-    ∙ ap (λ cs. cs ++ map (cell_shown s) (replicate (n - length cells) Hole)) (map_take (cell_shown s) n cells)
-    ∙ ap (λ cs. take n (map (cell_shown s) cells) ++ cs) (map_replicate (cell_shown s) (n - length cells) Hole)
-    ∙ ap (λ m. take n (map (cell_shown s) cells) ++ replicate (n - m) Hole) (sym (length-map cells (cell_shown s)))
+cells_shown_cut s n cells = grind (arith, common_steps, map-append, map_take, map_replicate, length-map)
 
 truncated_shown : (s : Store) (n : ℕ) (f : NumberedFile) → file_shown s (with_truncated n f) ≡ truncated n (file_shown s f)
 truncated_shown s n f =
@@ -184,22 +159,14 @@ owners_punched : (a b : ℕ) (ms : List Map) → sum_by owner_reserves (map (map
 owners_punched a b ms = sum_mapped owner_reserves (map_punched a b) (owner_punched a b) ms
 
 punched_reserves : (a b : ℕ) (f : File) → file_reserves (punched a b f) + 0 ≡ file_reserves f
-punched_reserves a b f =
-    let cells = sum_edited (λ (c : Cell Page). cond {A = ℕ} (is_waiting c) 1 0) cell_punched waits_punched a b f.cells in
-    let owners = owners_punched a b f.maps in
-    omega (arith, cells, owners)
+punched_reserves a b f = grind (arith, common_steps, sum_edited, waits_punched, owners_punched)
 
 no_holes_wait : (n : ℕ) → count_by (is_waiting {P = Page}) (replicate n Hole) ≡ 0
 no_holes_wait zero = refl
 no_holes_wait (suc n) = (let rest = no_holes_wait n in omega (arith, rest, sum_by-cons (λ (c : Cell Page). cond {A = ℕ} (is_waiting c) 1 0) Hole (replicate n Hole)))
 
 truncated_reserves : (n : ℕ) (f : File) → file_reserves (truncated n f) + count_by is_waiting (drop n f.cells) ≡ file_reserves f
-truncated_reserves n f =
-    let both = sum_by-append (λ (c : Cell Page). cond {A = ℕ} (is_waiting c) 1 0) (take n f.cells) (replicate (n - length f.cells) Hole) in
-    let holes = no_holes_wait (n - length f.cells) in
-    let parts = sum_by-take-drop (λ (c : Cell Page). cond {A = ℕ} (is_waiting c) 1 0) f.cells n in
-    let owners = owners_punched n (n + length f.cells) f.maps in
-    omega (arith, both, holes, parts, owners)
+truncated_reserves n f = grind (arith, common_steps, sum_by-append, no_holes_wait, sum_by-take-drop, owners_punched)
 
 pub waits_shown : (s : Store) (cells : List (Cell ℕ)) → count_by is_waiting (map (cell_shown s) cells) ≡ count_by is_waiting cells
 waits_shown s cells = count_map is_waiting (cell_shown s) cells ∙ count_alike (λ c. is_waiting (cell_shown s c)) is_waiting same cells
@@ -258,13 +225,7 @@ module _ (n : Noted) (s t : Store) (more now maps : ℕ) (tally : ℕ → ℕ) (
     cell_less n (Present k) = omega arith
 
     fewer : (n : ℕ) → sum_by (in_cell n) y.cells ≤ sum_by (in_cell n) x.cells
-    fewer n =
-        let is = ap (λ (f : NumberedFile). sum_by (in_cell n) f.cells) y_is in
-        let all = sum_by-edit_range (in_cell n) cell_punched a b x.cells in
-        let mid = sum_by-map_le (in_cell n) cell_punched (cell_less n) (take (b - a) (drop a x.cells)) in
-        let front = sum_by-take-drop (in_cell n) x.cells a in
-        let back = sum_by-take-drop (in_cell n) (drop a x.cells) (b - a) in
-        omega (arith, is, all, mid, front, back)
+    fewer n = grind (arith, common_steps, sum_by-edit_range, sum_by-map_le, cell_less, sum_by-take-drop)
 
     pub punch_keeps : IsFiles n t now maps tally (slice_set fs k y)
     punch_keeps = keeps same_label fewer (λ h. same_level (map (map_punched a b) x.maps) y.maps (ap (λ (f : NumberedFile). f.maps) y_is) (punched_level a b x.maps h))
@@ -285,12 +246,7 @@ module _ (n : Noted) (s t : Store) (more now maps : ℕ) (tally : ℕ → ℕ) (
     none_there n (suc r) = (let rest = none_there n r in omega (arith, rest, sum_by-cons (in_cell n) Hole (replicate r Hole)))
 
     less_left : (n : ℕ) → sum_by (in_cell n) y.cells ≤ sum_by (in_cell n) x.cells
-    less_left n =
-        let is = ap (λ (f : NumberedFile). sum_by (in_cell n) f.cells) y_is in
-        let both = sum_by-append (in_cell n) (take len x.cells) (replicate (len - length x.cells) Hole) in
-        let holes = none_there n (len - length x.cells) in
-        let front = sum_by-take-drop (in_cell n) x.cells len in
-        omega (arith, is, both, holes, front)
+    less_left n = grind (arith, common_steps, sum_by-append, none_there, sum_by-take-drop)
 
     pub cut_keeps : IsFiles n t now maps tally (slice_set fs k y)
     cut_keeps = keeps label_same less_left (λ h. same_level (map (map_punched len (len + length x.cells)) x.maps) y.maps

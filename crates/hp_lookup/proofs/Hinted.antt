@@ -1,3 +1,4 @@
+use Rattle.std.proofs.lemmas.Grind.{common_steps}
 -- What an index of entries says of the keys that were put in.
 use Rattle.std.proofs.Common.{◌≡◌, ◌||◌, ℕ, zero, suc, ◌+◌, ◌<◌, Bool, true, false, cond, List, [], ◌∷◌, get_or, length, map, slice_get, Option, None, Some, refl, sym, ap, ◌∙◌, arith}
 use Rattle.std.specs.Prelude.{position}
@@ -55,18 +56,11 @@ module _ {K Y X : Type 0} (f : K → Y) (test : Y → Bool) where
 
   -- an entry goes, and the last one stands in its place
   pub rest_stay : (es : List (K × X)) (i : ℕ) (d : K × X) → i < length es → test (f (get_or es i d).0) ≡ false → noted (swap_remove es i d) ≡ false → noted es ≡ false
-  rest_stay es i d inside out e =
-      let gone = ap (λ b. cond {A = ℕ} b 1 0 + 0) out in
-      let step = sum_by-swap_remove (λ e. cond {A = ℕ} (test (f e.0)) 1 0) es i d inside in
-      let left = none_noted (swap_remove es i d) e in
-      noted_none es (omega (arith, gone, step, left))
+  rest_stay es i d inside out e = grind (arith, common_steps, sum_by-swap_remove, none_noted, noted_none)
 
   -- nothing is put in by that
   pub still_out : (es : List (K × X)) (i : ℕ) (d : K × X) → i < length es → noted es ≡ false → noted (swap_remove es i d) ≡ false
-  still_out es i d inside e =
-      let step = sum_by-swap_remove (λ e. cond {A = ℕ} (test (f e.0)) 1 0) es i d inside in
-      let none = none_noted es e in
-      noted_none (swap_remove es i d) (omega (arith, step, none))
+  still_out es i d inside e = grind (arith, common_steps, sum_by-swap_remove, none_noted, noted_none)
 
   pub key_still_out : (own : K → Bool) (es : List (K × X)) → noted es ≡ false → noted (swap_remove_entry own es) ≡ false
   key_still_out own [] e = e

@@ -1,3 +1,4 @@
+use Rattle.std.proofs.lemmas.Grind.{common_steps}
 -- How many indices of a range have no entry. Past the end none has.
 use Rattle.std.proofs.Common.{◌≡◌, ℕ, zero, suc, ◌+◌, ◌-◌, ◌<◌, ◌≤◌, cond, Option, List, [], ◌∷◌, ◌++◌, length, map, max, min, take, drop, replicate, refl, sym, ap, ◌∙◌, arith}
 use Rattle.std.specs.List.{count_by}
@@ -48,21 +49,7 @@ module _ {P : Type 0} where
   -- those below the end, and those past it
   pub holes_known : (cells : List (Cell P)) (a b known missing : ℕ) → a ≤ b → known ≡ min b (length cells) →
       missing ≡ count_by is_hole (part a known cells) → missing + (b - max known a) ≡ count_by is_hole (take (b - a) (drop a (at_least b cells)))
-  holes_known cells a b known missing order known_is missing_is =
-      let r : ℕ = b - length cells in
-      let ext = cells ++ replicate r Hole in
-      let all = either_counts (take (b - a) (drop a ext)) in
-      let wide = length-take (b - a) (drop a ext) in
-      let deep = length-drop a ext in
-      let long = length-append cells (replicate r Hole) in
-      let more = length-replicate {A = Cell P} r Hole in
-      let here = either_counts (part a known cells) in
-      let short = length-take (known - a) (drop a cells) in
-      let left = length-drop a cells in
-      let cut : min (b - a) (length (drop a cells)) ≡ known - a = omega (arith, left, known_is) in
-      let same : count_by is_entered (part a known cells) ≡ count_by is_entered (take (b - a) (drop a cells)) =
-      ap (λ n. count_by is_entered (take n (drop a cells))) (sym cut) ∙ ap (count_by is_entered) (take_min (b - a) (drop a cells)) in
-      omega (arith, order, known_is, missing_is, all, wide, deep, long, more, here, short, left, same, entered_behind cells a (b - a) r)
+  holes_known cells a b known missing order known_is missing_is = grind (arith, common_steps, either_counts, length-take, length-drop, length-append, length-replicate, take_min, entered_behind)
 
 hole_shown : (s : Store) (c : Cell ℕ) → is_hole (cell_shown s c) ≡ is_hole c
 hole_shown s Hole = refl

@@ -1,3 +1,4 @@
+use Rattle.std.proofs.lemmas.Grind.{common_steps}
 -- What files and maps are called, through each change.
 use Rattle.std.proofs.Common.{◌≡◌, ℕ, zero, suc, ◌<◌, List, [], ◌∷◌, length, map, refl, sym, ap, subst, ◌∙◌, arith}
 use Rattle.std.specs.Prelude.{slice_set, slice_index_or}
@@ -42,20 +43,11 @@ files_same n s t more now maps tally fs k x g l read same level is held =
 
 -- the same was noted, and then a map
 pub then_map : (task number : ℕ) (old mid new : Noted) → AreSame old mid → IsMoreByMap task number mid new → IsMoreByMap task number old new
-then_map task number old mid new same then = record {
-  more = record { names = λ name e. same.more.names name (then.more.names name e); keys = λ t n e. same.more.keys t n (then.more.keys t n e) };
-  names = λ name e. then.names name (same.less.names name e);
-  keys = λ t n apart e. then.keys t n apart (same.less.keys t n e);
-}
+then_map task number old mid new same then = grind (arith, common_steps)
 
 -- the same is noted as before
 pub noted_same : (old new : Noted) (ls : List Label) → AreSame old new → AreNoted old ls → AreNoted new ls
-noted_same old new ls same are = record {
-  names = λ name e. are.names name (same.more.names name e);
-  keys = λ task number e. are.keys task number (same.more.keys task number e);
-  no_name = λ name e. same.less.names name (are.no_name name e);
-  no_key = λ task number e. same.less.keys task number (are.no_key task number e);
-}
+noted_same old new ls same are = grind (arith, common_steps)
 
 pub files_noted : (old new : Noted) (s : Store) (more maps : ℕ) (tally : ℕ → ℕ) (fs : List NumberedFile) → AreSame old new → IsFiles old s more maps tally fs → IsFiles new s more maps tally fs
 files_noted old new s more maps tally fs same is =
@@ -64,9 +56,4 @@ files_noted old new s more maps tally fs same is =
 -- each task has as many maps
 pub files_recounted : (n : Noted) (s : Store) (more maps : ℕ) (tally next : ℕ → ℕ) (fs : List NumberedFile) → ((q : ℕ) → next q ≡ tally q) →
     IsFiles n s more maps tally fs → IsFiles n s more maps next fs
-files_recounted n s more maps tally next fs same is = record {
-  held = is.held;
-  keyed = record { kept = is.keyed.kept; names = is.keyed.names; keys = is.keyed.keys; map_count = is.keyed.map_count; tallied = λ q. same q ∙ is.keyed.tallied q };
-  noted = is.noted;
-  level = is.level;
-}
+files_recounted n s more maps tally next fs same is = grind (arith, common_steps)

@@ -1,3 +1,4 @@
+use Rattle.std.proofs.lemmas.Grind.{common_steps}
 -- Files that lose maps, and those that go with their last one.
 use Rattle.std.proofs.Common.{◌≡◌, ℕ, zero, suc, ◌+◌, ◌<◌, ◌≤◌, ◌||◌, nat_lt, Bool, true, false, cond, List, [], ◌∷◌, length, map, refl, sym, ap, subst, ◌∙◌, arith}
 use Rattle.std.specs.Prelude.{is_some, slice_index_or, Option, None, Some}
@@ -130,10 +131,7 @@ module _ (n : Noted) (s t : Store) (more now maps : ℕ) (tally : ℕ → ℕ) (
   files_less m = (let few = left_sum is_used g (in_file m) (in_less m) fs in let same = ap (in_files m) hs_is in omega (arith, few, same))
 
   cells_less : (m : ℕ) → in_cells m hs ≤ in_cells m fs
-  cells_less m =
-      let few = left_sum is_used g (λ (f : NumberedFile). sum_by (in_cell m) f.cells) (λ f. (let same = ap (sum_by (in_cell m)) (cells f) in omega (arith, same))) fs in
-      let same = ap (in_cells m) hs_is in
-      omega (arith, few, same)
+  cells_less m = grind (arith, common_steps, left_sum)
 
   pub left_held : IsHeld t now hs
   left_held = record {
@@ -184,23 +182,13 @@ module _ (n : Noted) (s t : Store) (more now maps : ℕ) (tally : ℕ → ℕ) (
               by false k rest = rest ∙ sym (ap (λ c. cond c (change (file_shown s f) ∷ filter is_kept (map change (files_shown s fs))) (filter is_kept (map change (files_shown s fs)))) k)
 
   pub left_gives : (went : ℕ) → went + sum_by file_owed hs ≡ sum_by file_owed fs → IsLeft went (view s more fs) (view t now hs)
-  left_gives went reserves = record {
-    pages = (let old = stored_pages s more fs is.held in let new = stored_pages t now hs left_held in let sum = d.pages in omega (arith, old, new, sum));
-    nodes = λ i. (let old = stored_at s more fs is.held i in let new = stored_at t now hs left_held i in let sum = d.nodes i in omega (arith, old, new, sum));
-    reserved = (let old = files_owe s fs in let new = files_owe t hs in omega (arith, old, new, reserves));
-    room = (let was = is.held.counted in let room = d.room in let fewer = d.fewer in omega (arith, was, counted, room, fewer));
-  }
+  left_gives went reserves = grind (arith, common_steps, stored_pages, more, left_held, stored_at, files_owe)
 
   -- ---- what they are called
 
   module _ (names : (f : NumberedFile) → (g f).name ≡ f.name) (keys : (k m : ℕ) (f : NumberedFile) → keys_in k m (label_of (g f)) ≤ keys_in k m (label_of f)) where
     label_sum : (c : Label → ℕ) → ((f : NumberedFile) → c (label_of (g f)) ≤ c (label_of f)) → sum_by c (labels_of hs) ≤ sum_by c (labels_of fs)
-    label_sum c few =
-        let few = left_sum is_used g (λ f. c (label_of f)) few fs in
-        let before = sum_through c label_of fs in
-        let after = sum_through c label_of hs in
-        let same = ap (sum_by (λ (f : NumberedFile). c (label_of f))) hs_is in
-        omega (arith, few, before, after, same)
+    label_sum c few = grind (arith, common_steps, left_sum, sum_through)
 
     pub names_less : (name : List ℕ) → count_by (has_label name) (labels_of hs) ≤ count_by (has_label name) (labels_of fs)
     names_less name = label_sum (λ (q : Label). cond {A = ℕ} (has_label name q) 1 0)

@@ -1,3 +1,4 @@
+use Rattle.std.proofs.lemmas.Grind.{common_steps}
 -- What a change of the store under one number shows.
 use Rattle.std.proofs.Common.{◌≡◌, ◌≢◌, ℕ, zero, suc, ◌<◌, ◌≤◌, ◌==◌, ⊎_elim, Bool, cond, None, Some, List, [], ◌∷◌, length, map, refl, sym, ap, ◌∙◌, arith}
 use Rattle.std.specs.Prelude.{slice_set, slice_index_or}
@@ -78,9 +79,7 @@ module _ (n : ℕ) (s t : Store) (agree : Agree n s t) where
   map_shows_same m e = ap (λ ps. record (map_shown s m) { places = ps }) (map_same (place_shown s) (place_shown t) (in_place n) place_same m.places e)
 
   pub file_same : (f : NumberedFile) → in_file n f ≡ 0 → file_shown t f ≡ file_shown s f
-  file_same f e =
-      ap (λ cs. record { name = f.name; cells = cs; maps = map (map_shown t) f.maps }) (map_same (cell_shown s) (cell_shown t) (in_cell n) cell_same f.cells (omega (arith, e)))
-      ∙ ap (λ ms. record (file_shown s f) { maps = ms }) (map_same (map_shown s) (map_shown t) (in_map n) map_shows_same f.maps (omega (arith, e)))
+  file_same f e = grind (arith, common_steps, map_same, cell_same, map_shows_same)
 
   pub files_same : (fs : List NumberedFile) → in_files n fs ≡ 0 → files_shown t fs ≡ files_shown s fs
   files_same fs e = map_same (file_shown s) (file_shown t) (in_file n) file_same fs e

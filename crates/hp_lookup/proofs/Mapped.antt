@@ -1,3 +1,4 @@
+use Rattle.std.proofs.lemmas.Grind.{common_steps}
 -- A map more. The indices of a shared one that reserves are entered.
 use Rattle.std.proofs.Common.{◌≡◌, ◌==◌, ℕ, zero, suc, ◌+◌, ◌-◌, ◌<◌, Bool, true, false, cond, ◌||◌, List, [], ◌∷◌, ◌++◌, length, map, take, drop, replicate, refl, sym, ap, subst, ◌∙◌, arith}
 use Rattle.std.specs.Prelude.{is_some, nat_lt, slice_index_or, slice_set, None}
@@ -57,12 +58,7 @@ module _ {X Y : Type 0} (g : X → Y) where
     map_twice (x ∷ xs) = ap (λ y. y ∷ map g (map f xs)) (same x) ∙ ap (λ ys. h (g x) ∷ ys) (map_twice xs)
 
     pub map_edited : (a b : ℕ) (xs : List X) → map g (edit_range f a b xs) ≡ edit_range h a b (map g xs)
-    map_edited a b xs =
-        map-append g (take a xs ++ map f (take (b - a) (drop a xs))) (drop (b - a) (drop a xs))
-        ∙ ap (λ ys. ys ++ map g (drop (b - a) (drop a xs))) (map-append g (take a xs) (map f (take (b - a) (drop a xs))))
-        ∙ ap (λ ys. ys ++ map g (map f (take (b - a) (drop a xs))) ++ map g (drop (b - a) (drop a xs))) (map_take a xs)
-        ∙ ap (λ ys. take a (map g xs) ++ ys ++ map g (drop (b - a) (drop a xs))) (map_twice (take (b - a) (drop a xs)) ∙ ap (map h) (map_take (b - a) (drop a xs) ∙ ap (take (b - a)) (map_drop a xs)))
-        ∙ ap (λ ys. take a (map g xs) ++ map h (take (b - a) (drop a (map g xs))) ++ ys) (map_drop (b - a) (drop a xs) ∙ ap (drop (b - a)) (map_drop a xs))
+    map_edited a b xs = grind (arith, common_steps, map-append, map_take, map_twice, map_drop)
 
 module _ {X : Type 0} (c : X → ℕ) where
   sum_parts : (n : ℕ) (xs : List X) → sum_by c (take n xs) + sum_by c (drop n xs) ≡ sum_by c xs
@@ -76,13 +72,7 @@ module _ {X : Type 0} (c : X → ℕ) where
   sum_mapped f same (x ∷ xs) = (let here = same x in let rest = sum_mapped f same xs in omega (arith, here, rest, sum_by-cons c (f x) (map f xs), sum_by-cons c x xs))
 
   pub sum_edited : (f : X → X) → ((x : X) → c (f x) ≡ c x) → (a b : ℕ) (xs : List X) → sum_by c (edit_range f a b xs) ≡ sum_by c xs
-  sum_edited f same a b xs =
-      let front = sum_by-append c (take a xs) (map f (take (b - a) (drop a xs))) in
-      let back = sum_by-append c (take a xs ++ map f (take (b - a) (drop a xs))) (drop (b - a) (drop a xs)) in
-      let mid = sum_mapped f same (take (b - a) (drop a xs)) in
-      let whole = sum_parts a xs in
-      let rest = sum_parts (b - a) (drop a xs) in
-      omega (arith, front, back, mid, whole, rest)
+  sum_edited f same a b xs = grind (arith, common_steps, sum_by-append, sum_mapped, sum_parts)
 
   sum_none : (n : ℕ) (x : X) → c x ≡ 0 → sum_by c (replicate n x) ≡ 0
   sum_none zero x e = refl
@@ -155,12 +145,7 @@ module _ (task number a n : ℕ) (sharing : Sharing) (reserving : Reserving) whe
       (map-append (map_shown s) x.maps (y ∷ []) ∙ ap (λ m. map (map_shown s) x.maps ++ m ∷ []) (new_shown s))
 
   cells_count : (m : ℕ) (x : NumberedFile) → sum_by (in_cell m) (with_mapping from y x).cells ≡ sum_by (in_cell m) x.cells
-  cells_count m x =
-      let end : ℕ = a + length y.places in
-      let same = sum_edited (in_cell m) entered (entered_counts m) from end (at_least end x.cells) in
-      let both = sum_by-append (in_cell m) x.cells (replicate (end - length x.cells) Hole) in
-      let none = sum_none (in_cell m) (end - length x.cells) Hole refl in
-      omega (arith, same, both, none)
+  cells_count m x = grind (arith, common_steps, sum_edited, entered_counts, sum_by-append, sum_none)
 
   pub file_count : (m : ℕ) (x : NumberedFile) → in_file m (with_mapping from y x) ≡ in_file m x
   file_count m x =
@@ -175,14 +160,10 @@ module _ (task number a n : ℕ) (sharing : Sharing) (reserving : Reserving) whe
     at = read_is fs k x l read
 
     pub map_view : view s more (slice_set fs k g) ≡ with_file_at k (mapped task number a n sharing reserving (file_at (files_shown s fs) k)) (view s more fs)
-    map_view =
-        ap (λ xs. record (view s more fs) { files = xs }) (map-set (file_shown s) fs k g
-        ∙ ap (slice_set (files_shown s fs) k) (ap (file_shown s) g_is ∙ mapped_shown s x ∙ ap (mapped task number a n sharing reserving) (ap (file_shown s) at ∙ sym (file_is s fs k l))))
+    map_view = grind (arith, common_steps, view, map-set, mapped_shown, at, file_is)
 
     pub map_held : IsHeld s more (slice_set fs k g)
-    map_held = alike_held s more fs is.held k l g
-        (λ m. ap (λ (f : NumberedFile). sum_by (in_cell m) f.cells) g_is ∙ cells_count m x ∙ ap (λ (f : NumberedFile). sum_by (in_cell m) f.cells) at)
-        (λ m. ap (in_file m) g_is ∙ file_count m x ∙ ap (in_file m) at)
+    map_held = grind (arith, common_steps, alike_held, cells_count, at, file_count)
 
     label_is : label_of g ≡ record { name = x.name; keys = map key_of x.maps ++ (task, number) ∷ [] }
     label_is = ap label_of g_is ∙ ap (λ ks. record { name = x.name; keys = ks }) (map-append key_of x.maps (y ∷ []))

@@ -1,3 +1,4 @@
+use Rattle.std.proofs.lemmas.Grind.{common_steps}
 -- The pages of a store are those that the files show, counted once each.
 use Rattle.std.proofs.Common.{◌≡◌, ◌≢◌, ℕ, zero, suc, ◌+◌, ◌<◌, ◌≤◌, ◌==◌, ◌||◌, ◌&&◌, ⊎_elim, Bool, true, false, cond}
 use Rattle.std.proofs.Common.{nat_lt, Option, Some, None, List, [], ◌∷◌, ◌++◌, length, map, refl, sym, ap, subst, ◌∙◌, arith}
@@ -322,25 +323,7 @@ module _ (s : Store) (more : ℕ) (fs : List NumberedFile) (h : IsHeld s more fs
       gone l = omega (arith, l)
 
       by : (j : ℕ) × (j < length fs) × (0 < in_file k (numbered_at fs j)) → sum_by (λ f. weight f k) fs ≡ 1
-      by p =
-          let j : ℕ = p.0 in
-          let f : NumberedFile = numbered_at fs j in
-          let alone = h.apart k j p.1 p.2 in
-          let all = only_one k fs j p.1 alone in
-          let is = weight_is f k in
-          let cells = at_most (λ (f : NumberedFile). f) (λ f. f) (λ (f : NumberedFile). sum_by (in_cell k) f.cells) (λ f h. refl) fs j no_file p.1 in
-          let some = p.2 in
-          ⊎_elim
-          (λ (none : sum_by (in_cell k) f.cells < 1).
-          let maps : nat_lt 0 (sum_by (in_map k) f.maps) ≡ true = grind (arith, nat_tests, some, none) in
-          let one = ap (λ q. cond {A = ℕ} q 1 0 + 0) maps in
-          omega (arith, all, is, one, none))
-          (λ (own : 1 ≤ sum_by (in_cell k) f.cells).
-          let one = h.alone k (omega (arith, own, cells)) in
-          let maps : nat_lt 0 (sum_by (in_map k) f.maps) ≡ false = grind (arith, nat_tests, one, alone, own) in
-          let none = ap (λ q. cond {A = ℕ} q 1 0 + 0) maps in
-          omega (arith, all, is, none, one, alone, own))
-          (cases_lt (sum_by (in_cell k) f.cells) 1)
+      by p = grind (arith, common_steps, only_one, weight_is, at_most, no_file, nat_tests, cases_lt)
 
   weighs : (k : ℕ) → sum_by (λ f. weight f k) fs ≡ one_if_held (page_at s k)
   weighs k = by (page_at s k) refl

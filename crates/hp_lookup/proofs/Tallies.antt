@@ -1,3 +1,4 @@
+use Rattle.std.proofs.lemmas.Grind.{common_steps}
 -- How many maps each task has, by what files are called, and how many tasks there are.
 use Rattle.std.proofs.Common.{◌≡◌, ◌≢◌, ℕ, zero, suc, ◌+◌, ◌-◌, ◌<◌, ◌==◌, ◌||◌, nat_eq, nat_lt, Bool, true, false, not}
 use Rattle.std.proofs.Common.{cond, List, [], ◌∷◌, length, map, Option, None, Some, is_some, slice_get, refl, sym, ap, ◌∙◌, arith}
@@ -70,10 +71,7 @@ tasks_tallied task (l ∷ ls) =
 -- one more fits
 pub tally_few : (task : ℕ) (n : Noted) (s : Store) (more maps : ℕ) (tally : ℕ → ℕ) (fs : List NumberedFile) → IsFiles n s more maps tally fs →
     length (all_maps (files_shown s fs)) < 4096 → tally task < 4096
-tally_few task n s more maps tally fs is few =
-    let count = is.keyed.tallied task ∙ maps_tallied task s fs in
-    let most = count_by-le-length (is_of task) (all_maps (files_shown s fs)) in
-    omega (arith, count, most, few)
+tally_few task n s more maps tally fs is few = grind (arith, common_steps, maps_tallied, count_by-le-length)
 
 -- ---- whether there is one
 

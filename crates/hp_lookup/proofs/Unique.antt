@@ -1,3 +1,4 @@
+use Rattle.std.proofs.lemmas.Grind.{common_steps}
 -- Where names and maps are found, since no two are called the same; and how many maps and tasks there are.
 use Rattle.std.proofs.Common.{◌≡◌, ℕ, zero, suc, ◌+◌, ◌<◌, ◌≤◌, Bool, true, false, not, cond, ◌||◌, List, [], ◌∷◌, ◌++◌, length, map, Option, Some, None, refl, sym, ap, ◌∙◌, arith}
 use Rattle.std.specs.List.{count_by, flat_map, list_any, position_or_len, slice_index_or, sum_by}
@@ -9,7 +10,6 @@ use Rattle.hp_model.specs.files.File.{File, new_file}
 use Rattle.hp_model.specs.Lists.{found, one_on}
 use Rattle.hp_model.specs.files.Mapping.{Map, Mapping, is_map}
 use Rattle.hp_model.specs.machine.SlotEvent.{has_name}
-use Rattle.hp_model.specs.files.Spot.{spot_in}
 use Rattle.hp_model.proofs.Counting.{count_alike, count_cons, count_map}
 use Rattle.hp_store.specs.Store.{Store}
 use Rattle.hp_lookup.specs.Files.{file_at}
@@ -101,9 +101,7 @@ named_shown s name f = either f.name
     either (Some n) = refl
 
 pub names_counted : (s : Store) (name : List ℕ) (fs : List NumberedFile) → count_by (has_name name) (files_shown s fs) ≡ count_by (has_label name) (labels_of fs)
-names_counted s name fs =
-    count_map (has_name name) (file_shown s) fs ∙ count_alike (λ f. has_name name (file_shown s f)) (λ f. has_label name (label_of f))
-    (named_shown s name) fs ∙ sym (count_map (has_label name) label_of fs)
+names_counted s name fs = grind (arith, common_steps, count_map, count_alike, named_shown)
 
 module _ (s : Store) (maps : ℕ) (tally : ℕ → ℕ) (fs : List NumberedFile) (keyed : IsKeyed maps tally (labels_of fs)) where
   pub named_here : (name : List ℕ) (k : ℕ) (x : NumberedFile) → k < length fs → x ≡ slice_index_or fs k x → is_name_of name x.name ≡ true → IsNamed (files_shown s fs) name k
@@ -172,10 +170,7 @@ module _ (s : Store) (maps : ℕ) (tally : ℕ → ℕ) (fs : List NumberedFile)
         (sym here ∙ sym (position_shown (map_shown s) test (is_map task number) (λ m. refl) x.maps) ∙ ap (λ (f : File). position_or_len (is_map task number) f.maps) (sym seen))
 
     pub no_map_here : sum_by (keys_in task number) (labels_of fs) ≡ 0 → IsMissing (files_shown s fs) task number
-    no_map_here none limits =
-        let all = holders fs in
-        let same = through fs in
-        ap (λ o. elim o [ None ↦ None | Some q ↦ option_map (spot_in q) (found (is_map task number) q.1.maps) ]) (zero_found (has_it task number) (files_shown s fs) (omega (arith, all, same, none)))
+    no_map_here none limits = grind (arith, common_steps, holders, through, zero_found)
 
   pub no_name_here : (name : List ℕ) → count_by (has_label name) (labels_of fs) ≡ 0 → found (has_name name) (files_shown s fs) ≡ None
   no_name_here name none = zero_found (has_name name) (files_shown s fs) (names_counted s name fs ∙ none)
@@ -212,16 +207,7 @@ module _ (s : Store) (fs : List NumberedFile) (name : List ℕ) where
   shown_place = position_shown (file_shown s) own (has_name name) (named_shown s name) fs
 
   pub named_first : position_or_len own fs < length fs → IsNamed (files_shown s fs) name (position_or_len own fs)
-  named_first l =
-      let long = length-map fs (file_shown s) in
-      let same = shown_place in
-      record {
-        is = found_at (has_name name) (files_shown s fs) (new_file None) (omega (arith, l, long, same)) ∙ ap (λ i. Some (i, file_at (files_shown s fs) i)) same;
-        within = omega (arith, l, long);
-      }
+  named_first l = grind (arith, common_steps, length-map, shown_place, found_at)
 
   pub named_nowhere : length fs ≤ position_or_len own fs → found (has_name name) (files_shown s fs) ≡ None
-  named_nowhere l =
-      let long = length-map fs (file_shown s) in
-      let same = shown_place in
-      found_none (has_name name) (files_shown s fs) (new_file None) (omega (arith, l, long, same))
+  named_nowhere l = grind (arith, common_steps, length-map, shown_place, found_none)

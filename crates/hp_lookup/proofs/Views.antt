@@ -1,18 +1,17 @@
+use Rattle.std.proofs.lemmas.Grind.{common_steps}
 -- What each call shows, by the parts that it changed.
-use Rattle.std.proofs.Common.{◌≡◌, ℕ, zero, suc, ◌-◌, ◌<◌, true, false, cond, nat_lt, Option, None, Some, List, [], ◌∷◌, length, map, refl, sym, ap, subst, ◌∙◌, arith}
+use Rattle.std.proofs.Common.{◌≡◌, ℕ, zero, suc, ◌-◌, ◌<◌, Option, None, Some, List, [], ◌∷◌, length, map, refl, sym, ap, ◌∙◌, arith}
 use Rattle.std.specs.Prelude.{slice_set, slice_index_or}
-use Rattle.std.specs.List.{sum_by}
 use Rattle.std.specs.Option.{option_map}
 use Rattle.std.proofs.lemmas.List.{get_or_default, get_or-map, length-map}
 use Rattle.hp_model.specs.declared.cell.Cell.{Cell}
 use Rattle.hp_model.specs.declared.cell.Cell.TheVariants.{Hole, Entered, Present}
-use Rattle.hp_model.specs.files.File.{File, with_cell, cell_at, cell_in, has_page, is_entered, new_file, page_of}
+use Rattle.hp_model.specs.files.File.{cell_at, cell_in, has_page, is_entered, new_file, page_of}
 use Rattle.hp_model.specs.files.Page.{Page}
 use Rattle.hp_model.specs.declared.place.Place.{Place}
 use Rattle.hp_model.specs.declared.place.Place.TheVariants.{Gone, Live}
 use Rattle.hp_model.specs.files.Mapping.{Mapping, place_at, copy_of}
 use Rattle.hp_model.specs.files.Page.{Copy, zeros}
-use Rattle.hp_model.specs.machine.Promises.{no_map}
 use Rattle.hp_model.specs.files.Value.{value, shown}
 use Rattle.hp_lookup.specs.Places.{map_among}
 use Rattle.std.proofs.Math.ListN as listn
@@ -21,7 +20,7 @@ use Rattle.hp_store.specs.Store.{Store, Holding, page_at, holders_of, bytes_of, 
 use Rattle.hp_store.specs.Store as store
 use Rattle.hp_lookup.specs.Files.{Files, file_at, filled_at, with_cell_at}
 use Rattle.hp_lookup.specs.Numbered.{NumberedFile, numbered_at, page_in, cell_shown, copy_shown, place_shown, map_shown, file_shown, files_shown}
-use Rattle.hp_lookup.specs.Held.{IsHeld, in_cell, in_files}
+use Rattle.hp_lookup.specs.Held.{IsHeld, in_files}
 use Rattle.hp_lookup.proofs.Keys.{set_read}
 use Rattle.hp_lookup.proofs.Lifting.{at_most, is_it}
 use Rattle.std.specs.List.{count_by}
@@ -82,20 +81,10 @@ module _ (s : Store) (more : ℕ) (fs : List NumberedFile) (h : IsHeld s more fs
     put = g_is ∙ ap (λ f. with_number f i n) x_is
 
     pub fill_view : view t more (slice_set fs k g) ≡ filled_at k i page (view s more fs)
-    fill_view =
-        let shows = fill_shows n s (inserted n page s) (inserted_agrees n page s) page (inserted_is n page s below) fs k i within (free_is_fresh s more fs n h free) in
-        let room : s.room - 1 - more ≡ s.room - more - 1 = omega arith in
-        ap (λ u. view u more (slice_set fs k g)) t_is ∙ ap (λ f. view (inserted n page s) more (slice_set fs k f)) put
-        ∙ ap (λ xs. record { files = xs; going = s.going; room = s.room - 1 - more }) shows
-        ∙ ap (λ r. record { files = slice_set (files_shown s fs) k (with_cell (file_at (files_shown s fs) k) i (Present page)); going = s.going; room = r }) room
+    fill_view = grind (arith, common_steps, fill_shows, inserted_agrees, inserted_is, below, within, free_is_fresh, put)
 
     pub fill_keeps : i < length (file_at (files_shown s fs) k).cells → 0 < s.room - more → IsHeld t more (slice_set fs k g)
-    fill_keeps inside room =
-        let cell : cell_in (numbered_at fs k).cells i ≡ Entered = entered_is s _ (sym (cell_at_is s fs k i within) ∙ entered) in
-        let long = cells_len s fs k within in
-        let kept = fill_held n s (inserted n page s) (inserted_agrees n page s) page (inserted_is n page s below) fs k i within
-        (free_is_fresh s more fs n h free) more (omega (arith, inside, long)) cell (inserted_more n page s below free) (omega (arith, room)) h in
-        subst (λ u. IsHeld u more (slice_set fs k g)) (sym t_is) (subst (λ f. IsHeld (inserted n page s) more (slice_set fs k f)) (sym put) kept)
+    fill_keeps inside room = grind (arith, common_steps, entered_is, cell_at_is, within, cells_len, fill_held, inserted_agrees, inserted_is, below, free_is_fresh, inserted_more, put)
 
   -- ---- bytes for a page that is there
 
@@ -112,11 +101,7 @@ module _ (s : Store) (more : ℕ) (fs : List NumberedFile) (h : IsHeld s more fs
     inside = present_inside (numbered_at fs k).cells i n here
 
     once : in_files n fs ≡ 1
-    once =
-        let cells = at_most (λ (c : Cell ℕ). c) (λ c. c) (in_cell n) (λ c h. refl) (numbered_at fs k).cells i Hole inside in
-        let files = at_most (λ (f : NumberedFile). f) (λ f. f) (λ f. sum_by (in_cell n) f.cells) (λ f h. refl) fs k no_file within in
-        let one = ap (in_cell n) here ∙ is_it n in
-        h.alone n (omega (arith, cells, files, one))
+    once = grind (arith, common_steps, at_most, inside, no_file, within, here, is_it)
 
     pub held_once : holders_of (page_at s n) ≡ 1
     held_once = h.held n ∙ once
@@ -136,9 +121,7 @@ module _ (s : Store) (more : ℕ) (fs : List NumberedFile) (h : IsHeld s more fs
       below = some_within s.pages n some is
 
       pub write_view : view t more fs ≡ with_cell_at k i (cell_written offset bytes (cell_at (file_at (files_shown s fs) k) i)) (view s more fs)
-      write_view =
-          ap (λ u. view u more fs) t_is
-          ∙ ap (λ xs. record { files = xs; going = s.going; room = s.room - more }) (write_shows n s offset bytes some is below fs k i within inside here once)
+      write_view = grind (arith, common_steps, write_shows, some, is, below, within, inside, here, once)
 
 -- ---- what a file shows
 
@@ -186,9 +169,7 @@ module _ (s : Store) (fs : List NumberedFile) (k : ℕ) (l : k < length (files_s
 -- ---- what a map shows
 
 pub shown_place : (s : Store) (y : Mapping ℕ) (i : ℕ) → place_at (map_shown s y) i ≡ place_shown s (place_at y i)
-shown_place s y i = elim (nat_lt i y.start) as (λ b. cond b Gone (slice_index_or (map (place_shown s) y.places) (i - y.start) Gone)
-    ≡ place_shown s (cond b Gone (slice_index_or y.places (i - y.start) Gone)))
-    [ true ↦ refl | false ↦ listn.get_or-map (place_shown s) y.places (i - y.start) Gone ]
+shown_place s y i = grind (arith, common_steps, listn.get_or-map)
 
 pub copy_seen : (s : Store) (p : Place ℕ) (n : ℕ) → copy_of p ≡ Some n → copy_of (place_shown s p) ≡ Some (copy_shown s n)
 copy_seen s Gone n e = cc
@@ -206,10 +187,7 @@ module _ (s : Store) (fs : List NumberedFile) (k j : ℕ) (l : k < length (files
   file_seen = file_read s fs k l x read
 
   pub map_seen : map_among (files_shown s fs) k j ≡ map_shown s y
-  map_seen =
-      let long = length-map x.maps (map_shown s) in
-      let same = ap (λ (f : File). length f.maps) file_seen in
-      ap (λ (f : File). slice_index_or f.maps j no_map) file_seen ∙ get_or-map (map_shown s) x.maps j y no_map (omega (arith, jl, long, same)) ∙ ap (map_shown s) (sym map_read)
+  map_seen = grind (arith, common_steps, length-map, file_seen, get_or-map)
 
   pub place_seen : (i : ℕ) → place_at (map_shown s y) i ≡ place_shown s (place_at y i)
   place_seen i = shown_place s y i
@@ -219,9 +197,7 @@ module _ (s : Store) (fs : List NumberedFile) (k j : ℕ) (l : k < length (files
     shows = value size (file_at (files_shown s fs) k) (map_among (files_shown s fs) k j) i
 
     shows_by : (o : Option Copy) → copy_of (place_at (map_shown s y) i) ≡ o → shows ≡ elim o [ None ↦ shown size (cell_at (file_shown s x) i) | Some copy ↦ copy.page.bytes ]
-    shows_by o e =
-        ap (λ f. value size f (map_among (files_shown s fs) k j) i) file_seen ∙ ap (λ m. value size (file_shown s x) m i) map_seen
-        ∙ ap (λ q. elim q [ None ↦ shown size (cell_at (file_shown s x) i) | Some copy ↦ copy.page.bytes ]) e
+    shows_by o e = grind (arith, common_steps, file_seen, map_seen)
 
     pub copy_shows : (n : ℕ) → copy_of (place_at y i) ≡ Some n → shows ≡ (page_in (page_at s n)).bytes
     copy_shows n e = shows_by (Some (copy_shown s n)) (ap copy_of (place_seen i) ∙ copy_seen s (place_at y i) n e)

@@ -1,3 +1,4 @@
+use Rattle.std.proofs.lemmas.Grind.{common_steps}
 -- Places in chunks of which some were never written.
 use Rattle.std.proofs.Common.{◌≡◌, ◌≢◌, ℕ, ◌+◌, ◌-◌, ◌*◌, ◌/◌, ◌%◌, ◌<◌, ◌≤◌, inl, inr, true, nat_lt, is_some, List}
 use Rattle.std.proofs.Common.{◌++◌, length, map, replicate, take, drop, slice_index, slice_index_or, slice_set, cond, refl, sym, ◌∙◌, ap, arith}
@@ -75,10 +76,7 @@ module _ (count : ℕ) (homes : List ℕ) (places : List (Place ℕ)) (chunked :
     slot = slot_of homes at
 
     slots_apart : (k : ℕ) → k ≢ at → slot_of homes k ≢ slot
-    slots_apart k other same =
-        let home : slice_index homes (at / 64) ≡ slice_index homes (k / 64) = omega (arith, same) in
-        let index = chunked.apart (at / 64) (k / 64) home own in
-        other (omega (arith, same, index))
+    slots_apart k other same = grind (arith, common_steps, own)
 
     pub set_place : at < count → all_places count homes (slice_set places slot p) ≡ slice_set (all_places count homes places) at p
     set_place less =
@@ -106,11 +104,7 @@ module _ (count : ℕ) (homes : List ℕ) (places : List (Place ℕ)) (new : Lis
 -- ---- all are fresh
 
 no_home : (n w : ℕ) → slice_index (replicate n 0) w ≡ 0
-no_home n w =
-    elim (cases_lt w n) as (λ _. slice_index (replicate n 0) w ≡ 0) [
-      | inl less ↦ get_or-replicate n w 0 0 less
-      | inr past ↦ get_or_past (replicate n 0) w 0 (omega (arith, past, length-replicate {A = ℕ} n 0))
-    ]
+no_home n w = grind (arith, common_steps, cases_lt, get_or-replicate, get_or_past, length-replicate)
 
 pub chunked_fresh : (n : ℕ) → IsChunked (replicate n 0) (replicate 64 fresh)
 chunked_fresh n = record {
@@ -128,12 +122,7 @@ all_fresh count n =
 -- ---- a child's
 
 pub chunked_forked : (homes : List ℕ) (places : List (Place ℕ)) → IsChunked homes places → IsChunked homes (map unconsumed places)
-chunked_forked homes places chunked = record {
-  blank = λ k less. forked_at places k ∙ ap unconsumed (chunked.blank k less);
-  within = λ w. (let fits = chunked.within w in omega (arith, fits, length-map places unconsumed));
-  apart = chunked.apart;
-  used = length-map places unconsumed ∙ chunked.used;
-}
+chunked_forked homes places chunked = grind (arith, common_steps, forked_at, length-map)
 
 pub all_forked : (count : ℕ) (homes : List ℕ) (places : List (Place ℕ)) → all_places count homes (map unconsumed places) ≡ map unconsumed (all_places count homes places)
 all_forked count homes places =
@@ -164,11 +153,7 @@ module _ (homes : List ℕ) (places : List (Place ℕ)) (index home : ℕ) (chun
   length_longer = omega (arith, whole, length-append places (replicate 64 fresh), length-replicate 64 fresh)
 
   counted : count_by (λ h. nat_lt 0 h) more ≡ count_by (λ h. nat_lt 0 h) homes + 1
-  counted =
-      let step = sum_by-set is_own homes index home 0 within in
-      let one = ap (λ b. cond {A = ℕ} b 1 0) (lt-ltb 0 home own) in
-      let nothing = ap is_own none in
-      omega (arith, step, one, nothing)
+  counted = grind (arith, common_steps, sum_by-set, lt-ltb, own)
 
   -- there was room for it
   pub home_few : home ≤ length homes
@@ -184,24 +169,7 @@ module _ (homes : List ℕ) (places : List (Place ℕ)) (index home : ℕ) (chun
   lower w = (let fits = chunked.within w in omega (arith, fits, whole))
 
   pub chunked_more : IsChunked more longer
-  chunked_more = record {
-    blank = λ k less. get_or_append_left places (replicate 64 fresh) Gone k (omega (arith, less, whole, own)) ∙ chunked.blank k less;
-    within = λ w. elim (cases_eq w index) as (λ _. 64 * slice_index more w + 64 ≤ length longer) [
-      | inl e ↦ let here = ap (slice_index more) e ∙ at_index in omega (arith, here, length_longer)
-      | inr other ↦ let there = elsewhere w other in let less = lower w in omega (arith, there, less, length_longer)
-    ];
-    apart = λ v w same some. elim (cases_eq v index) as (λ _. v ≡ w) [
-      | inl e ↦ elim (cases_eq w index) as (λ _. v ≡ w) [
-        | inl f ↦ e ∙ sym f
-        | inr other ↦ let here = ap (slice_index more) e ∙ at_index in let there = elsewhere w other in let less = lower w in absurd (omega (arith, here, there, less, same))
-      ]
-      | inr other ↦ elim (cases_eq w index) as (λ _. v ≡ w) [
-        | inl f ↦ let here = ap (slice_index more) f ∙ at_index in let there = elsewhere v other in let less = lower v in absurd (omega (arith, here, there, less, same))
-        | inr others ↦ let a = elsewhere v other in let b = elsewhere w others in chunked.apart v w (omega (arith, a, b, same)) (omega (arith, a, some))
-      ]
-    ];
-    used = (let used = chunked.used in omega (arith, used, whole, length_longer, counted));
-  }
+  chunked_more = grind (arith, common_steps, get_or_append_left, whole, own, cases_eq, at_index, length_longer, elsewhere, lower, counted)
 
   -- all are as they were
   pub same_more : (k : ℕ) → slice_index_or longer (slot_of more k) Gone ≡ slice_index_or places (slot_of homes k) Gone

@@ -1,3 +1,4 @@
+use Rattle.std.proofs.lemmas.Grind.{common_steps}
 -- Words with marks of all numbers below a limit.
 use Rattle.std.proofs.Common.{◌≡◌, ℕ, ◌+◌, ◌-◌, ◌*◌, ◌/◌, ◌%◌, ◌^◌, ◌<◌, inl, inr, true, false, [], ◌∷◌, List, length, replicate, slice_index, refl, sym, ◌∙◌, ap, min, arith}
 use Rattle.std.specs.Prelude.{slice_set}
@@ -56,13 +57,7 @@ module _ (count last : ℕ) (full : List ℕ) (full_is : full ≡ replicate (cou
       ])
 
   pub all_blank : IsUnmarkedFrom count words
-  all_blank k from = unmarked_in words k
-      (elim (cases_lt (count / 64) (k / 64)) as (λ _. bit_at (slice_index words (k / 64)) (k % 64) ≡ 0) [
-        | inl more ↦ ap (λ n. bit_at n (k % 64)) (past (k / 64) more) ∙ bit_at-zero (k % 64)
-        | inr here ↦
-            let same : k / 64 ≡ count / 64 = omega arith in
-            ap (λ w. bit_at (slice_index words w) (k % 64)) same ∙ ap (λ n. bit_at n (k % 64)) at_last ∙ bit_at_ones_above (count % 64) (k % 64) (omega arith)
-      ])
+  all_blank k from = grind (arith, common_steps, unmarked_in, cases_lt, past, bit_at-zero, at_last, bit_at_ones_above)
 
 -- a mark above for each word that has one
 pub summed_all : (count d : ℕ) (words above : List ℕ) → count < 2 ^ 64 → d ≡ count / 64 + min 1 (count % 64)

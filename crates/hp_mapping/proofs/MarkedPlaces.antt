@@ -1,7 +1,8 @@
+use Rattle.std.proofs.lemmas.Grind.{common_steps}
 -- Places with their marks, after a change of one place.
 use mir.Val.{bool_byte}
 use Rattle.std.proofs.Common.{refl, zero, suc, [], ◌∷◌, ◌||◌, replicate, map, Option, None, Some, is_some, not, ◌≡◌, ℕ, ◌*◌}
-use Rattle.std.proofs.Common.{◌<◌, ◌≤◌, ◌-◌, inl, inr, Bool, true, false, List, length, slice_index_or, slice_set, sym, ◌∙◌, ap, cond, ◌+◌, arith}
+use Rattle.std.proofs.Common.{◌<◌, ◌≤◌, ◌-◌, Bool, true, false, List, length, slice_index_or, slice_set, sym, ◌∙◌, ap, cond, ◌+◌, arith}
 use Rattle.std.proofs.lemmas.Bool.{cases_eq, cases_lt}
 use Rattle.std.proofs.lemmas.List.{get_or-set_same, get_or-set_other, length-set, get_or-replicate, get_or_past, length-replicate, length-map}
 use Rattle.std.specs.List.{count_by, list_any}
@@ -23,39 +24,17 @@ or_true false b e = e
 -- one place changes, and the test sees it as before
 same_marked : (test : Place ℕ → Bool) (places : List (Place ℕ)) (marks : List ℕ) (at : ℕ) (p : Place ℕ) → AreMarked test places marks → at < length places
     → test p ≡ test (slice_index_or places at Gone) → AreMarked test (slice_set places at p) marks
-same_marked test places marks at p s within same = record {
-  are = λ k.
-      elim (cases_eq k at) as (λ _. marked marks k ≡ test (slice_index_or (slice_set places at p) k Gone)) [
-        | inl e ↦ rw e (s.are at ∙ sym same ∙ ap test (sym (get_or-set_same places at p Gone within)))
-        | inr other ↦ s.are k ∙ ap test (sym (get_or-set_other places at k p Gone other))
-      ];
-  room = omega (arith, length-set places at p, s.room);
-}
+same_marked test places marks at p s within same = grind (arith, common_steps, cases_eq, get_or-set_same, get_or-set_other, length-set)
 
 -- or its mark changes with it
 new_marked : (test : Place ℕ → Bool) (places : List (Place ℕ)) (old new : List ℕ) (at : ℕ) (mark : Bool) (p : Place ℕ) → AreMarked test places old → at < length places
     → ChangesMark at mark old new → mark ≡ test p → AreMarked test (slice_set places at p) new
-new_marked test places old new at mark p s within changes fits = record {
-  are = λ k.
-      elim (cases_eq k at) as (λ _. marked new k ≡ test (slice_index_or (slice_set places at p) k Gone)) [
-        | inl e ↦ rw e (changes.here ∙ fits ∙ ap test (sym (get_or-set_same places at p Gone within)))
-        | inr other ↦ changes.others k other ∙ s.are k ∙ ap test (sym (get_or-set_other places at k p Gone other))
-      ];
-  room = omega (arith, length-set places at p, s.room, changes.len);
-}
+new_marked test places old new at mark p s within changes fits = grind (arith, common_steps, cases_eq, get_or-set_same, get_or-set_other, length-set)
 
 -- all places are fresh
 fresh_marked : (test : Place ℕ → Bool) (n : ℕ) (marks : List ℕ) → test Gone ≡ false → ((k : ℕ) → k < n → marked marks k ≡ test (Live false None)) → IsUnmarkedFrom n marks
     → n ≤ 64 * length marks → AreMarked test (replicate n (Live false None)) marks
-fresh_marked test n marks gone on rest room =
-    let all : List (Place ℕ) = replicate n (Live false None) in
-    record {
-      are = λ k. elim (cases_lt k n) as (λ _. marked marks k ≡ test (slice_index_or all k Gone)) [
-        | inl below ↦ on k below ∙ ap test (sym (get_or-replicate n k (Live false None) Gone below))
-        | inr le ↦ rest k le ∙ sym gone ∙ ap test (sym (get_or_past all k Gone (omega (arith, length-replicate {A = Place ℕ} n (Live false None)))))
-      ];
-      room = omega (arith, length-replicate {A = Place ℕ} n (Live false None), room);
-    }
+fresh_marked test n marks gone on rest room = grind (arith, common_steps, cases_lt, get_or-replicate, get_or_past, length-replicate)
 
 pub forked_at : (places : List (Place ℕ)) (k : ℕ) → slice_index_or (map unconsumed places) k Gone ≡ unconsumed (slice_index_or places k Gone)
 forked_at [] k = refl
@@ -65,10 +44,7 @@ forked_at (p ∷ places) (suc k) = forked_at places k
 -- all are of a child's map
 forked_marked : (test : Place ℕ → Bool) (places : List (Place ℕ)) (marks : List ℕ) → ((p : Place ℕ) → test (unconsumed p) ≡ test p) → AreMarked test places marks
     → AreMarked test (map unconsumed places) marks
-forked_marked test places marks same s = record {
-  are = λ k. s.are k ∙ sym (same (slice_index_or places k Gone)) ∙ ap test (sym (forked_at places k));
-  room = omega (arith, length-map places unconsumed, s.room);
-}
+forked_marked test places marks same s = grind (arith, common_steps, forked_at, length-map)
 
 pub copy_live : (page : ℕ) (p : Place ℕ) → is_live (with_copy page p) ≡ is_live p
 copy_live page Gone = refl
@@ -137,18 +113,10 @@ count_forked (p ∷ places) =
 
 pub counted_fresh : (n : ℕ) (live copies : List ℕ) → ((k : ℕ) → k < n → marked live k ≡ true) → IsUnmarkedFrom n live → IsUnmarkedFrom 0 copies → n ≤ 64 * length live → n ≤ 64 * length copies
     → AreCopiesCounted 0 (replicate n (Live false None)) live copies
-counted_fresh n live copies on rest blank live_room copies_room = record {
-  live_are = fresh_marked is_live n live refl on rest live_room;
-  copies_are = fresh_marked has_copy n copies refl (λ k below. blank k (omega arith)) (λ k from. blank k (omega arith)) copies_room;
-  count_is = sym (count_fresh n);
-}
+counted_fresh n live copies on rest blank live_room copies_room = grind (arith, common_steps, fresh_marked, count_fresh)
 
 pub counted_forked : (count : ℕ) (places : List (Place ℕ)) (live copies : List ℕ) → AreCopiesCounted count places live copies → AreCopiesCounted count (map unconsumed places) live copies
-counted_forked count places live copies s = record {
-  live_are = forked_marked is_live places live live_forked s.live_are;
-  copies_are = forked_marked has_copy places copies copy_forked s.copies_are;
-  count_is = s.count_is ∙ sym (count_forked places);
-}
+counted_forked count places live copies s = grind (arith, common_steps, forked_marked, live_forked, copy_forked, count_forked)
 
 -- a reservation was consumed
 pub counted_consumed : (count : ℕ) (places : List (Place ℕ)) (live copies : List ℕ) (at : ℕ) → AreCopiesCounted count places live copies → at < length places →

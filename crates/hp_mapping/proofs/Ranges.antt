@@ -1,5 +1,5 @@
 -- A range of places that left.
-use Rattle.std.proofs.Common.{min, None, Bool, false, if◌then◌else◌, ◌≡◌, ℕ, zero, suc, ◌+◌, ◌-◌, ◌<◌, ◌≤◌, List}
+use Rattle.std.proofs.Common.{min, None, Bool, if◌then◌else◌, ◌≡◌, ℕ, zero, suc, ◌+◌, ◌-◌, ◌<◌, ◌≤◌, List}
 use Rattle.std.proofs.Common.{[], ◌∷◌, ◌++◌, length, take, drop, map, slice_index_or, refl, sym, ◌∙◌, ap, arith, cond}
 use Rattle.std.specs.List.{sum_by, count_by}
 use Rattle.std.proofs.lemmas.List.{same_lists, get_or_default, take-append-drop}
@@ -9,7 +9,6 @@ use Rattle.hp_model.specs.declared.place.Place.TheVariants.{Gone}
 use Rattle.hp_model.specs.Lists.{edit_range, part}
 use Rattle.hp_model.specs.files.Mapping.{Mapping, place_at, copy_of, is_unconsumed}
 use Rattle.hp_mapping.specs.Mapped.{IsClear, reserves_in}
-use Rattle.std.specs.Prelude.{nat_lt}
 use Rattle.std.proofs.lemmas.Bool.Decides.{nat_tests}
 use Rattle.std.proofs.lemmas.Grind.{common_steps}
 
@@ -81,10 +80,7 @@ pub clipped_part : (a b : ℕ) (xs : List (Place ℕ)) → part (min a (length x
 clipped_part a b xs = grind (arith, common_steps)
 
 pub at_start : (m : Mapping ℕ) (k : ℕ) → place_at m (m.start + k) ≡ slice_index_or m.places k Gone
-at_start m k =
-    let off : m.start + k - m.start ≡ k = omega arith in
-    let past : nat_lt (m.start + k) m.start ≡ false = grind (arith, nat_tests) in
-    rw past (ap (λ i. slice_index_or m.places i Gone) off)
+at_start m k = grind (arith, common_steps, nat_tests)
 
 -- no copy in the range, said of the places
 pub clear_places : (a b from to : ℕ) (m : Mapping ℕ) (xs : List (Place ℕ)) → m.places ≡ xs → IsClear a b m → from ≡ min (a - m.start) (length m.places) → to ≡ min (b - m.start) (length m.places)

@@ -1,3 +1,4 @@
+use Rattle.std.proofs.lemmas.Grind.{common_steps}
 -- Words of marks, with the marks of those that have one, after a change.
 use Rattle.std.proofs.Common.{◌≡◌, ℕ, ◌+◌, ◌*◌, ◌/◌, ◌%◌, ◌^◌, ◌<◌, ◌≤◌, true, false, List, length, get_or, sym, ap, ◌∙◌, arith, ⊎_elim}
 use Rattle.std.specs.Int.{bit_at, w64, trailing_zeros}
@@ -14,13 +15,7 @@ zero_unmarked words k zero = unmarked_in words k (ap (λ w. bit_at w (k % 64)) z
 -- without a mark
 pub summed_none : (words above : List ℕ) → length words ≤ 2 ^ 58 → length above ≤ 2 ^ 58 → length words ≤ 64 * length above →
     IsUnmarkedFrom 0 words → IsUnmarkedFrom 0 above → IsSummed words above
-summed_none words above few few_above room blank blank_above = record {
-  few = few;
-  few_above = few_above;
-  none = λ k off. blank k (omega arith);
-  some = λ w on bare. true≢false (sym on ∙ blank_above w (omega arith));
-  room = room;
-}
+summed_none words above few few_above room blank blank_above = grind (arith, common_steps, true≢false)
 
 module _ (words above new : List ℕ) (at : ℕ) (is : IsSummed words above) (others : (k : ℕ) → (k ≡ at → ⊥) → marked new k ≡ marked words k) (long : length new ≡ length words) where
   -- one is marked

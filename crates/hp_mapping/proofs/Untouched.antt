@@ -1,3 +1,4 @@
+use Rattle.std.proofs.lemmas.Grind.{common_steps}
 -- Places of which only the first were ever touched.
 use Rattle.std.proofs.Common.{◌≡◌, ℕ, zero, suc, ◌+◌, ◌-◌, ◌<◌, ◌≤◌, true, is_some, List, ◌∷◌, ◌++◌, length, map, replicate, slice_index_or, slice_set, refl, sym, ◌∙◌, ap, inl, inr, arith}
 use Rattle.std.proofs.lemmas.Bool.{cases_lt}
@@ -37,10 +38,7 @@ module _ (count : ℕ) (first : List (Place ℕ)) where
 
   -- more of them are written
   pub with_more : (more : ℕ) → length first + more ≤ count → with_fresh count (first ++ replicate more fresh) ≡ with_fresh count first
-  with_more more fits =
-      let left : ℕ = count - length (first ++ replicate more fresh) in
-      let all : more + left ≡ count - length first = omega (arith, length-replicate more fresh, length-append first (replicate more fresh), fits) in
-      append_assoc first (replicate more fresh) (replicate left fresh) ∙ ap (λ xs. first ++ xs) (replicate-append-replicate more left fresh ∙ ap (λ n. replicate n fresh) all)
+  with_more more fits = grind (arith, common_steps, length-replicate, length-append, append_assoc, replicate-append-replicate)
 
 -- a place is touched first, and then read or changed
 module _ (count : ℕ) (first now : List (Place ℕ)) (at : ℕ) (fits : length first ≤ count) (less : at < count) (now_is : now ≡ first ++ replicate (at + 1 - length first) fresh) where

@@ -1,3 +1,4 @@
+use Rattle.std.proofs.lemmas.Grind.{common_steps}
 -- An event on one map: its tests, its access, and what follows, whichever these are.
 use Rattle.std.proofs.Common.{◌≡◌, ◌≢◌, ℕ, zero, suc, ◌+◌, ◌-◌, ◌<◌, Bool, true, false, cond, List, [], ◌∷◌, Option, Some, None, Ok, Err, length, refl, sym, ap, subst, ◌∙◌, arith}
 use Rattle.std.specs.Prelude.{Result, slice_index_or, slice_set, nat_lt, not, is_some, ◌&&◌, ◌||◌, ◌==◌}
@@ -148,9 +149,7 @@ module _ {X : Type 0} (took : X → Section → PoolAnswer → X → Type 0) (fu
       here = spot_at m at.file at.map
 
       plan_is : (c : Choice) → then here (act c here) ≡ plan c
-      plan_is c =
-          ap (then here) (sym (tests_pass (tests_of size a.index asked here) (act c here) placed.pass))
-          ∙ sym (ap (λ o. with_value o r.NoSuchMap (λ x. then x (unless (tests_of size a.index asked x) (act c x)))) placed.found)
+      plan_is c = grind (arith, common_steps, here, tests_pass)
 
       -- it was refused
       refusal_kept : (e : Refusal) (new : Slot) (left : X) → Tried took full (λ c. act c here) (Some m) door (Err e) new left → Tried took full plan (Some m) door (Err e) new left
@@ -165,9 +164,7 @@ module _ {X : Type 0} (took : X → Section → PoolAnswer → X → Type 0) (fu
       pub went : (result : Result (Unit {0}) Refusal) (n : Mount) (left : X) (b : Answer) (new : Slot) → result ≡ Ok tt
           → ((p : Plan) → ThroughDoor took p (Some m) door (Ok Done) (Some n) left → ThroughDoor took (then here p) (Some m) door (Ok b) new left)
           → IsAccessed took full size home at a.index intent m door result n left → Tried took full plan (Some m) door (Ok b) new left
-      went result n left b new is follows access =
-          let h = subst (λ q. IsAccessed took full size home at a.index intent m door q n left) is access in
-          (h.0, h.1, subst (λ p. ThroughDoor took p (Some m) door (Ok b) new left) (plan_is h.0) (follows (act h.0 here) h.2))
+      went result n left b new is follows access = grind (arith, common_steps, plan_is, here)
 
   -- nothing follows
   pub nothing_follows : KeepsRefusals (λ s p. p)
@@ -185,12 +182,7 @@ module _ {X : Type 0} (took : X → Section → PoolAnswer → X → Type 0) (fu
 -- ---- the same map after an access
 
 pub again_is : (m n : Mount) (file map : ℕ) → file < length m.files → map < length (file_in m file).maps → IsFileTouched m n file → again n (spot_at m file map) ≡ spot_at n file map
-again_is m n file map fl ml t =
-    let files = t.files in
-    let maps = t.maps in
-    let f : slice_index_or n.files file (file_in m file) ≡ file_in n file = get_or_default n.files file (file_in m file) (new_file None) (omega (arith, files, fl)) in
-    ap (λ g. record { file_no = file; file = g; map_no = map; map = slice_index_or g.maps map (map_in (file_in m file) map) }) f
-    ∙ ap (λ x. record { file_no = file; file = file_in n file; map_no = map; map = x }) (get_or_default (file_in n file).maps map (map_in (file_in m file) map) no_map (omega (arith, maps, ml)))
+again_is m n file map fl ml t = grind (arith, common_steps, get_or_default)
 
 -- a shared map's access
 pub shared_is : (c : Choice) (size : ℕ) (m : Mount) (s : Spot) (home i : ℕ) (intent : Intent) → is_shared s.map.sharing ≡ true →

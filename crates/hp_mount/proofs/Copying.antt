@@ -1,3 +1,4 @@
+use Rattle.std.proofs.lemmas.Grind.{common_steps}
 -- What the share and the files keep where a private map gets a copy, or takes one back.
 use Rattle.std.proofs.Common.{◌≡◌, ℕ, zero, suc, ◌+◌, ◌<◌, ◌||◌, ◌&&◌, Bool, true, false, Option, None, Some, List, [], ◌∷◌, length, map, max, refl, sym, ap, subst, ◌∙◌, arith}
 use Rattle.std.specs.Prelude.{not, slice_set}
@@ -16,7 +17,6 @@ use Rattle.hp_model.specs.files.Mapping.{Map, is_unconsumed, no_map, place_at, w
 use Rattle.hp_model.specs.files.MountCounts.{file_pages, stamps_of}
 use Rattle.hp_model.specs.files.Page.{Copy, Page}
 use Rattle.hp_model.specs.Lists.{is_among}
-use Rattle.hp_model.specs.machine.Plan.{Choice}
 use Rattle.hp_mount_door.specs.Door.{with_granted, with_page}
 use Rattle.hp_lookup.specs.Dropping.{IsLeft}
 use Rattle.hp_lookup.specs.Files.{Files, copied_at, file_at, parted_at, taken_back_at}
@@ -82,18 +82,7 @@ module _ (s : Subpool) (v : Files) (inodes : Option ℕ) (m : Mount) (c : IsKept
 
   -- a reservation of an owner is held
   pub owner_held : (consumed : Bool) → place_at y i ≡ Live consumed None → has_reserve y i ≡ true → 0 < s.held
-  owner_held consumed place e =
-      let is = owes y i consumed place e in
-      let choice : Choice = fresh_choice false (Some (mount_from s inodes v.files)) in
-      let none : is_among choice.stamp (flat_map stamps_of v.files) ≡ false = above (mount_from s inodes v.files) in
-      let copy : Copy = record { stamp = choice.stamp; page = record { node = 0; bytes = [] } } in
-      let all = grows s v inodes c k l (with_map f j (with_place y i (Live true (Some copy)))) 0 1 0
-      (copy_consumes f j y i copy here (place ∙ ap (λ b. Live b None) is.1) is.0 (fresh_in choice.stamp v.files k l none)) in
-      let had = c.pages in
-      let was = c.used in
-      let more = all.pages in
-      let same = all.usage in
-      omega (arith, had, was, more, same)
+  owner_held consumed place e = grind (arith, common_steps, owes, fresh_choice, above, grows, l, copy_consumes, here, fresh_in)
 
   -- a first copy by the owner's reservation
   module _ (stamp : ℕ) (page : Page) (fresh : is_among stamp (flat_map stamps_of v.files) ≡ false) (consumed : Bool) (place : place_at y i ≡ Live consumed None) (new : Subpool) (w : Files) where
@@ -104,17 +93,7 @@ module _ (s : Subpool) (v : Files) (inodes : Option ℕ) (m : Mount) (c : IsKept
     fresh_here = fresh_in stamp v.files k l fresh
 
     pub reserved_kept : has_reserve y i ≡ true → new ≡ with_page s → w ≡ copied_at k j i (y.owner || consumed) stamp page v → IsKept new w (mount_from new inodes w.files)
-    reserved_kept e new_is w_is =
-        let is = owes y i consumed place e in
-        let held = owner_held consumed place e in
-        let held_is = ap (λ (x : Subpool). x.held) new_is in
-        let pages_is = ap (λ (x : Subpool). x.pages) new_is in
-        let room_is = ap (λ (x : Files). x.room) w_is in
-        let room = c.room in
-        grown s v inodes c k l new w (with_map f j (with_place y i (Live true (Some copy)))) page.node 1 0
-        (copy_consumes f j y i copy here (place ∙ ap (λ b. Live b None) is.1) is.0 fresh_here) (ap (λ (x : Subpool). x.max) new_is) (ap (λ (x : Subpool). x.min) new_is)
-        pages_is (omega (arith, held_is, pages_is, held)) (omega (arith, held_is, room_is, room, held)) (ap (λ (x : Files). x.going) w_is)
-        (ap (λ (x : Files). x.files) w_is ∙ ap (λ b. slice_set v.files k (with_map f j (with_place y i (Live (b || consumed) (Some copy))))) is.0)
+    reserved_kept e new_is w_is = grind (arith, common_steps, owes, owner_held, grown, l, copy_consumes, here, fresh_here)
 
     pub reserved_left : has_reserve y i ≡ true → new ≡ with_page s → w ≡ copied_at k j i (y.owner || consumed) stamp page v →
         mount_from new inodes w.files ≡ with_place_at m k j i (Live true (Some copy))
@@ -127,13 +106,7 @@ module _ (s : Subpool) (v : Files) (inodes : Option ℕ) (m : Mount) (c : IsKept
       files_are = ap (λ (x : Files). x.files) w_is ∙ ap (λ b. slice_set v.files k (with_map f j (with_place y i (Live b (Some copy))))) (owes_nothing y i consumed place none)
 
       pub granted_kept : s.held < spare → IsKept new w (mount_from new inodes w.files)
-      granted_kept enough =
-          let held_is = ap (λ (x : Subpool). x.held) new_is in
-          let pages_is = ap (λ (x : Subpool). x.pages) new_is in
-          let room_is = ap (λ (x : Files). x.room) w_is in
-          grown s v inodes c k l new w (with_map f j (with_place y i (Live consumed (Some copy)))) page.node 1 1
-          (copy_grows f j y i consumed copy here place fresh_here) (ap (λ (x : Subpool). x.max) new_is) (ap (λ (x : Subpool). x.min) new_is)
-          pages_is (omega (arith, held_is, pages_is)) (omega (arith, held_is, room_is, enough)) (ap (λ (x : Files). x.going) w_is) files_are
+      granted_kept enough = grind (arith, common_steps, grown, l, copy_grows, here, fresh_here, files_are)
 
       pub granted_left : mount_from new inodes w.files ≡ with_place_at m k j i (Live consumed (Some copy))
       granted_left = placed_left (Live consumed (Some copy)) new w (ap (λ (x : Subpool). x.max) new_is) (ap (λ (x : Subpool). x.min) new_is) files_are

@@ -1,3 +1,4 @@
+use Rattle.std.proofs.lemmas.Grind.{common_steps}
 -- A range of a file that is filled, by what code did.
 use Rattle.std.proofs.Common.{◌≡◌, ℕ, ◌+◌, ◌-◌, ◌<◌, ◌≤◌, ◌==◌, Bool, true, false, cond, List, [], Option, None, Some, Ok, Err}
 use Rattle.std.proofs.Common.{length, max, refl, sym, ap, subst, ◌∙◌, arith, nat_lt}
@@ -71,26 +72,7 @@ module _ (s : Subpool) (v : Files) (inodes : Option ℕ) (c : IsKept s v (mount_
         (ap (λ (x : Subpool). x.max) new_is) (ap (λ (x : Subpool). x.min) new_is) (ap (λ (x : Files). x.files) w_is)
 
     pub filled_kept : IsKept new w (mount_from new inodes w.files)
-    filled_kept =
-        let all = fills takes in
-        let more_pages = all.pages in
-        let more_usage = all.usage in
-        let wide = long takes in
-        let held = enough_held in
-        let had = c.pages in
-        let was = c.used in
-        let held_is = ap (λ (x : Subpool). x.held) new_is in
-        let pages_is = ap (λ (x : Subpool). x.pages) new_is in
-        let room_is = ap (λ (x : Files). x.room) w_is in
-        let same = length-set v.files k (g takes) in
-        let few = c.few in
-        subst (λ n. IsKept new w n) (sym filled_left) (record {
-          pages = omega (arith, pages_is, had, more_pages, wide);
-          used = omega (arith, pages_is, held_is, had, was, more_usage, held, more_is);
-          room = omega (arith, held_is, room_is, held);
-          going = ap (λ (x : Files). x.going) w_is ∙ c.going;
-          few = omega (arith, same, few);
-        })
+    filled_kept = grind (arith, common_steps, fills, long, enough_held, length-set, filled_left)
 
 -- ---- the section
 
@@ -106,9 +88,7 @@ module _ {X : Type 0} (took : X → Section → PoolAnswer → X → Type 0) (fu
 
   tests : (c : Choice) (is refused : Bool) → is_full m (unentered a b f) ≡ is → c.refused ≡ refused → (reply : Reply) (new : Slot) (left : X)
       → ThroughDoor took (cond is (refuse r.MountFull) (cond refused (refuse r.OutOfMemory) asks)) (Some m) door reply new left → ThroughDoor took (plan c) (Some m) door reply new left
-  tests c is refused e z reply new left h =
-      subst (λ b. ThroughDoor took (cond b (refuse r.MountFull) (cond c.refused (refuse r.OutOfMemory) asks)) (Some m) door reply new left) (sym e)
-      (subst (λ b. ThroughDoor took (cond is (refuse r.MountFull) (cond b (refuse r.OutOfMemory) asks)) (Some m) door reply new left) (sym z) h)
+  tests c is refused e z reply new left h = grind (arith, common_steps)
 
   pub fill_full : is_full m (unentered a b f) ≡ true → Tried took full plan (Some m) door (Err r.MountFull) (Some m) door
   fill_full e = (let c : Choice = fresh_choice false (Some m) in (c, is_fresh false (Some m), tests c true false e refl (Err r.MountFull) (Some m) door (refused_at took m r.MountFull door)))
@@ -205,7 +185,4 @@ module _ {X : Type 0} (took : X → Section → PoolAnswer → X → Type 0) (fu
 
       pub fill_went : 0 < lacking a b (file_in m k) → (reply : Reply) (new : Slot) (left : X) →
           Tried took full (λ c. fill c size m a b (k, file_in m k)) (Some m) door reply new left → Tried took full event (Some m) door reply new left
-      fill_went some reply new left h =
-          let more : (lacking a b (file_in m k) == 0) ≡ false = grind (arith, nat_tests, some) in
-          tried_as took full (λ c. fill c size m a b (k, file_in m k)) event (λ c. sym (ap (λ t. cond t (Finish (Answered Done (Some m))) (fill c size m a b (k, file_in m k))) more)
-          ∙ sym (tests_pass (preallocate_tests a b) (after c) pass) ∙ sym (of_file c)) (Some m) door reply new left h
+      fill_went some reply new left h = grind (arith, common_steps, nat_tests, tried_as, tests_pass, of_file)

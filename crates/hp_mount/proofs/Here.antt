@@ -1,3 +1,4 @@
+use Rattle.std.proofs.lemmas.Grind.{common_steps}
 -- What is said of a mount as a caller sees it is so of it as the fields show it.
 use Rattle.std.proofs.Common.{◌≡◌, ℕ, ◌<◌, false, None, true, length, ap, subst, sym, ◌∙◌, arith}
 use Rattle.std.proofs.lemmas.List.{get_or-set_same, length-set}
@@ -39,9 +40,7 @@ module _ {m n : Mount} (same : m ≡ n) (k : ℕ) where
 pub needs_copy : (m : Mount) (k j i : ℕ) (intent : Intent) → is_shared (map_in (file_in m k) j).sharing ≡ false → is_live (place_at (map_in (file_in m k) j) i) ≡ true
     → copy_of (place_at (map_in (file_in m k) j) i) ≡ None → (map_in (file_in m k) j).unmapped ≡ false → shows_page intent (cell_at (file_in m k) i) ≡ false
     → NeedsCopy intent i (spot_at m k j)
-needs_copy m k j i intent private live bare kept asks =
-    let here = bare_place (place_at (map_in (file_in m k) j) i) live bare in
-    record { consumed = here.0; private = private; place = here.1; kept = kept; asks = asks }
+needs_copy m k j i intent private live bare kept asks = grind (arith, common_steps, bare_place)
 
 -- an index that was entered, with other room, has its entry
 module _ (v w : Files) (room k i : ℕ) (there : k < length v.files) (below : i < length (file_at v.files k).cells)

@@ -3,3 +3,4 @@ mod Copying
 mod Filling
 mod Here
 pub mod Loading
+mod Storing

@@ -1,5 +1,6 @@
+use Rattle.std.proofs.lemmas.Grind.{common_steps}
 -- What a load answers, from a page that it found or had made.
-use Rattle.std.proofs.Common.{◌≡◌, ℕ, Bool, true, false, List, length, take, drop, None, Some, Ok, refl, sym, ap, subst}
+use Rattle.std.proofs.Common.{◌≡◌, ℕ, Bool, true, false, List, length, take, drop, None, Some, Ok, refl, sym, ap, arith}
 use Rattle.std.specs.Prelude.{Result}
 use denote.Ref.{Bor}
 use Rattle.hp_model.specs.beside.Accesses.{bytes_reply}
@@ -12,6 +13,7 @@ use Rattle.hp_model.specs.declared.place.Place.TheVariants.{Gone, Live}
 use Rattle.hp_model.specs.declared.refusal.Refusal.{Refusal}
 use Rattle.hp_model.specs.declared.section.PoolAnswer.{PoolAnswer}
 use Rattle.hp_model.specs.declared.section.Section.{Section}
+use Rattle.hp_model.specs.declared.step.Intent.{Intent}
 use Rattle.hp_model.specs.declared.step.Intent.TheVariants.{Read}
 use Rattle.hp_model.specs.files.Access.{access, shared_access}
 use Rattle.hp_model.specs.files.File.{Mount, cell_at, has_page}
@@ -19,10 +21,8 @@ use Rattle.hp_model.specs.files.Mapping.{copy_of, is_live, is_shared, place_at}
 use Rattle.hp_model.specs.files.Page.{Copy, Page}
 use Rattle.hp_model.specs.files.Spot.{Spot}
 use Rattle.hp_model.specs.files.Value.{value}
-use Rattle.hp_model.specs.machine.Plan.{Choice, and_then}
+use Rattle.hp_model.specs.machine.Plan.{Choice}
 use Rattle.hp_model.specs.machine.Promises.{file_in, map_in}
-use Rattle.hp_model.specs.machine.SlotEvent.{bytes_answer}
-use Rattle.hp_model.specs.threads.LocalRun.{Gives}
 use Rattle.hp_lookup.specs.declared.map_place.MapPlace.{MapPlace}
 use Rattle.hp_mount_files.specs.Lent.{IsReadable}
 use Rattle.hp_mount_laws.specs.Done.{IsAccessed, IsDone}
@@ -46,6 +46,11 @@ module _ {X : Type 0} (took : X → Section → PoolAnswer → X → Type 0) (fu
   abbrev s : Spot
   s = spot_at m at.file at.map
 
+  -- a shared map at a page that is there
+  pub present_shared : (intent : Intent) (page : Page) → is_shared s.map.sharing ≡ true → cell_at s.file i ≡ Present page → IsAccessed took full size home at i intent m door (Ok tt) m door
+  present_shared intent page shared there = tried_as took full (λ (x : Choice). shared_access x size m s home i (cell_at s.file i)) (λ (x : Choice). access x size m s home i intent)
+      (λ x. sym (shared_is x size m s home i intent shared)) (Some m) door (Ok Done) (Some m) door (shared_present took full size m home at.file i s refl refl door page there)
+
   -- a reader who need not ask for a page
   pub found_read : is_live (place_at s.map i) ≡ true → IsReadable i s.file s.map → IsAccessed took full size home at i Read m door (Ok tt) m door
   found_read live r = either (is_shared s.map.sharing) refl
@@ -58,9 +63,7 @@ module _ {X : Type 0} (took : X → Section → PoolAnswer → X → Type 0) (fu
       either : (b : Bool) → is_shared s.map.sharing ≡ b → IsAccessed took full size home at i Read m door (Ok tt) m door
       either true shared =
           let there = present (cell_at s.file i) (r.shared shared) in
-          tried_as took full (λ (x : Choice). shared_access x size m s home i (cell_at s.file i)) (λ (x : Choice). access x size m s home i Read)
-          (λ x. sym (shared_is x size m s home i Read shared)) (Some m) door (Ok Done) (Some m) door
-          (shared_present took full size m home at.file i s refl refl door there.0 there.1)
+          present_shared Read there.0 shared there.1
       either false private = here (place_at s.map i) refl live private
 
 module _ {X : Type 0} (took : X → Section → PoolAnswer → X → Type 0) (full : X → Type 0) (size home : ℕ) (m : Mount) (door : X) (a : MapAccess) (offset count : ℕ) (at : MapPlace)
@@ -70,16 +73,7 @@ module _ {X : Type 0} (took : X → Section → PoolAnswer → X → Type 0) (fu
       → IsAccessed took full size home at a.index Read m door result n left → length bytes.now ≡ count
       → bytes.now ≡ take count (drop offset (value size (file_in n at.file) (map_in (file_in n at.file) at.map) a.index))
       → (k : ℕ) → IsDone took full size k (Some m) door (Load a.task home a.map a.index offset count) (bytes_reply (Ok bytes)) (Some n) left
-  loaded result n left bytes ok touched reached all shown k =
-      let cont = loads size a.index offset count in
-      let s = spot_at m at.file at.map in
-      let b = bytes_answer offset count (value size (file_in n at.file) (map_in (file_in n at.file) at.map) a.index) in
-      let same = again_is m n at.file at.map placed.file placed.map touched in
-      let shows : Gives (cont s n) (Some m) (Ok b) (Some n) = (ap Ok (ap (λ (x : Spot). bytes_answer offset count (value size x.file x.map a.index)) (sym same)), refl) in
-      subst (λ r. IsDone took full size k (Some m) door (Load a.task home a.map a.index offset count) r (Some n) left)
-      (sym (bytes_reply_is bytes offset count (value size (file_in n at.file) (map_in (file_in n at.file) at.map) a.index) all shown)) (
-      went took full m door size home a Read (Bytes offset count) (λ s p. and_then (cont s) p) (follows took full m door cont) at placed
-      result n left b (Some n) ok (λ p h. then_goes took m (cont s) p door left Done n (Ok b) (Some n) h shows) reached)
+  loaded result n left bytes ok touched reached all shown k = grind (arith, common_steps, loads, again_is, bytes_reply_is, went, follows, then_goes)
 
   -- one that found it leaves all as it was
   pub loaded_found : (bytes : Bor (List ℕ)) → IsReadable a.index (file_in m at.file) (map_in (file_in m at.file) at.map) → length bytes.now ≡ count

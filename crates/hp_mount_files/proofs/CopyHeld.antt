@@ -1,3 +1,4 @@
+use Rattle.std.proofs.lemmas.Grind.{common_steps}
 -- How many hold a copy of a map.
 use Rattle.std.proofs.Common.{◌≡◌, ℕ, ◌+◌, ◌-◌, ◌<◌, ◌≤◌, ◌==◌, ◌^◌, ⊎_elim, Bool, true, cond, None, Some, List, [], ◌∷◌, length, map, refl, sym, ap, subst, ◌∙◌, arith}
 use Rattle.std.specs.Prelude.{slice_index_or}
@@ -15,7 +16,7 @@ use Rattle.hp_model.specs.files.Page.{Copy}
 use Rattle.hp_model.specs.machine.Sound.{file_has, is_stamp, map_has, place_has}
 use Rattle.hp_store.specs.Store.{Store, held_count, holders_of, page_at}
 use Rattle.hp_lookup.specs.Files.{file_at}
-use Rattle.hp_lookup.specs.Held.{IsHeld, in_cell, in_file, in_map, in_place}
+use Rattle.hp_lookup.specs.Held.{IsHeld, in_cell, in_map, in_place}
 use Rattle.hp_lookup.specs.Numbered.{NumberedFile, copy_shown, file_shown, files_shown, map_shown, mapping_at, no_mapping, numbered_at, page_in, place_shown}
 use Rattle.hp_lookup.specs.Places.{map_among}
 use Rattle.hp_file.specs.States.{AreAgreed, is_stamp_at}
@@ -101,34 +102,14 @@ module _ (s : Store) (more : ℕ) (fs : List NumberedFile) (h : IsHeld s more fs
 
       -- the number stands in one of the file's maps
       pub in_maps : 0 < sum_by (in_map n) f.maps
-      in_maps =
-          let y : Mapping ℕ = mapping s more fs h k j i l jl x read in
-          let at = place_inside y i n here in
-          let one = ap (in_place n) (live_copy (slice_index_or y.places (i - y.start) Gone) n at.1).1 ∙ is_it n in
-          let places = at_most (λ (p : Place ℕ). p) (λ p. p) (in_place n) (λ p h. refl) y.places (i - y.start) Gone at.0 in
-          let maps = at_most (λ (m : Mapping ℕ). m) (λ m. m) (in_map n) (λ m h. refl) f.maps j no_mapping (jl_in s more fs h k j i l jl x read) in
-          omega (arith, one, places, maps)
+      in_maps = grind (arith, common_steps, mapping, place_inside, here, live_copy, is_it, at_most, m, jl_in)
 
       -- and in no cell
       pub no_cells : sum_by (in_cell n) f.cells ≡ 0
-      no_cells =
-          let inside = within s more fs h k j i l jl x read in
-          let maps = in_maps in
-          let all = at_most (λ (f : NumberedFile). f) (λ f. f) (in_file n) (λ f h. refl) fs k no_file inside in
-          let cells = at_most (λ (f : NumberedFile). f) (λ f. f) (λ (f : NumberedFile). sum_by (in_cell n) f.cells) (λ f h. refl) fs k no_file inside in
-          ⊎_elim (λ (none : sum_by (in_cell n) f.cells ≡ 0). none)
-          (λ (some : 0 < sum_by (in_cell n) f.cells). (let one = h.alone n (omega (arith, some, cells)) in absurd (omega (arith, one, all, maps, some))))
-          (none_or_some (sum_by (in_cell n) f.cells))
+      no_cells = grind (arith, common_steps, within, in_maps, at_most, no_file, none_or_some)
 
       pub holders_counted : holders_of (page_at s n) ≡ count_by (λ q. q == n) (stamps_of (file_at (files_shown s fs) k))
-      holders_counted =
-          let inside = within s more fs h k j i l jl x read in
-          let maps = in_maps in
-          let none = no_cells in
-          let had = h.held n in
-          let all = h.apart n k inside (omega (arith, maps)) in
-          let counted = ap (λ g. count_by (λ q. q == n) (stamps_of g)) (file_is s fs k inside) ∙ stamp_counts s n f in
-          omega (arith, had, all, none, counted)
+      holders_counted = grind (arith, common_steps, within, in_maps, no_cells, file_is, stamp_counts)
 
       pub held_once : (b : Bool) → (holders_of (page_at s n) == 1) ≡ b → is_held_once (file_at (files_shown s fs) k) n ≡ b
       held_once b e = ap (λ c. c == 1) (sym holders_counted) ∙ e

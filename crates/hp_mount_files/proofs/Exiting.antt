@@ -1,5 +1,6 @@
+use Rattle.std.proofs.lemmas.Grind.{common_steps}
 -- All maps of a task leave the files.
-use Rattle.std.proofs.Common.{◌≡◌, ℕ, ◌+◌, ◌-◌, ◌<◌, ◌≤◌, ◌==◌, ◌||◌, ◌&&◌, nat_lt, Bool, true, false, not, cond, ⊎_elim, List, [], ◌∷◌, length, map, refl, sym, ap, ◌∙◌, arith}
+use Rattle.std.proofs.Common.{◌≡◌, ℕ, ◌+◌, ◌-◌, ◌≤◌, ◌==◌, ◌||◌, ◌&&◌, nat_lt, Bool, true, false, not, cond, List, [], ◌∷◌, length, map, refl, sym, ap, ◌∙◌, arith}
 use Rattle.std.specs.Prelude.{is_some}
 use Rattle.std.specs.List.{count_by, filter, sum_by}
 use Rattle.std.proofs.lemmas.Bool.{cases_lt, eqb-true}
@@ -175,12 +176,7 @@ module _ {n later : Noted} {s t : Store} {more now maps : ℕ} {tally : ℕ → 
   all_maps_are = is.keyed.map_count ∙ maps_in fs
 
   maps_left : maps - k ≡ sum_by (λ (q : Label). length q.keys) (labels_of kept)
-  maps_left =
-      let all = all_maps_are in
-      let left = maps_in kept in
-      let same = sum_kept (λ (f : NumberedFile). length f.maps) (λ f out. ap (λ (f : NumberedFile). length f.maps) (empty_file f out).1) in
-      let gone = went.gone in
-      omega (arith, all, left, same, gone)
+  maps_left = grind (arith, common_steps, all_maps_are, maps_in, sum_kept, empty_file)
 
   -- the task has none left, the others what they had
   tally_left : (q : ℕ) → sum_by (maps_for q) (labels_of kept) ≡ cond (task == q) 0 (tally q)
@@ -228,9 +224,7 @@ module _ {n later : Noted} {s t : Store} {more now maps : ℕ} {tally : ℕ → 
 
   -- the task's keys are noted no more, and the other tasks keep theirs
   own_gone : (m : ℕ) → has_key task m later ≡ false
-  own_gone m = ⊎_elim (λ (some : 0 < sum_by (maps_named task m) fs). went.noted.gone m some)
-      (λ (none : sum_by (maps_named task m) fs ≤ 0). went.noted.less.keys task m (is.noted.no_key task m (let all = named_labelled task m fs in omega (arith, none, all))))
-      (cases_lt 0 (sum_by (maps_named task m) fs))
+  own_gone m = grind (arith, common_steps, named_labelled, cases_lt)
 
   keys_kept : (q m : ℕ) → (q == task) ≡ false → sum_by (keys_in q m) (labels_of kept) ≡ sum_by (keys_in q m) (labels_of fs)
   keys_kept q m apart =

@@ -1,3 +1,4 @@
+use Rattle.std.proofs.lemmas.Grind.{common_steps}
 -- Files whose maps of a parent are followed by a child's.
 use Rattle.std.proofs.Common.{◌≡◌, ℕ, zero, suc, ◌+◌, ◌-◌, ◌<◌, ◌≤◌, ◌==◌, ◌||◌, ◌&&◌, ⊎_elim, ◌⊎◌, inl, inr, nat_lt, Bool}
 use Rattle.std.proofs.Common.{true, false, cond, Some, None, List, [], ◌∷◌, ◌++◌, length, map, refl, sym, ap, ◌∙◌, arith}
@@ -271,11 +272,7 @@ module _ (parent child : ℕ) (apart : (parent == child) ≡ false) where
 
     module _ (gone : (q : ℕ) → sum_by (keys_in child q) (labels_of fs) ≡ 0) where
       keys_more : (t q : ℕ) (f : NumberedFile) → keys_in t q (label_of (more_of f)) ≡ keys_in t q (label_of f) + count_by (is_map t q) (kids f.maps)
-      keys_more t q f =
-          let all = keys_are child t q (more_of f) in
-          let old = keys_are child t q f in
-          let both = sum_by-append (λ m. cond {A = ℕ} (is_map t q m) 1 0) f.maps (kids f.maps) in
-          omega (arith, all, old, both)
+      keys_more t q f = grind (arith, common_steps, keys_are, sum_by-append)
 
       keys_child : (q : ℕ) → sum_by (keys_in child q) (labels_of (all_of fs)) ≡ sum_by (keys_in parent q) (labels_of fs)
       keys_child q = (let all = each fs in let none = gone q in omega (arith, all, none))

@@ -1,3 +1,4 @@
+use Rattle.std.proofs.lemmas.Grind.{common_steps}
 -- A fork as code leaves the files: maps of the child's number gone, and then the child's maps behind their parent's.
 use Rattle.std.proofs.Common.{◌≡◌, ℕ, suc, ◌+◌, ◌-◌, ◌<◌, ◌≤◌, ◌^◌, ◌==◌, ◌||◌, nat_lt, Bool, true, false, not, cond}
 use Rattle.std.proofs.Common.{None, max, replicate, List, [], ◌∷◌, ◌++◌, length, map, refl, sym, ap, subst, ◌∙◌, arith}
@@ -318,13 +319,7 @@ module _ {n dropped : Noted} {s t : Store} {more now maps held : ℕ} {tally : �
     shares = came.sharing
 
     enough : held + more2 ≤ u.room
-    enough =
-        let was = set.is.held.counted in
-        let less = went.dropping.fewer in
-        let room = set.room in
-        let same = shares.room in
-        let before = went.dropping.room in
-        omega (arith, was, less, room, same, before, went.counted, came.more_are)
+    enough = grind (arith, common_steps)
 
     parts : more2 ≤ u.room
     parts = (let all = enough in omega (arith, all))

@@ -1,17 +1,17 @@
+use Rattle.std.proofs.lemmas.Grind.{common_steps}
 -- What is said of the files as a caller sees them is so of them as the fields show them, and of the file and map that code reads.
 use Rattle.std.proofs.Common.{◌≡◌, ℕ, ◌<◌, true, None, Some, List, length, refl, ap, subst, sym, ◌∙◌, arith}
 use Rattle.std.specs.Prelude.{IsSome, slice_index_or}
 use Rattle.std.proofs.lemmas.List.{get_or_default, length-map}
 use Rattle.hp_model.specs.declared.place.Place.{Place}
 use Rattle.hp_model.specs.declared.place.Place.TheVariants.{Gone, Live}
-use Rattle.hp_model.specs.files.File.{File}
-use Rattle.hp_model.specs.files.Mapping.{Map, copy_of, is_live, place_at}
+use Rattle.hp_model.specs.files.Mapping.{copy_of, is_live, place_at}
 use Rattle.hp_model.specs.files.Page.{Copy}
 use Rattle.hp_store.specs.Store.{Store}
 use Rattle.hp_lookup.specs.declared.copy_state.CopyState.{CopyState}
 use Rattle.hp_lookup.specs.Files.{Files, file_at}
 use Rattle.hp_lookup.specs.Held.{IsHeld, in_file, in_files}
-use Rattle.hp_lookup.specs.Numbered.{NumberedFile, files_shown, map_shown, mapping_at, no_mapping, numbered_at, place_shown}
+use Rattle.hp_lookup.specs.Numbered.{NumberedFile, files_shown, mapping_at, numbered_at, place_shown}
 use Rattle.hp_lookup.specs.Places.{map_among}
 use Rattle.hp_lookup.proofs.Cells.{file_is, no_file}
 use Rattle.hp_lookup.proofs.Lifting.{at_most}
@@ -62,21 +62,11 @@ module _ (s : Store) (more : ℕ) (fs : List NumberedFile) {w : Files} (same : v
 
     module _ (j : ℕ) (there : j < length (file_at w.files k).maps) where
       pub map_inside : j < length x.maps
-      map_inside =
-          let here : j < length (file_at (files_shown s fs) k).maps = map_here same k j there in
-          let seen = ap (λ (f : File). length f.maps) (file_is s fs k file_inside) in
-          let long = length-map (numbered_at fs k).maps (map_shown s) in
-          let own = ap (λ (f : NumberedFile). length f.maps) x_is in
-          omega (arith, here, seen, long, own)
+      map_inside = grind (arith, common_steps, map_here, file_is, file_inside, length-map, x_is)
 
       module _ (i : ℕ) where
         place_inside : place_at (map_among w.files k j) i ≡ place_shown s (place_at (mapping_at x j) i)
-        place_inside =
-            let l : k < length (files_shown s fs) = file_here same k below in
-            let jl : j < length (file_at (files_shown s fs) k).maps = map_here same k j there in
-            let reads = get_or_default x.maps j no_mapping (mapping_at x j) map_inside in
-            sym (ap (λ (v : Files). place_at (map_among v.files k j) i) same)
-            ∙ ap (λ (m : Map). place_at m i) (map_seen s fs k j l x read (mapping_at x j) reads jl) ∙ place_seen s fs k j l x read (mapping_at x j) reads jl i
+        place_inside = grind (arith, common_steps, file_here, map_here, get_or_default, map_inside, map_seen, place_seen)
 
         pub live_inside : is_live (place_at (map_among w.files k j) i) ≡ true → is_live (place_at (mapping_at x j) i) ≡ true
         live_inside live = sym (ap is_live place_inside ∙ live_shown s (place_at (mapping_at x j) i)) ∙ live

@@ -1,3 +1,4 @@
+use Rattle.std.proofs.lemmas.Grind.{common_steps}
 -- What a lent file and a lent map show is so of what they stand for.
 use Rattle.std.proofs.Common.{◌≡◌, ◌≤◌, ℕ, ◌+◌, ◌-◌, ◌&&◌, [], ◌∷◌, None, Some, false, true, length, drop, take, sym, ap, refl, ◌∙◌, arith}
 use Rattle.std.specs.List.{count_by}
@@ -71,9 +72,7 @@ module _ {m : Map} {lent : Mapping ℕ} (is : IsMapLent m lent) where
     live_lent = sym (ap is_live place_lent ∙ live_shown is.store (place_at lent i))
 
     pub reserve_lent : has_reserve lent i ≡ (m.owner && is_unconsumed (place_at m i))
-    reserve_lent =
-        ap (λ b. b && is_unconsumed (place_at lent i)) owner_lent
-        ∙ ap (λ b. m.owner && b) (sym (ap is_unconsumed place_lent ∙ unconsumed_shown is.store (place_at lent i)))
+    reserve_lent = grind (arith, common_steps, owner_lent, place_lent, unconsumed_shown)
 
 -- ---- a reader who need not ask for a page
 

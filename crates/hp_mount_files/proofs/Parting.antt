@@ -1,5 +1,6 @@
+use Rattle.std.proofs.lemmas.Grind.{common_steps}
 -- A map parts from the others that hold its copy: it gets a page of its own.
-use Rattle.std.proofs.Common.{◌≡◌, ◌≢◌, ℕ, ◌+◌, ◌-◌, ◌<◌, ◌==◌, ⊎_elim, Bool, true, false, cond, Option, None, Some, List, [], ◌∷◌, ◌++◌, zero, suc, length, refl, sym, ap, subst, ◌∙◌, arith}
+use Rattle.std.proofs.Common.{◌≡◌, ◌≢◌, ℕ, ◌+◌, ◌-◌, ◌<◌, ◌==◌, Bool, true, false, cond, Option, None, Some, List, [], ◌∷◌, ◌++◌, zero, suc, length, refl, sym, ap, subst, ◌∙◌, arith}
 use Rattle.std.specs.Prelude.{slice_index_or, slice_set}
 use Rattle.std.specs.List.{count_by}
 use Rattle.std.proofs.lemmas.Bool.{eqb-false}
@@ -91,19 +92,11 @@ module _ (s : Store) (more : ℕ) (fs : List NumberedFile) (h : IsHeld s more fs
         more_than_one (suc (suc n)) l other = omega arith
 
     pub some_more : 0 < more
-    some_more =
-        let count = two in
-        let step = drop_more s q (holders_of (page_at s q)) refl (omega (arith, count)) in
-        let counted = h.counted in
-        omega (arith, count, step, counted)
+    some_more = grind (arith, common_steps, two, drop_more)
 
     module _ (n : ℕ) (page : Page) (u : Store) (free : page_at s n ≡ None) (below : n < length s.pages) (u_is : u ≡ inserted n page s) where
       pub still_there : 0 < holders_of (page_at u q)
-      still_there =
-          let count = two in
-          let other : q ≢ n = λ e. (let none = ap (λ r. holders_of (page_at s r)) e ∙ ap holders_of free in absurd (omega (arith, count, none))) in
-          let same = ap (λ (z : Store). holders_of (page_at z q)) u_is ∙ ap holders_of (inserted_agrees n page s q other) in
-          omega (arith, count, same)
+      still_there = grind (arith, common_steps, two, inserted_agrees)
 
     module _ (n : ℕ) (page : Page) (u : Store) (free : page_at s n ≡ None) (below : n < length s.pages) (u_is : u ≡ inserted n page s)
         (g : NumberedFile) (g_is : g ≡ record x { maps = slice_set x.maps j (at_place (with_copy n) i (mapping_at x j)) })
@@ -131,21 +124,10 @@ module _ (s : Store) (more : ℕ) (fs : List NumberedFile) (h : IsHeld s more fs
           (let one = is_it q in let count = two_still in omega (arith, one, count)) (λ r. omega arith) t t_of
 
       put_one : (r : ℕ) → holders_of (page_at v r) ≡ holders_of (page_at s r) + in_place r (Live true (Some n))
-      put_one r = ⊎_elim
-          (λ (e : ((r == n) ≡ true) × (r ≡ n)). (let here = ap (λ z. holders_of (page_at v z)) e.1 ∙ ap holders_of (inserted_is n page s below) in
-          let none = ap (λ z. holders_of (page_at s z)) e.1 ∙ ap holders_of free in
-          let one = ap (λ z. in_place z (Live true (Some n))) e.1 ∙ is_it n in omega (arith, here, none, one)))
-          (λ (e : ((r == n) ≡ false) × (r ≢ n)). (let here = ap holders_of (inserted_agrees n page s r e.1) in let other = is_other n r (λ z. e.1 (sym z)) in omega (arith, here, other)))
-          (eqb_tells r n)
+      put_one r = grind (arith, common_steps, inserted_is, is_it, inserted_agrees, is_other, eqb_tells)
 
       one_less : now + 1 ≡ more
-      one_less =
-          let count = two_still in
-          let step = drop_more v q (holders_of (page_at v q)) refl (omega (arith, count)) in
-          let left = counted ∙ ap (λ (z : Store). more_in z.pages) t_of in
-          let same = inserted_more n page s below free in
-          let had = h.counted in
-          omega (arith, count, step, left, same, had)
+      one_less = grind (arith, common_steps, two_still, drop_more, t_of, inserted_more)
 
       module _ (c : Bool) (copy : Copy) (place : place_at (map_among (files_shown s fs) k j) i ≡ Live c (Some copy)) where
         place_is : place_at m i ≡ Live c (Some q)

@@ -1,5 +1,6 @@
+use Rattle.std.proofs.lemmas.Grind.{common_steps}
 -- A file more, at which no number stands.
-use Rattle.std.proofs.Common.{◌≡◌, ℕ, zero, suc, ◌+◌, ◌<◌, ◌≤◌, Bool, true, false, cond, ⊎_elim, List, [], ◌∷◌, ◌++◌, length, refl, sym, ap, subst, ◌∙◌, arith}
+use Rattle.std.proofs.Common.{◌≡◌, ℕ, zero, suc, ◌+◌, ◌<◌, ◌≤◌, Bool, true, false, cond, List, [], ◌∷◌, ◌++◌, length, refl, sym, ap, subst, arith}
 use Rattle.std.specs.List.{All, count_by, sum_by}
 use Rattle.std.proofs.lemmas.Bool.{cases_lt}
 use Rattle.std.proofs.lemmas.List.{map-append}
@@ -37,20 +38,10 @@ module _ (old now : Noted) (s : Store) (more maps : ℕ) (tally : ℕ → ℕ) (
   at_end (x ∷ xs) n (suc j) l = at_end xs n j (omega (arith, l))
 
   apart : (n j : ℕ) → j < length gs → 0 < in_file n (numbered_at gs j) → in_files n gs ≡ in_file n (numbered_at gs j)
-  apart n j l some = ⊎_elim
-      (λ (inside : j < length fs). same_holders n ∙ is.held.apart n j inside (subst (λ x. 0 < in_file n x) (at_front fs j inside) some) ∙ sym (ap (in_file n) (at_front fs j inside)))
-      (λ (past : length fs ≤ j). (let none = at_end fs n j past in absurd (omega (arith, some, none))))
-      (cases_lt j (length fs))
+  apart n j l some = grind (arith, common_steps, same_holders, at_front, at_end, cases_lt)
 
   held : IsHeld s more gs
-  held = record {
-    held = λ n. is.held.held n ∙ sym (same_holders n);
-    some = is.held.some;
-    alone = λ n some. same_holders n ∙ is.held.alone n (subst (λ k. 0 < k) (same_cells n) some);
-    apart = apart;
-    counted = is.held.counted;
-    parts = is.held.parts;
-  }
+  held = grind (arith, common_steps, same_holders, same_cells, apart)
 
   abbrev own : Label
   own = label_of f

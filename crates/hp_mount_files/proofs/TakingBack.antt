@@ -1,3 +1,4 @@
+use Rattle.std.proofs.lemmas.Grind.{common_steps}
 -- A map takes its copy back from all others that hold it.
 use Rattle.std.proofs.Common.{◌≡◌, ◌≢◌, ℕ, zero, suc, ◌+◌, ◌-◌, ◌<◌, ◌≤◌, ◌==◌, ⊎_elim, Bool, true, false, cond, nat_lt, None, Some, List, [], ◌∷◌, length, map, refl, sym, ap, ◌∙◌, arith}
 use Rattle.std.specs.Prelude.{slice_index_or, slice_set}
@@ -99,13 +100,7 @@ module _ (s : Store) (q : ℕ) where
       either false e = refl
 
   held_here : (p : Place ℕ) → copy_of p ≡ Some q → (holds q (place_shown s p) ≡ true) × (drop_stamp q (place_shown s p) ≡ place_shown s (without_copy p))
-  held_here p e =
-      let live = live_copy p q e in
-      let same : (q == q) ≡ true = eq-eqb q q refl in (
-        ap (λ p. holds q (place_shown s p)) live.1 ∙ same,
-        ap (λ p. drop_stamp q (place_shown s p)) live.1 ∙ ap (λ b. cond {A = Place Copy} b (Live live.0 None) (Live live.0 (Some (copy_shown s q))))
-            same ∙ ap (λ p. place_shown s (without_copy p)) (sym live.1),
-      )
+  held_here p e = grind (arith, common_steps, live_copy, eq-eqb)
 
   -- the number stands nowhere else in the map
   module _ (i : ℕ) (m : Mapping ℕ) (only : (r : ℕ) → copy_of (place_at m r) ≡ Some q → r ≡ i) where
@@ -113,11 +108,7 @@ module _ (s : Store) (q : ℕ) where
     elsewhere r some = only (m.start + r) (ap copy_of (at_start m r) ∙ place_number q (slice_index_or m.places r Gone) some)
 
     alone : copy_of (place_at m i) ≡ Some q → in_map q m ≡ in_place q (slice_index_or m.places (i - m.start) Gone)
-    alone there =
-        let at = place_inside m i q there in
-        one_alone (in_place q) Gone m.places (i - m.start) at.0 (λ r other. ⊎_elim (λ (none : in_place q (slice_index_or m.places r Gone) ≡ 0). none)
-        (λ (some : 0 < in_place q (slice_index_or m.places r Gone)). (let same = elsewhere r some in let low = at.2 in
-        absurd (other (omega (arith, same, low))))) (none_or_some (in_place q (slice_index_or m.places r Gone))))
+    alone there = grind (arith, common_steps, place_inside, one_alone, elsewhere, none_or_some)
 
     clash : true ≡ false → ⊥
     clash e = cc
@@ -129,9 +120,7 @@ module _ (s : Store) (q : ℕ) where
         absurd (clash (sym (number_here q (place_at m i) there) ∙ none)))) (none_or_some (in_place q (slice_index_or m.places r Gone))))
 
     pub one_place : copy_of (place_at m i) ≡ Some q → in_map q m ≡ 1
-    one_place there =
-        let at = place_inside m i q there in
-        alone there ∙ ap (in_place q) (live_copy (slice_index_or m.places (i - m.start) Gone) q at.1).1 ∙ is_it q
+    one_place there = grind (arith, common_steps, place_inside, alone, live_copy, is_it)
 
     pub bare_robbed : in_map q (robbed_at q i m) ≡ 0
     bare_robbed = either (has_number q (place_at m i)) refl
@@ -169,9 +158,7 @@ module _ (s : Store) (q : ℕ) where
             twice (p ∷ ps) = ap (λ xs. drop_stamp q (place_shown s p) ∷ xs) (twice ps)
 
         kept : has_number q (place_at m i) ≡ false → map_shown s m ≡ robbed q (map_shown s m)
-        kept none =
-            let any : list_any (holds q) (map (place_shown s) m.places) ≡ false = any_none (place_shown s) (in_place q) (holds q) not_held m.places (nowhere none) in
-            ap (λ b. cond b (record (map_shown s m) { unmapped = true; places = map (drop_stamp q) (map (place_shown s) m.places) }) (map_shown s m)) (sym any)
+        kept none = grind (arith, common_steps, any_none, not_held, nowhere)
 
         either : (b : Bool) → has_number q (place_at m i) ≡ b → map_shown s (cond b (record (at_place without_copy i m) { unmapped = true }) m) ≡ robbed q (map_shown s m)
         either true e = lost (has_it q (place_at m i) e)

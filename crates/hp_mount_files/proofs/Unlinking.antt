@@ -1,3 +1,4 @@
+use Rattle.std.proofs.lemmas.Grind.{common_steps}
 -- A file that loses its name, and goes where it has no maps.
 use Rattle.std.proofs.Common.{◌≡◌, ◌==◌, ℕ, zero, suc, ◌+◌, ◌<◌, ◌≤◌, nat_lt, ⊎_elim, Bool, true, false, cond, Option, None, Some, List, [], ◌∷◌, length, map, refl, sym, ap, subst, ◌∙◌, arith}
 use Rattle.std.specs.Prelude.{slice_set, slice_index_or}
@@ -39,11 +40,7 @@ use Rattle.hp_lookup.proofs.Views.{files_len, read_is, view}
 -- what code read there twice
 pub same_maps : (s : Store) (fs : List NumberedFile) (k : ℕ) (name : List ℕ) → IsNamed (files_shown s fs) name k → (x z : NumberedFile) →
     x ≡ slice_index_or fs k x → z ≡ slice_index_or fs k z → length z.maps ≡ length x.maps
-same_maps s fs k name named x z x_read z_read =
-    let same = files_len s fs in
-    let below = named.within in
-    let within : k < length fs = omega (arith, below, same) in
-    ap (λ (f : NumberedFile). length f.maps) (read_is fs k z within z_read ∙ sym (read_is fs k x within x_read))
+same_maps s fs k name named x z x_read z_read = grind (arith, common_steps, files_len, read_is)
 
 -- ---- lists of which one element goes
 
@@ -133,35 +130,19 @@ module _ (n later : Noted) (name : List ℕ) (grown : IsMoreBut name n later) (s
       gs = slice_set fs k y
 
       named_held : IsHeld s more gs
-      named_held = alike_held s more fs is.held k within y
-          (λ m. ap (λ (f : NumberedFile). sum_by (in_cell m) f.cells) (y_is ∙ ap (λ (f : NumberedFile). record f { name = None }) x_is))
-          (λ m. ap (in_file m) (y_is ∙ ap (λ (f : NumberedFile). record f { name = None }) x_is))
+      named_held = grind (arith, common_steps, alike_held, within, x_is)
 
       label_is : label_of y ≡ record (label_of x) { name = None }
       label_is = ap label_of y_is
 
       listed : is_listed (label_of y) ≡ true
-      listed =
-          let long = length-map x.maps key_of in
-          let some_keys : nat_lt 0 (length (label_of x).keys) ≡ true = grind (arith, nat_tests) in
-          ap is_listed label_is ∙ some_keys
+      listed = grind (arith, common_steps, length-map, nat_tests, label_is)
 
       names_less : (other : List ℕ) → count_by (has_label other) (labels_of gs) + cond (has_label other (label_of x)) 1 0 ≡ count_by (has_label other) (labels_of fs)
-      names_less other =
-          let step = sum_by-set (λ (f : NumberedFile). cond {A = ℕ} (has_label other (label_of f)) 1 0) fs k y no_file within in
-          let before = sum_through (λ (q : Label). cond {A = ℕ} (has_label other q) 1 0) label_of fs in
-          let after = sum_through (λ (q : Label). cond {A = ℕ} (has_label other q) 1 0) label_of gs in
-          let none = ap (λ (q : Label). cond {A = ℕ} (has_label other q) 1 0 + 0) label_is in
-          let was = ap (λ (f : NumberedFile). cond {A = ℕ} (has_label other (label_of f)) 1 0 + 0) x_is in
-          omega (arith, step, before, after, none, was)
+      names_less other = grind (arith, common_steps, sum_by-set, no_file, within, sum_through, label_is, x_is)
 
       keys_same : (c : Label → ℕ) → c (label_of y) ≡ c (label_of x) → sum_by c (labels_of gs) ≡ sum_by c (labels_of fs)
-      keys_same c same =
-          let step = sum_by-set (λ (f : NumberedFile). c (label_of f)) fs k y no_file within in
-          let before = sum_through c label_of fs in
-          let after = sum_through c label_of gs in
-          let was = ap (λ (f : NumberedFile). c (label_of f)) x_is in
-          omega (arith, step, before, after, same, was)
+      keys_same c same = grind (arith, common_steps, sum_by-set, no_file, within, sum_through, x_is)
 
       pub named_keeps : IsFiles later s more maps tally gs
       named_keeps = record {
@@ -186,15 +167,7 @@ module _ (n later : Noted) (name : List ℕ) (grown : IsMoreBut name n later) (s
       named_files = sym (all_kept s gs named_keeps.keyed.kept) ∙ ap (filter is_kept) shows
 
       pub named_left : IsLeft 0 (view s more fs) (view s more gs)
-      named_left = record {
-        pages = (let old = stored_pages s more fs is.held in let new = stored_pages s more gs named_held in omega (arith, old, new));
-        nodes = λ i. (let old = stored_at s more fs is.held i in let new = stored_at s more gs named_held i in omega (arith, old, new));
-        reserved =
-            let step = sum_by-set file_reserves (files_shown s fs) k (unlinked (file_at (files_shown s fs) k)) (new_file None) l in
-            let same = ap (sum_by file_reserves) shows in
-            omega (arith, step, same);
-        room = omega arith;
-      }
+      named_left = grind (arith, common_steps, stored_pages, named_held, stored_at, sum_by-set, l, shows)
 
     -- ---- it has no maps, and goes
 
@@ -247,11 +220,7 @@ module _ (n later : Noted) (name : List ℕ) (grown : IsMoreBut name n later) (s
       long_labels = (let same = length-map fs label_of in let below = within in omega (arith, same, below))
 
       sum_left : (c : Label → ℕ) → sum_by c (labels_of hs) + c (label_of x) ≡ sum_by c (labels_of fs)
-      sum_left c =
-          let step = sum_by-remove c (labels_of fs) k (label_of no_file) long_labels in
-          let here = ap c label_there in
-          let same = ap (sum_by c) labels_are in
-          omega (arith, step, here, same)
+      sum_left c = grind (arith, common_steps, sum_by-remove, no_file, long_labels, label_there, labels_are)
 
       pub gone_keeps : IsFiles later t now maps tally hs
       gone_keeps = record {

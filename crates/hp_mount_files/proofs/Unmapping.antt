@@ -1,5 +1,6 @@
+use Rattle.std.proofs.lemmas.Grind.{common_steps}
 -- Indices of one map leave it, and the map goes with its last one.
-use Rattle.std.proofs.Common.{◌≡◌, ◌≢◌, ℕ, zero, suc, ◌+◌, ◌-◌, ◌<◌, ◌≤◌, ◌^◌, ◌==◌, ◌&&◌, ◌||◌, nat_lt, Bool, true, false}
+use Rattle.std.proofs.Common.{◌≡◌, ◌≢◌, ℕ, zero, suc, ◌+◌, ◌-◌, ◌<◌, ◌≤◌, ◌^◌, ◌==◌, ◌||◌, nat_lt, Bool, true, false}
 use Rattle.std.proofs.Common.{not, cond, Option, None, Some, List, [], ◌∷◌, length, map, refl, sym, ap, subst, ◌∙◌, arith}
 use Rattle.std.specs.Prelude.{is_some, slice_index_or, slice_set}
 use Rattle.std.specs.List.{count_by, filter, list_any, remove, sum_by}
@@ -241,20 +242,10 @@ module _ (n later : Noted) (s t : Store) (more now maps : ℕ) (tally : ℕ → 
   count_here = sym (keys_are task task number x) ∙ ap count x_is
 
   one_here : sum_by count fs ≡ count (numbered_at fs k)
-  one_here =
-      let some = some_pass (is_map task number) x.maps j no_mapping jl m_is in
-      let same = count_here in
-      let most = at_most (λ (f : NumberedFile). f) (λ f. f) count (λ f h. refl) fs k no_file l in
-      let all = few in
-      omega (arith, some, same, most, all)
+  one_here = grind (arith, common_steps, some_pass, jl, m_is, count_here, at_most, no_file, l, few)
 
   one_map : count_by (is_map task number) x.maps ≡ 1
-  one_map =
-      let some = some_pass (is_map task number) x.maps j no_mapping jl m_is in
-      let same = count_here in
-      let all = few in
-      let here = one_here in
-      omega (arith, some, same, all, here)
+  one_map = grind (arith, common_steps, some_pass, jl, m_is, count_here, few, one_here)
 
   -- only the one file is another
   files_cut : map g fs ≡ slice_set fs k (g x)
@@ -361,20 +352,10 @@ module _ (n later : Noted) (s t : Store) (more now maps : ℕ) (tally : ℕ → 
     y_removed = y_is ∙ ap (λ c. record x { maps = cond c (slice_set x.maps j z) (remove x.maps j) }) mapped
 
     pub enough_held : (i : ℕ) → in_files i gs ≤ holders_of (page_at t i)
-    enough_held i =
-        let had = is.held.held i in
-        let went = drops.held i in
-        let step = sum_by-set (in_file i) fs k y no_file l in
-        let was = ap (in_file i) x_is in
-        omega (arith, had, went, step, was)
+    enough_held i = grind (arith, common_steps, sum_by-set, no_file, l, x_is)
 
     fewer_maps : map_sum gs + 1 ≡ map_sum fs
-    fewer_maps =
-        let step = sum_by-set (λ (f : NumberedFile). length f.maps) fs k y no_file l in
-        let was = ap (λ (f : NumberedFile). length f.maps) x_is in
-        let left = ap (λ (f : NumberedFile). length f.maps) y_removed in
-        let fewer = length-remove x.maps j jl in
-        omega (arith, step, was, left, fewer)
+    fewer_maps = grind (arith, common_steps, sum_by-set, no_file, l, x_is, y_removed, length-remove, jl)
 
     pub some_maps : 1 ≤ maps
     some_maps = (let left = fewer_maps in let all = is.keyed.map_count in let same = maps_in fs in omega (arith, left, all, same))
@@ -384,9 +365,7 @@ module _ (n later : Noted) (s t : Store) (more now maps : ℕ) (tally : ℕ → 
         (entries : e + sum_by file_owed hs ≡ sum_by file_owed gs)
         (small : sum_by file_owed fs < 2 ^ 64) where
       went_is : hs ≡ filter is_used (map g fs)
-      went_is =
-          hs_from ∙ ap (λ f. cond (is_used f) gs (remove gs k)) (get_or-set_same fs k y no_file l) ∙ ap (cond (is_used y) gs) (removed_set fs k y)
-          ∙ sym (left_files ∙ ap (λ f. cond (is_used f) (slice_set fs k f) (remove fs k)) y_left)
+      went_is = grind (arith, common_steps, get_or-set_same, no_file, l, removed_set, left_files, y_left)
 
       went_dropping : IsDropping (λ i. in_files i fs) (λ i. in_files i hs) s u
       went_dropping = drop_then (λ i. in_file i x) (λ i. in_file i y) (λ i. in_files i gs) (λ i. in_files i hs) (λ i. in_files i fs) (λ i. in_files i hs) s t u drops after
@@ -478,9 +457,7 @@ module _ (n later : Noted) (s t : Store) (more now maps : ℕ) (tally : ℕ → 
           omega (arith, through, before, same, step, here, all, left, bare, fewer, its)
         where
           unlike : (q i : ℕ) → is_pair q i (task, number) ≡ false → is_map q i m ≡ false
-          unlike q i other =
-              let parts = and_parts (m.task == task) (m.number == number) m_is in
-              ap (λ w. (w == q) && (m.number == i)) (eqb-true m.task task parts.0) ∙ ap (λ w. (task == q) && (w == i)) (eqb-true m.number number parts.1) ∙ grind (arith, nat_tests, other)
+          unlike q i other = grind (arith, common_steps, and_parts, m_is, eqb-true, nat_tests)
 
       pub went_keeps : IsMoreButMap task number n later → (next : ℕ → ℕ) → ((q : ℕ) → next q ≡ tally q - cond (task == q) 1 0) → IsFiles later u last (maps - 1) next hs
       unfolding g

@@ -1,5 +1,6 @@
+use Rattle.std.proofs.lemmas.Grind.{common_steps}
 -- A file that gives back, by what code did.
-use Rattle.std.proofs.Common.{◌≡◌, ℕ, ◌+◌, ◌<◌, ◌≤◌, ◌==◌, ⊎_elim, ◌⊎◌, nat_lt, Bool, true, false, not, List, [], ◌∷◌, Option, Some, None, Ok, Err, length, min, refl, sym, ap, subst, ◌∙◌, arith}
+use Rattle.std.proofs.Common.{◌≡◌, ℕ, ◌+◌, ◌<◌, ◌≤◌, ◌==◌, ◌⊎◌, nat_lt, Bool, true, false, not, List, [], ◌∷◌, Option, Some, None, Ok, Err, length, min, refl, sym, ap, subst, ◌∙◌, arith}
 use Rattle.std.specs.Prelude.{slice_set}
 use Rattle.std.specs.List.{count_by, sum_by}
 use Rattle.std.proofs.lemmas.Bool.Decides.{nat_tests}
@@ -10,12 +11,11 @@ use Rattle.hp_model.specs.declared.refusal.Refusal.{Refusal}
 use Rattle.hp_model.specs.declared.refusal.Refusal.TheVariants as r
 use Rattle.hp_model.specs.declared.section.PoolAnswer.{PoolAnswer}
 use Rattle.hp_model.specs.declared.section.Section.{Section}
-use Rattle.hp_model.specs.files.File.{File, Mount, with_file}
-use Rattle.hp_model.specs.files.GiveBack.{is_kept, swept}
+use Rattle.hp_model.specs.files.File.{File, Mount}
+use Rattle.hp_model.specs.files.GiveBack.{is_kept}
 use Rattle.hp_model.specs.files.MountCounts.{file_pages, file_reserves}
 use Rattle.hp_model.specs.files.Page.{Page}
-use Rattle.hp_model.specs.Profile.{most_files}
-use Rattle.hp_model.specs.machine.Plan.{Plan, fall_of, gives, unless, with_value}
+use Rattle.hp_model.specs.machine.Plan.{Plan, gives, unless, with_value}
 use Rattle.hp_model.specs.machine.Promises.{file_in}
 use Rattle.hp_model.specs.machine.SlotEvent.{edited, file_named, is_bad_range}
 use Rattle.hp_model.specs.threads.LocalRun.{ThroughDoor}
@@ -32,74 +32,37 @@ use Rattle.hp_subpool.specs.Subpool.{Subpool, fall}
 
 -- ---- the share and the files that are left: w is what the files are before the pages go back
 
--- gs are the files that are left
-module _ (s : Subpool) (v w : Files) (inodes : Option ℕ) (c : IsKept s v (mount_from s inodes v.files)) (gs : List File) (reserves : ℕ) (left : IsLeft reserves v w) (w_is : w.files ≡ gs) where
-  abbrev m : Mount
-  m = mount_from s inodes v.files
-
-  abbrev n : Mount
-  n = mount_from s inodes gs
-
-  none_going : length v.going ≡ 0
-  none_going = ap length c.going
-
+-- gs are the files that are left, and what went has been given back
+module _ {s : Subpool} {v w : Files} {inodes : Option ℕ} (c : IsKept s v (mount_from s inodes v.files)) {gs : List File} {reserves : ℕ} (left : IsLeft reserves v w) (w_is : w.files ≡ gs)
+    {new : Subpool} {last : Files} (new_is : new ≡ with_less (length w.going) reserves s) (last_is : last ≡ record w { going = []; room = min w.room new.held }) where
   pages_are : s.pages ≡ sum_by file_pages w.files + length w.going
-  pages_are = (let all = left.pages in let none = none_going in let had = c.pages in omega (arith, all, none, had))
+  pages_are = (let all = left.pages in let none = ap length c.going in let had = c.pages in omega (arith, all, none, had))
 
   held_are : s.held ≡ sum_by file_reserves w.files + reserves
   held_are = (let all = left.reserved in let had = c.pages in let was = c.used in omega (arith, all, had, was))
 
-  pub enough_held : reserves ≤ s.held
-  enough_held = (let all = held_are in omega (arith, all))
+  pub leaves : mount_from new inodes last.files ≡ mount_from s inodes gs
+  leaves = ap (λ (x : Subpool). mount_from x inodes last.files) new_is ∙ ap (λ (x : Files). mount_from s inodes x.files) last_is ∙ ap (mount_from s inodes) w_is
 
-  pub keeps : (new : Subpool) (last : Files) → length gs ≤ length v.files → new ≡ with_less (length w.going) reserves s →
-      last ≡ record w { going = []; room = min w.room new.held } → IsKept new last (mount_from new inodes last.files)
-  keeps new last fewer new_is last_is =
+  pub keeps : length gs ≤ length v.files → IsKept new last (mount_from new inodes last.files)
+  keeps fewer = grind (arith, common_steps, pages_are, held_are)
+
+  pub gave_through : {X : Type 0} {took : X → Section → PoolAnswer → X → Type 0} {door after : X} → GivesBack took w.going (fall s (length w.going + reserves)) door after
+      → ThroughDoor took (gives Done (Some (mount_from s inodes v.files)) (Some (mount_from s inodes gs))) (Some (mount_from s inodes v.files)) door (Ok Done)
+      (Some (mount_from new inodes last.files)) after
+  gave_through {took} {door} {after} back =
+      let m : Mount = mount_from s inodes v.files in
       let pages = pages_are in
       let held = held_are in
-      let room = c.room in
-      let more = left.room in
-      let few = c.few in
-      let files_are = last_is ∙ ap (λ (x : Subpool). record w { going = []; room = min w.room x.held }) new_is in
-      subst (λ x. IsKept x last (mount_from x inodes last.files)) (sym new_is) (subst
-      (λ x. IsKept (with_less (length w.going) reserves s) x (mount_from (with_less (length w.going) reserves s) inodes x.files)) (sym files_are)
-      (record {
-        pages = omega (arith, pages);
-        used = omega (arith, pages, held);
-        room = omega (arith, room, more);
-        going = refl;
-        few = subst (λ fs. length fs ≤ most_files) (sym w_is) (omega (arith, few, fewer));
-      }))
-
-  pub leaves : (new : Subpool) (last : Files) → new ≡ with_less (length w.going) reserves s → last ≡ record w { going = []; room = min w.room new.held } → mount_from new inodes last.files ≡ n
-  leaves new last new_is last_is = ap (λ (x : Subpool). mount_from x inodes last.files) new_is ∙ ap (λ (x : Files). mount_from s inodes x.files) last_is ∙ ap (mount_from s inodes) w_is
-
-  falls : fall s (length w.going + reserves) ≡ fall_of (Some m) (Some (mount_from s inodes w.files))
-  falls = (let pages = pages_are in let held = held_are in let was = c.used in omega (arith, pages, held, was))
-
-  pub gave_through : {X : Type 0} (took : X → Section → PoolAnswer → X → Type 0) (door left : X) → GivesBack took w.going (fall s (length w.going + reserves)) door left
-      → ThroughDoor took (gives Done (Some m) (Some n)) (Some m) door (Ok Done) (Some n) left
-  gave_through took door after back = subst (λ x. ThroughDoor took (gives Done (Some m) (Some x)) (Some m) door (Ok Done) (Some x) after) (ap (mount_from s inodes) w_is)
+      let was = c.used in
+      subst (λ x. ThroughDoor took (gives Done (Some m) (Some (mount_from s inodes gs))) (Some m) door (Ok Done) (Some x) after) (sym leaves)
+      (subst (λ fs. ThroughDoor took (gives Done (Some m) (Some (mount_from s inodes fs))) (Some m) door (Ok Done) (Some (mount_from s inodes fs)) after) w_is
       (gave took Done (Some m) (Some (mount_from s inodes w.files)) w.going (fall s (length w.going + reserves)) door after
-      (λ i. (let all = left.nodes i in let none = ap (count_by (λ (page : Page). page.node == i)) c.going in omega (arith, all, none))) falls back)
+      (λ i. (let all = left.nodes i in let none = ap (count_by (λ (page : Page). page.node == i)) c.going in omega (arith, all, none))) (omega (arith, pages, held, was)) back))
 
 -- one file for another, or gone
-module _ (s : Subpool) (v w : Files) (inodes : Option ℕ) (c : IsKept s v (mount_from s inodes v.files)) (k : ℕ) (g : File) (reserves : ℕ)
-    (left : IsLeft reserves v w) (w_is : w.files ≡ edited_at k g v.files) where
-  pub kept : (new : Subpool) (last : Files) → new ≡ with_less (length w.going) reserves s → last ≡ record w { going = []; room = min w.room new.held } →
-      IsKept new last (mount_from new inodes last.files)
-  kept new last new_is last_is =
-      keeps s v w inodes c (edited_at k g v.files) reserves left w_is new last
-      (let both = length-filter_both is_kept (λ x. not (is_kept x)) (λ x. refl) (slice_set v.files k g) in let long = length-set v.files k g in omega (arith, both, long)) new_is last_is
-
-  pub left_is : (new : Subpool) (last : Files) → new ≡ with_less (length w.going) reserves s → last ≡ record w { going = []; room = min w.room new.held } →
-      mount_from new inodes last.files ≡ swept (with_file (mount_from s inodes v.files) k g)
-  left_is = leaves s v w inodes c (edited_at k g v.files) reserves left w_is
-
-  pub given : {X : Type 0} (took : X → Section → PoolAnswer → X → Type 0) (door left : X) → GivesBack took w.going (fall s (length w.going + reserves)) door left
-      → ThroughDoor took (gives Done (Some (mount_from s inodes v.files)) (Some (swept (with_file (mount_from s inodes v.files) k g))))
-      (Some (mount_from s inodes v.files)) door (Ok Done) (Some (swept (with_file (mount_from s inodes v.files) k g))) left
-  given = gave_through s v w inodes c (edited_at k g v.files) reserves left w_is
+pub no_more : (k : ℕ) (g : File) (fs : List File) → length (edited_at k g fs) ≤ length fs
+no_more k g fs = (let both = length-filter_both is_kept (λ x. not (is_kept x)) (λ x. refl) (slice_set fs k g) in let long = length-set fs k g in omega (arith, both, long))
 
 -- ---- the plan: a file by its name, tests, and what it gives back
 
@@ -139,9 +102,7 @@ module _ {X : Type 0} (took : X → Section → PoolAnswer → X → Type 0) (fu
 -- ---- tests of a range and of a length
 
 pub bad_range : (a b : ℕ) → (b ≤ a) ⊎ ((a < b) × (16777216 < b)) → first_of ((is_bad_range a b, r.OutOfRange) ∷ []) ≡ Some r.OutOfRange
-bad_range a b bad = ap (λ t. first_of ((t, r.OutOfRange) ∷ [])) (⊎_elim
-    (λ (l : b ≤ a). (let t : is_bad_range a b ≡ true = grind (arith, nat_tests, l) in t))
-    (λ (l : (a < b) × (16777216 < b)). (let past = l.1 in let t : is_bad_range a b ≡ true = grind (arith, nat_tests, past) in t)) bad)
+bad_range a b bad = grind (arith, common_steps, nat_tests)
 
 pub good_range : (a b : ℕ) → a < b → b ≤ 16777216 → first_of ((is_bad_range a b, r.OutOfRange) ∷ []) ≡ None
 good_range a b l few = (let t : is_bad_range a b ≡ false = grind (arith, nat_tests, l, few) in ap (λ t. first_of ((t, r.OutOfRange) ∷ [])) t)

@@ -1,6 +1,7 @@
+use Rattle.std.proofs.lemmas.Grind.{common_steps}
 -- What a mount keeps, through each change of its files.
-use Rattle.std.proofs.Common.{◌≡◌, ℕ, zero, suc, ◌+◌, ◌<◌, ◌≤◌, max, Bool, Option, List, [], ◌∷◌, ◌++◌, length, None, refl, sym, ap, subst, ◌∙◌, arith}
-use Rattle.std.specs.Prelude.{slice_set, slice_index_or}
+use Rattle.std.proofs.Common.{◌≡◌, ℕ, zero, suc, ◌+◌, ◌<◌, ◌≤◌, max, Bool, Option, List, [], ◌∷◌, ◌++◌, length, None, refl, sym, ap, ◌∙◌, arith, rules}
+use Rattle.std.specs.Prelude.{slice_set}
 use Rattle.std.proofs.lemmas.List.{get_or_default, get_or-set_same, length-append, length-set}
 use Rattle.hp_mount_door.specs.Door.{with_page, with_granted, with_reserves}
 use Rattle.hp_model.specs.declared.cell.Cell.{Cell}
@@ -37,27 +38,14 @@ module _ (s : Subpool) (v : Files) (m : Mount) (c : IsKept s v m) (max_is : m.li
 -- ---- the mount that a share and files leave
 
 pub mount_left : (s new : Subpool) (inodes : Option ℕ) (fs gs : List File) → new.max ≡ s.max → new.min ≡ s.min → gs ≡ fs → mount_from new inodes gs ≡ mount_from s inodes fs
-mount_left s new inodes fs gs max_is min_is files = ap (λ x. record { limits = record { max = x; min = new.min; inodes = inodes }; files = gs }) max_is
-    ∙ ap (λ x. record { limits = record { max = s.max; min = x; inodes = inodes }; files = gs }) min_is
-    ∙ ap (λ xs. record { limits = record { max = s.max; min = s.min; inodes = inodes }; files = xs }) files
+mount_left s new inodes fs gs max_is min_is files = grind (arith, common_steps)
 
 -- ---- files with so many pages and so much usage more
 
 module _ (s : Subpool) (v : Files) (inodes : Option ℕ) (c : IsKept s v (mount_from s inodes v.files)) where
   pub raised : (fs : List File) (node p u : ℕ) → MountGrows (mount_from s inodes v.files) (mount_from s inodes fs) node p u → length fs ≤ most_files → (new : Subpool) (w : Files)
       → new.max ≡ s.max → new.min ≡ s.min → new.pages ≡ s.pages + p → used new ≡ used s + u → new.held ≤ w.room → w.going ≡ v.going → w.files ≡ fs → IsKept new w (mount_from new inodes w.files)
-  raised fs node p u all few new w max_is min_is pages_is used_is room going files =
-      let had = c.pages in
-      let was = c.used in
-      let more = all.pages in
-      let higher = all.usage in
-      subst (λ n. IsKept new w n) (sym (mount_left s new inodes fs w.files max_is min_is files)) (record {
-        pages = pages_is ∙ omega (arith, had, more);
-        used = used_is ∙ omega (arith, was, higher);
-        room = room;
-        going = going ∙ c.going;
-        few = few;
-      })
+  raised fs node p u all few new w max_is min_is pages_is used_is room going files = grind (arith, common_steps, mount_left)
 
   -- a file without name more, with one map
   module _ (task number a n more : ℕ) (sharing : Sharing) (reserving : Reserving) (new : Subpool) (w : Files)
@@ -95,34 +83,17 @@ module _ (s : Subpool) (v : Files) (inodes : Option ℕ) (c : IsKept s v (mount_
 
   pub grown : (new : Subpool) (w : Files) (g : File) (node p u : ℕ) → FileGrows (file_at v.files k) g node p u → new.max ≡ s.max → new.min ≡ s.min → new.pages ≡ s.pages + p → used new ≡ used s + u
       → new.held ≤ w.room → w.going ≡ v.going → w.files ≡ slice_set v.files k g → IsKept new w (mount_from new inodes w.files)
-  grown new w g node p u h max_is min_is pages_is used_is room going files =
-      raised s v inodes c (slice_set v.files k g) node p u (grows g node p u h)
-      (let long = length-set v.files k g in let few = c.few in omega (arith, long, few)) new w max_is min_is pages_is used_is room going files
+  grown new w g node p u h max_is min_is pages_is used_is room going files = grind (arith, common_steps, raised, grows, length-set)
 
   -- an entry without a page is a reservation that is held
   pub some_held : (i : ℕ) → i < length (file_at v.files k).cells → cell_at (file_at v.files k) i ≡ Entered → 0 < s.held
-  some_held i below entered =
-      let page : Page = record { node = 0; bytes = [] } in
-      let all = grows (with_cell (file_at v.files k) i (Present page)) 0 1 0 (moves.fill_entry (file_at v.files k) i page below entered) in
-      let had = c.pages in
-      let was = c.used in
-      let more = all.pages in
-      let same = all.usage in
-      omega (arith, had, was, more, same)
+  some_held i below entered = grind (arith, common_steps, grows, moves.fill_entry)
 
   -- ---- an entered index gets its page
 
   pub entry_kept : (i : ℕ) (page : Page) (new : Subpool) (w : Files) → i < length (file_at v.files k).cells → cell_at (file_at v.files k) i ≡ Entered → new ≡ with_page s → w ≡ filled_at k i page v
       → IsKept new w (mount_from new inodes w.files)
-  entry_kept i page new w below entered new_is w_is =
-      let held = some_held i below entered in
-      let room = c.room in
-      let held_is = ap (λ (x : Subpool). x.held) new_is in
-      let pages_is = ap (λ (x : Subpool). x.pages) new_is in
-      let room_is = ap (λ (x : Files). x.room) w_is in
-      grown new w (with_cell (file_at v.files k) i (Present page)) page.node 1 0 (moves.fill_entry (file_at v.files k) i page below entered)
-      (ap (λ (x : Subpool). x.max) new_is) (ap (λ (x : Subpool). x.min) new_is)
-      pages_is (omega (arith, held_is, pages_is, held)) (omega (arith, held_is, room_is, room, held)) (ap (λ (x : Files). x.going) w_is) (ap (λ (x : Files). x.files) w_is)
+  entry_kept i page new w below entered new_is w_is = grind (arith, common_steps, some_held, grown, moves.fill_entry)
 
   pub entry_left : (i : ℕ) (page : Page) (new : Subpool) (w : Files) → new ≡ with_page s → w ≡ filled_at k i page v →
       mount_from new inodes w.files ≡ with_file m k (with_cell (file_in m k) i (Present page))
@@ -140,24 +111,14 @@ module _ (s : Subpool) (v : Files) (inodes : Option ℕ) (c : IsKept s v (mount_
   roomier spare = record v { room = max v.room spare }
 
   entered_file : (i spare : ℕ) (cell : Cell Page) → with_cell (file_at (with_cell_at k i Entered (roomier spare)).files k) i cell ≡ with_cell (file_at v.files k) i cell
-  entered_file i spare cell =
-      ap (λ f. with_cell f i cell) (get_or-set_same v.files k (with_cell (file_at v.files k) i Entered) (new_file None) l)
-      ∙ ap (λ cs. record (file_at v.files k) { cells = cs }) (set_twice (file_at v.files k).cells i Entered cell)
+  entered_file i spare cell = grind (arith, common_steps, get_or-set_same, set_twice)
 
   pub again_files : (i spare : ℕ) (cell : Cell Page) → (with_cell_at k i cell (with_cell_at k i Entered (roomier spare))).files ≡ slice_set v.files k (with_cell (file_at v.files k) i cell)
-  again_files i spare cell =
-      ap (λ f. slice_set (slice_set v.files k (with_cell (file_at v.files k) i Entered)) k f) (entered_file i spare cell)
-      ∙ set_twice v.files k (with_cell (file_at v.files k) i Entered) (with_cell (file_at v.files k) i cell)
+  again_files i spare cell = grind (arith, common_steps, entered_file, set_twice)
 
   pub hole_kept : (i spare : ℕ) (page : Page) (new : Subpool) (w : Files) → i < length (file_at v.files k).cells → cell_at (file_at v.files k) i ≡ Hole → s.held < spare → new ≡ with_granted s
       → w ≡ filled_at k i page (with_cell_at k i Entered (roomier spare)) → IsKept new w (mount_from new inodes w.files)
-  hole_kept i spare page new w below hole enough new_is w_is =
-      let held_is = ap (λ (x : Subpool). x.held) new_is in
-      let pages_is = ap (λ (x : Subpool). x.pages) new_is in
-      let room_is = ap (λ (x : Files). x.room) w_is in
-      grown new w (with_cell (file_at v.files k) i (Present page)) page.node 1 1 (moves.fill_hole (file_at v.files k) i page below hole)
-      (ap (λ (x : Subpool). x.max) new_is) (ap (λ (x : Subpool). x.min) new_is)
-      pages_is (omega (arith, held_is, pages_is)) (omega (arith, held_is, room_is, enough)) (ap (λ (x : Files). x.going) w_is) (ap (λ (x : Files). x.files) w_is ∙ again_files i spare (Present page))
+  hole_kept i spare page new w below hole enough new_is w_is = grind (arith, common_steps, grown, moves.fill_hole, again_files)
 
   pub granted_left : (i spare : ℕ) (page : Page) (new : Subpool) (w : Files) → new ≡ with_granted s →
       w ≡ filled_at k i page (with_cell_at k i Entered (roomier spare)) → mount_from new inodes w.files
@@ -179,17 +140,7 @@ module _ (s : Subpool) (v : Files) (inodes : Option ℕ) (c : IsKept s v (mount_
 
   pub hole_keeps : (i spare : ℕ) (new : Subpool) (w : Files) → cell_at (file_at v.files k) i ≡ Hole → new ≡ s →
       w ≡ with_cell_at k i Hole (with_cell_at k i Entered (roomier spare)) → IsKept new w (mount_from new inodes w.files)
-  hole_keeps i spare new w hole new_is w_is =
-      let room_is = ap (λ (x : Files). x.room) w_is in
-      let room = c.room in
-      let held_is = ap (λ (x : Subpool). x.held) new_is in
-      subst (λ n. IsKept new w n) (sym (hole_stays i spare new w hole new_is w_is)) (record {
-        pages = ap (λ (x : Subpool). x.pages) new_is ∙ c.pages;
-        used = ap used new_is ∙ c.used;
-        room = omega (arith, room_is, room, held_is);
-        going = ap (λ (x : Files). x.going) w_is ∙ c.going;
-        few = c.few;
-      })
+  hole_keeps i spare new w hole new_is w_is = search (rules, hole_stays)
 
   -- ---- a map more
 
@@ -197,15 +148,7 @@ module _ (s : Subpool) (v : Files) (inodes : Option ℕ) (c : IsKept s v (mount_
       (more_is : more ≡ asked sharing reserving a n (file_at v.files k)) (new_is : new ≡ with_reserves more s)
       (w_is : w ≡ mapped_at k task number a n (max v.room (s.held + more)) sharing reserving v) where
     pub map_kept : IsKept new w (mount_from new inodes w.files)
-    map_kept =
-        let held_is = ap (λ (x : Subpool). x.held) new_is in
-        let pages_is = ap (λ (x : Subpool). x.pages) new_is in
-        let room_is = ap (λ (x : Files). x.room) w_is in
-        let plain : s.pages ≡ s.pages + 0 = omega arith in
-        grown new w (mapped task number a n sharing reserving (file_at v.files k)) 0 0 (asked sharing reserving a n (file_at v.files k))
-        (mapped_grows task number a n sharing reserving (file_at v.files k)) (ap (λ (x : Subpool). x.max) new_is)
-        (ap (λ (x : Subpool). x.min) new_is)
-        (pages_is ∙ plain) (omega (arith, held_is, pages_is, more_is)) (omega (arith, held_is, room_is)) (ap (λ (x : Files). x.going) w_is) (ap (λ (x : Files). x.files) w_is)
+    map_kept = grind (arith, common_steps, grown, mapped_grows)
 
     pub map_left : mount_from new inodes w.files ≡ with_file m k (mapped task number a n sharing reserving (file_in m k))
     map_left = mount_left s new inodes (slice_set v.files k (mapped task number a n sharing reserving (file_at v.files k))) w.files

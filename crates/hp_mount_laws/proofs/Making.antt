@@ -1,3 +1,4 @@
+use Rattle.std.proofs.lemmas.Grind.{common_steps}
 -- Files and maps that are made, by what code did.
 use Rattle.std.proofs.Common.{◌≡◌, ℕ, ◌+◌, ◌<◌, ◌==◌, Bool, true, false, cond, List, [], ◌∷◌, Option, Some, None, Ok, Err, length, refl, sym, ap, subst, ◌∙◌, arith}
 use Rattle.std.specs.Prelude.{◌||◌, nat_le, nat_lt}
@@ -95,9 +96,7 @@ module _ {X : Type 0} (took : X → Section → PoolAnswer → X → Type 0) (fu
   tests : (c : Choice) (is refused : Bool) → is_full m k ≡ is → c.refused ≡ refused → (reply : Reply) (new : Slot) (left : X)
       → ThroughDoor took (cond is (refuse r.MountFull) (cond refused (refuse r.OutOfMemory) (goes (rise m k == 0)))) (Some m) door reply new left →
       ThroughDoor took (plan c) (Some m) door reply new left
-  tests c is refused e z reply new left h =
-      subst (λ b. ThroughDoor took (cond b (refuse r.MountFull) (cond c.refused (refuse r.OutOfMemory) (goes (rise m k == 0)))) (Some m) door reply new left) (sym e)
-      (subst (λ b. ThroughDoor took (cond is (refuse r.MountFull) (cond b (refuse r.OutOfMemory) (goes (rise m k == 0)))) (Some m) door reply new left) (sym z) h)
+  tests c is refused e z reply new left h = grind (arith, common_steps)
 
   pub grant_full : is_full m k ≡ true → Tried took full plan (Some m) door (Err r.MountFull) (Some m) door
   grant_full e = (let c : Choice = fresh_choice false (Some m) in (c, is_fresh false (Some m), tests c true false e refl (Err r.MountFull) (Some m) door (refused_at took m r.MountFull door)))

@@ -1,5 +1,6 @@
+use Rattle.std.proofs.lemmas.Grind.{common_steps}
 -- An access through a private map, by what code did.
-use Rattle.std.proofs.Common.{◌≡◌, ℕ, ◌<◌, ◌&&◌, not, Bool, true, false, cond, Some, None, Ok, Err, List, length, map, refl, sym, ap, subst, ◌∙◌}
+use Rattle.std.proofs.Common.{◌≡◌, ℕ, ◌<◌, ◌&&◌, not, Bool, true, false, cond, Some, None, Ok, Err, List, length, map, refl, sym, ap, subst, ◌∙◌, arith, rules}
 use Rattle.std.specs.List.{flat_map}
 use Rattle.std.proofs.lemmas.List.{get_or-set_same, length-map, length-set}
 use Rattle.hp_mount_door.specs.Door.{IsDoorRefusal}
@@ -13,10 +14,10 @@ use Rattle.hp_model.specs.declared.section.Section.{Section}
 use Rattle.hp_model.specs.declared.section.Section.TheVariants.{GrantPage, TakePage}
 use Rattle.hp_model.specs.declared.step.Intent.{Intent}
 use Rattle.hp_model.specs.declared.step.Intent.TheVariants.{Read, Write}
-use Rattle.hp_model.specs.files.Access.{access, new_copy, private_access, shared_access, uncopied_access}
+use Rattle.hp_model.specs.files.Access.{access, new_copy, private_access, uncopied_access}
 use Rattle.hp_model.specs.files.CopyWrite.{copy_write, is_held_once, owner_write, robbed, taken_back}
-use Rattle.hp_model.specs.files.File.{File, Mount, cell_at, file_in, map_in, new_file, with_file, with_map}
-use Rattle.hp_model.specs.files.Mapping.{Map, copy_of, is_shared, is_unconsumed, place_at, with_place}
+use Rattle.hp_model.specs.files.File.{File, Mount, cell_at, file_in, with_file, with_map}
+use Rattle.hp_model.specs.files.Mapping.{Map, copy_of, is_shared, is_unconsumed, place_at}
 use Rattle.hp_model.specs.files.MountCounts.{stamps_of}
 use Rattle.hp_model.specs.files.Page.{Copy, Page}
 use Rattle.hp_model.specs.files.Spot.{Spot, copied}
@@ -71,9 +72,7 @@ module _ {X : Type 0} (took : X → Section → PoolAnswer → X → Type 0) (fu
 
   module _ (private : is_shared s.map.sharing ≡ false) where
     place_plan : (p : Place Copy) → place_at s.map i ≡ p → (c : Choice) → private_access c size m s home i p intent ≡ plan c
-    place_plan p e c =
-        ap (λ q. private_access c size m s home i q intent) (sym e)
-        ∙ sym (ap (λ b. cond b (shared_access c size m s home i (cell_at s.file i)) (private_access c size m s home i (place_at s.map i) intent)) private)
+    place_plan p e c = grind (arith, common_steps)
 
     -- nothing is asked
     pub nothing_asked : (p : Place Copy) → place_at s.map i ≡ p → ((c : Choice) →
@@ -132,20 +131,13 @@ module _ {X : Type 0} (took : X → Section → PoolAnswer → X → Type 0) (fu
     asks_copy c Write is = refl
 
     new_plan : (c : Choice) → new_copy c size m s home i need.consumed ≡ plan c
-    new_plan c =
-        asks_copy c intent refl
-        ∙ ap (λ b. cond b (refuse r.TakenByOwner) (uncopied_access c size m s home i need.consumed intent)) (sym need.kept)
-        ∙ place_plan need.private (Live need.consumed None) need.place c
+    new_plan c = grind (arith, common_steps, asks_copy, place_plan)
 
     -- what is left: a copy with this stamp, of what the map shows
     given_copy : (stamp : ℕ) (consumed : Bool) (page : Page) (n : Mount) → page.bytes ≡ value size s.file s.map i →
         n ≡ with_place_at m k j i (Live consumed (Some (record { stamp = stamp; page = page })))
         → Gives (copied m s i consumed (fresh_copy (stamped stamp) page.node)) (Some m) (Ok Done) (Some n)
-    given_copy stamp consumed page n bytes n_is = (
-      refl,
-      ap Some (n_is ∙ ap (λ b.
-          with_place_at m k j i (Live consumed (Some (record { stamp = stamp; page = record { node = page.node; bytes = b } })))) bytes),
-    )
+    given_copy stamp consumed page n bytes n_is = search (rules)
 
     -- by the owner's reservation
     pub copy_reserved : (stamp : ℕ) (left : X) (page : Page) (n : Mount) → has_reserve s.map i ≡ true → IsFresh (stamped stamp) (Some m) →
@@ -178,10 +170,7 @@ module _ {X : Type 0} (took : X → Section → PoolAnswer → X → Type 0) (fu
       put_copy c node = copied m s i need.consumed (fresh_copy c node)
 
       grant_plan : (c : Choice) → grant_page c m home (put_copy c) ≡ plan c
-      grant_plan c =
-          let owns : (s.map.owner && not need.consumed) ≡ false = ap (λ b. s.map.owner && b) (sym (unconsumed need.consumed))
-          ∙ ap (λ p. s.map.owner && is_unconsumed p) (sym need.place) ∙ unreserved in
-          ap (λ b. cond b (reserved_page home (λ node. copied m s i true (fresh_copy c node))) (grant_page c m home (put_copy c))) (sym owns) ∙ new_plan c
+      grant_plan c = grind (arith, common_steps, unconsumed, new_plan)
 
       pub copy_full : is_full m 1 ≡ true → Through took plan (Some m) door (Err r.MountFull) (Some m) door
       copy_full e = (let c : Choice = fresh_choice false (Some m) in goes_so c (Err r.MountFull) (Some m) door (is_fresh false (Some m))
@@ -234,9 +223,7 @@ module _ {X : Type 0} (took : X → Section → PoolAnswer → X → Type 0) (fu
 
     module _ (owner : s.map.owner ≡ true) where
       owner_plan : (c : Choice) (b : Bool) → is_full m 1 ≡ b → cond b (Finish (taken_back m s copy.stamp)) (asks_owner c) ≡ plan c
-      owner_plan c b e =
-          ap (λ b. cond b (Finish (taken_back m s copy.stamp)) (asks_owner c)) (sym e)
-          ∙ ap (λ b. cond b (owner_write m s home copy.stamp (own c)) (grant_page c m home (own c))) (sym owner) ∙ several_plan c
+      owner_plan c b e = grind (arith, common_steps, several_plan)
 
       abbrev back : Mount
       back = with_file m k (with_map (record s.file { maps = map (robbed copy.stamp) s.file.maps }) j s.map)
@@ -290,22 +277,8 @@ module _ {X : Type 0} (took : X → Section → PoolAnswer → X → Type 0) (fu
 -- ---- as many indices and maps as before
 
 pub place_touched : (m n : Mount) (k j i : ℕ) (p : Place Copy) → k < length m.files → n ≡ with_place_at m k j i p → IsFileTouched m n k
-place_touched m n k j i p l e =
-    let g : File = with_map (file_in m k) j (with_place (map_in (file_in m k) j) i p) in
-    let here : file_in n k ≡ g = ap (λ x. file_in x k) e ∙ get_or-set_same m.files k g (new_file None) l in
-    record {
-      files = ap (λ x. length x.files) e ∙ length-set m.files k g;
-      maps = ap (λ f. length f.maps) here ∙ length-set (file_in m k).maps j (with_place (map_in (file_in m k) j) i p);
-      cells = ap (λ f. length f.cells) here;
-    }
+place_touched m n k j i p l e = grind (arith, common_steps, get_or-set_same, length-set)
 
 pub back_touched : (m n : Mount) (k j stamp : ℕ) (y : Map) → k < length m.files →
     n ≡ with_file m k (with_map (record (file_in m k) { maps = map (robbed stamp) (file_in m k).maps }) j y) → IsFileTouched m n k
-back_touched m n k j stamp y l e =
-    let g : File = with_map (record (file_in m k) { maps = map (robbed stamp) (file_in m k).maps }) j y in
-    let here : file_in n k ≡ g = ap (λ x. file_in x k) e ∙ get_or-set_same m.files k g (new_file None) l in
-    record {
-      files = ap (λ x. length x.files) e ∙ length-set m.files k g;
-      maps = ap (λ f. length f.maps) here ∙ length-set (map (robbed stamp) (file_in m k).maps) j y ∙ length-map (file_in m k).maps (robbed stamp);
-      cells = ap (λ f. length f.cells) here;
-    }
+back_touched m n k j stamp y l e = grind (arith, common_steps, get_or-set_same, length-set, length-map)

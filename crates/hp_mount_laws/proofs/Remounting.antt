@@ -1,3 +1,4 @@
+use Rattle.std.proofs.lemmas.Grind.{common_steps}
 -- Other limits for a mount, by what its door did.
 use Rattle.std.proofs.Common.{◌≡◌, ℕ, ◌-◌, ◌==◌, true, false, Option, Some, Result as ResultOf, Ok, Err, List, refl, sym, ap, subst, ◌∙◌, arith}
 use Rattle.std.specs.Prelude.{if◌then◌else◌, max, nat_lt}
@@ -48,10 +49,7 @@ module _ {X : Type 0} (took : X → Section → PoolAnswer → X → Type 0) (fu
 
     through : (nr : ℕ) (sec : Section) (a : PoolAnswer) (x : ResultOf Limits Refusal) (reply : Reply) (n : Slot) → means nr ≡ x → a.nr ≡ nr → sec ≡ remount_section m x
         → took door sec a left → Gives (remount_outcome m a x) (Some m) reply n → ThroughDoor took (remount size k m text) (Some m) door reply n left
-    through nr sec a x reply n wanted told same t gives =
-        let is : means a.nr ≡ x = ap means told ∙ wanted in
-        subst (λ p. ThroughDoor took p (Some m) door reply n left) (sym plan_is)
-        (a, subst (λ y. took door y a left) (same ∙ ap (remount_section m) (sym is)) t, subst (λ y. Gives (remount_outcome m a y) (Some m) reply n) (sym is) gives)
+    through nr sec a x reply n wanted told same t gives = grind (arith, common_steps, plan_is)
 
     -- refused, whatever the pool granted
     refusal_is : (l : Limits) (a : PoolAnswer) (e : Refusal) (n : Slot) → a.granted ≡ false → e ≡ r.NoPages → n ≡ Some m → Gives (remount_outcome m a (Ok l)) (Some m) (Err e) n
@@ -108,10 +106,4 @@ module _ {X : Type 0} (took : X → Section → PoolAnswer → X → Type 0) (fu
 
   pub relimited_kept : (v : Files) (inodes later : Option ℕ) (got : ResultOf (Option ℕ) Refusal) → IsKept s v (mount_from s inodes v.files)
       → IsLimitedAt took full size text s new door left got → IsKept new v (mount_from new later v.files)
-  relimited_kept v inodes later got kept h =
-      let pages = (counts got h).0 in
-      let held = (counts got h).1 in
-      let was = kept.pages in
-      let used = kept.used in
-      let room = kept.room in
-      record { pages = pages ∙ was; used = omega (arith, pages, held, used); room = omega (arith, held, room); going = kept.going; few = kept.few }
+  relimited_kept v inodes later got kept h = grind (arith, common_steps, counts)

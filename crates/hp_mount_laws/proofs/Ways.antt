@@ -1,3 +1,4 @@
+use Rattle.std.proofs.lemmas.Grind.{common_steps}
 -- The ways that a plan goes through a door, as code takes them. Nothing here names a command.
 use Rattle.std.proofs.Common.{◌≡◌, ℕ, suc, ◌<◌, ◌==◌, Bool, true, false, cond, Some, None, Ok, Err, List, [], ◌∷◌, refl, sym, ap, subst, ◌∙◌, arith}
 use Rattle.std.specs.Prelude.{◌||◌}
@@ -53,9 +54,7 @@ module _ {X : Type 0} (took : X → Section → PoolAnswer → X → Type 0) (m 
 
     tests : (full refused : Bool) → is_full m 1 ≡ full → c.refused ≡ refused → (reply : Reply) (new : Slot) (left : X)
         → goes (cond full (refuse r.MountFull) (cond refused (refuse r.OutOfMemory) asks)) door reply new left → goes (grant_page c m home f) door reply new left
-    tests full refused e z reply new left h =
-        subst (λ a. goes (cond a (refuse r.MountFull) (cond c.refused (refuse r.OutOfMemory) asks)) door reply new left) (sym e)
-        (subst (λ b. goes (cond full (refuse r.MountFull) (cond b (refuse r.OutOfMemory) asks)) door reply new left) (sym z) h)
+    tests full refused e z reply new left h = grind (arith, common_steps)
 
     pub page_full : is_full m 1 ≡ true → goes (grant_page c m home f) door (Err r.MountFull) (Some m) door
     page_full e = tests true c.refused e refl (Err r.MountFull) (Some m) door (refused_at r.MountFull door)
@@ -65,9 +64,7 @@ module _ {X : Type 0} (took : X → Section → PoolAnswer → X → Type 0) (m 
 
     -- it asks for one
     pub page_asks : is_full m 1 ≡ false → c.refused ≡ false → Enters (grant_page c m home f)
-    page_asks e z =
-        subst (λ a. Enters (cond a (refuse r.MountFull) (cond c.refused (refuse r.OutOfMemory) asks))) (sym e)
-        (subst (λ b. Enters (cond false (refuse r.MountFull) (cond b (refuse r.OutOfMemory) asks))) (sym z) tt)
+    page_asks e z = grind (arith, common_steps)
 
     pub page_denied : (left : X) → is_full m 1 ≡ false → c.refused ≡ false → took door (GrantPage home (rise m 1)) no_pages left → goes (grant_page c m home f) door (Err r.NoPages) (Some m) left
     page_denied left e z t = tests false false e z (Err r.NoPages) (Some m) left (no_pages, t, (refl, refl))

@@ -1,9 +1,6 @@
-use Rattle.std.proofs.Common.{◌≡◌, ◌<◌, ◌+◌, ◌-◌, ap, drop, length, subst, arith}
-use Rattle.std.specs.Prelude.{IsSome, slice_index_or}
+use Rattle.std.proofs.lemmas.Grind.{common_steps}
+use Rattle.std.proofs.Common.{◌≡◌, ◌<◌, ◌+◌, ◌-◌, ap, drop, length, arith}
 use Rattle.std.specs.List.{sum_by}
-use Rattle.hp_mapping.specs.Mapped.{IsClear}
-use Rattle.hp_model.specs.declared.place.Place.TheVariants.{Gone}
-use Rattle.hp_model.specs.files.Mapping.{copy_of, place_at}
 use Rattle.hp_lookup.specs.Held.{in_place}
 use Rattle.hp_file.proofs.Counting.{dropped_as, dropped_then, left_held, none_dropped, part_held}
 use Rattle.hp_file.proofs.Runs.{left_sum, run_first, run_fits, run_sum}
@@ -11,15 +8,7 @@ use Rattle.hp_file.proofs.Sharing.{bare_in, no_copy, stands_at, to_copy}
 use Rattle.hp_file.proofs.dropping.drop_map.Goals as goal
 
 pub loop-at-init : goal.loop-at-init
-loop-at-init g c =
-    let m = c.args.map.now in
-    let none : c.start-from.result - m.start ≡ 0 = omega (arith, c.start-from.ensures) in
-    record {
-      start = omega (arith, c.start-from.ensures);
-      up_to = omega (arith, c.start-from.ensures, c.end-end.ensures);
-      dropping = dropped_as (none_dropped c.requires)
-          (λ n. (let all = ap (λ k. sum_by (in_place n) (drop k m.places)) none in omega (arith, all)));
-    }
+loop-at-init g c = grind (arith, common_steps, dropped_as, none_dropped)
 
 pub drop_run-past-requires : goal.drop_run-past-requires
 drop_run-past-requires g c =
@@ -33,15 +22,7 @@ drop_run-past-requires g c =
     omega (arith, its, same))
 
 pub loop-at-smaller : goal.loop-at-smaller
-loop-at-smaller g c =
-    let m = c.args.map.now in
-    let e = c.in-Some.ensures in
-    let at = c.in-Some.at in
-    let was = c.loop-at.invariant in
-    let here : place_at m at ≡ slice_index_or m.places (at - m.start) Gone = stands_at m at (at - m.start) (omega (arith, was.start, e.from)) in
-    let some = run_first (at - m.start) m.places c.run_from.result.now c.run_from.ensures (subst (λ p. IsSome (copy_of p)) here e.copy) in
-    let past = c.drop_run-past.ensures.past some in
-    omega (arith, past, e.from, e.below)
+loop-at-smaller g c = grind (arith, common_steps, run_first, stands_at)
 
 pub loop-at-preserved : goal.loop-at-preserved
 loop-at-preserved g c =
@@ -69,8 +50,4 @@ loop-at-preserved g c =
     }
 
 pub returns : goal.returns
-returns g c =
-    let m = c.args.map.now in
-    let was = c.loop-at.invariant in
-    let from = c.loop-at.from in
-    dropped_as was.dropping (λ n. (let none = no_copy (in_place n) (bare_in n) m from was.start (subst (λ k. IsClear from k m) c.end-end.ensures c.in_default.ensures.none) in omega (arith, none)))
+returns g c = grind (arith, common_steps, dropped_as, bare_in, no_copy)

@@ -1,3 +1,4 @@
+use Rattle.std.proofs.lemmas.Grind.{common_steps}
 use Rattle.std.proofs.Common.{◌+◌, drop, sym, ◌∙◌, arith}
 use Rattle.std.specs.List.{sum_by}
 use Rattle.hp_lookup.specs.Held.{in_place}
@@ -6,23 +7,10 @@ use Rattle.hp_file.proofs.Sharing.{copied_in, sum_read}
 use Rattle.hp_file.proofs.dropping.drop_run.Goals as goal
 
 pub loop-at-init : goal.loop-at-init
-loop-at-init g c = record {
-  high = omega arith;
-  dropping = drop_start (λ n. sum_by (in_place n) c.args.places.now) c.args.pages.now.store c.requires.some;
-  counted = omega (arith, c.requires.counted);
-  fewer = omega arith;
-}
+loop-at-init g c = grind (arith, common_steps, drop_start)
 
 pub drop_counting-requires-clause-held : goal.drop_counting-requires-clause-held
-drop_counting-requires-clause-held g c =
-    let ps = c.args.places.now in
-    let was = c.loop-at.invariant in
-    let i = c.loop-at.at in
-    let p = c.index-places-at.result in
-    let number = c.in-Some.number in
-    still_held (λ n. sum_by (in_place n) ps) (λ n. sum_by (in_place n) (drop i ps)) (λ n. sum_by (in_place n) (drop (i + 1) ps)) c.args.pages.now.store
-    c.loop-at.pages.store was.dropping number (c.requires.held number)
-    (λ n. (let step = sum_read (in_place n) ps i p c.loop-at-test.true c.index-places-at.is in let here = copied_in n number p (sym c.copy_in.ensures ∙ c.in-Some.is) in omega (arith, step, here)))
+drop_counting-requires-clause-held g c = grind (arith, common_steps, still_held, copied_in, sum_read)
 
 pub loop-at-preserved : goal.loop-at-preserved
 loop-at-preserved g c =

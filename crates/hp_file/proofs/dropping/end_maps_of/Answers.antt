@@ -1,3 +1,4 @@
+use Rattle.std.proofs.lemmas.Grind.{common_steps}
 use Rattle.std.proofs.Common.{arith, ℕ, ◌+◌, ◌<◌, cond, length, take, ap, ◌∙◌}
 use Rattle.std.specs.Prelude.{slice_index_or}
 use Rattle.std.specs.List.{count_by}
@@ -30,16 +31,7 @@ loop-map-preserved g c =
     )
 
 pub end_map_of-reserves-requires : goal.end_map_of-reserves-requires
-end_map_of-reserves-requires g c =
-    let was = c.loop-map in
-    let inside : was.map-index < length was.maps = omega (arith, c.loop-map-test.true, was.auto.maps) in
-    part_held (left_held c.requires.held was.invariant.0) (λ n. get_or-le-sum_by (in_map n) was.maps was.map-index c.map-item.result inside)
+end_map_of-reserves-requires g c = grind (arith, common_steps, get_or-le-sum_by, left_held, part_held)
 
 pub overflow_add-reserves : goal.overflow_add-reserves
-overflow_add-reserves g c =
-    let was = c.loop-map in
-    let inside : was.map-index < length was.maps = omega (arith, c.loop-map-test.true, was.auto.maps) in
-    let step = sum_by-set owed was.maps was.map-index c.end_map_of-reserves.new.map c.map-item.result inside in
-    let had = was.invariant.2 in
-    let left = c.end_map_of-reserves.ensures.reserves in
-    omega (arith, step, had, left, c.requires.few)
+overflow_add-reserves g c = grind (arith, common_steps, sum_by-set)

@@ -1,6 +1,6 @@
-use Rattle.std.proofs.Common.{◌≡◌, ℕ, ◌+◌, ◌<◌, length, refl, ap, sym, ◌∙◌, arith}
-use Rattle.std.specs.Prelude.{slice_index_or, slice_set}
-use Rattle.std.specs.List.{sum_by}
+use Rattle.std.proofs.lemmas.Grind.{common_steps}
+use Rattle.std.proofs.Common.{ℕ, ◌<◌, length, refl, arith}
+use Rattle.std.specs.Prelude.{slice_index_or}
 use Rattle.std.proofs.lemmas.List.Sums.{sum_by-set}
 use Rattle.hp_model.specs.files.Mapping.{Mapping}
 use Rattle.hp_lookup.specs.Held.{in_map}
@@ -13,18 +13,7 @@ use Rattle.hp_file.proofs.Punched.{first_mapped, kept_one, next_but_one}
 use Rattle.hp_file.proofs.dropping.take_from_others.Goals as goal
 
 pub loop-at-preserved-then-at-keeper : goal.loop-at-preserved-then-at-keeper
-loop-at-preserved-then-at-keeper g c =
-    let was = c.loop-at in
-    let f = robbed_at c.args.number c.args.index in
-    let m = slice_index_or c.args.maps.now c.args.keeper no_mapping in
-    let same : was.at ≡ c.args.keeper = c.if-at-keeper.true in
-    let back : slice_set was.maps was.at (slice_index_or was.maps was.at c.index-maps-at.result) ≡ was.maps = set_read was.maps was.at c.index-maps-at.result in (
-      dropped_as was.invariant.0 (λ k. (let left = ap (sum_by (in_map k)) back in omega (arith, left))),
-      back ∙ was.invariant.1
-          ∙ ap (λ i. slice_set (first_mapped f i c.args.maps.now) c.args.keeper m) same
-          ∙ sym (kept_one f c.args.keeper m no_mapping c.args.maps.now c.requires.keeper)
-          ∙ ap (λ i. slice_set (first_mapped f (i + 1) c.args.maps.now) c.args.keeper m) (sym same),
-    )
+loop-at-preserved-then-at-keeper g c = grind (arith, common_steps, dropped_as, set_read, first_mapped, kept_one)
 
 pub take_from-requires : goal.take_from-requires
 take_from-requires g c =

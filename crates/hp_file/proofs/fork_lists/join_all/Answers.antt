@@ -1,8 +1,9 @@
-use Rattle.std.proofs.Common.{◌≡◌, [], ℕ, ◌+◌, ◌-◌, ap, arith, length, rules, subst, sym, take, ◌∙◌}
+use Rattle.std.proofs.lemmas.Grind.{common_steps}
+use Rattle.std.proofs.Common.{◌≡◌, ℕ, ◌+◌, ◌-◌, ap, arith, length, rules, subst, sym, take, ◌∙◌}
 use Rattle.std.specs.List.{sum_by}
 use Rattle.std.proofs.lemmas.List.{get_or-set_same, nil_from_length}
 use Rattle.std.proofs.lemmas.List.Sums.{sum_by_push, sum_by-take-le}
-use Rattle.hp_lookup.specs.Forking.{HasNoted, HasRoom, HaveNoted, HaveRoom, in_list, in_lists, joined, joined_at, list_copies, maps_by, with_list}
+use Rattle.hp_lookup.specs.Forking.{HasNoted, HaveNoted, HaveRoom, in_list, in_lists, joined, joined_at, list_copies, maps_by, with_list}
 use Rattle.hp_lookup.specs.Numbered.{numbered_at}
 use Rattle.hp_lookup.proofs.Cells.{no_file}
 use Rattle.hp_file.proofs.Joining.{last_joined, last_keys, last_none, last_room, last_within, none_joined, rest_none, rest_room}
@@ -25,38 +26,13 @@ loop-list-init g c =
     }
 
 pub join_at-requires-clause-within : goal.join_at-requires-clause-within
-join_at-requires-clause-within g c =
-    let fs = c.loop-list.files.files in
-    let vs = c.pop.new.self.items in
-    let room = subst (HaveRoom fs) c.in-Some.ensures.items c.loop-list.invariant.room in
-    let within = last_within fs vs c.in-Some.list room in
-    let long : c.len-at.result ≡ length vs = search rules in
-    omega (arith, within, long)
+join_at-requires-clause-within g c = grind (arith, common_steps, last_within)
 
 pub join_at-requires-clause-room : goal.join_at-requires-clause-room
-join_at-requires-clause-room g c =
-    let fs = c.loop-list.files.files in
-    let vs = c.pop.new.self.items in
-    let v = c.in-Some.list in
-    let room = subst (HaveRoom fs) c.in-Some.ensures.items c.loop-list.invariant.room in
-    let long : c.len-at.result ≡ length vs = search rules in
-    subst (λ k. HasRoom (numbered_at fs k) v) (sym long) (last_room fs vs v no_file room)
+join_at-requires-clause-room g c = grind (arith, common_steps, no_file, last_room)
 
 pub join_at-requires-clause-keys : goal.join_at-requires-clause-keys
-join_at-requires-clause-keys g c =
-    let was = c.loop-list.invariant in
-    let fs = c.loop-list.files.files in
-    let vs = c.pop.new.self.items in
-    let v = c.in-Some.list in
-    let split = c.in-Some.ensures.items in
-    let room = subst (HaveRoom fs) split was.room in
-    let none = subst (λ ws. sum_by (maps_by c.args.child) (take (length ws) fs) ≡ 0) split was.none in
-    let long : c.len-at.result ≡ length vs = search rules in
-    let own = ap (λ k. maps_by c.args.child (with_list (numbered_at fs k) v)) long in
-    let most = last_keys c.args.child fs vs v room none in
-    let all = ap (sum_by (maps_by c.args.child)) (ap (joined fs) (sym split) ∙ was.files) in
-    let left = was.noted.room in
-    omega (arith, own, most, all, left, c.requires.keys)
+join_at-requires-clause-keys g c = grind (arith, common_steps, last_keys)
 
 pub loop-list-preserved : goal.loop-list-preserved
 loop-list-preserved g c =
@@ -93,15 +69,4 @@ loop-list-preserved g c =
     }
 
 pub returns-clause-joined : goal.returns-clause-joined
-returns-clause-joined g c =
-    let was = c.loop-list in
-    let none : was.lists.items ≡ [] = nil_from_length was.lists.items (omega (arith, was.lists.ok.0, c.in_default.ensures.cases.0)) in
-    let copies = ap (sum_by list_copies) none in
-    let more = was.invariant.more in
-    record {
-      files_are = sym (none_joined was.files.files) ∙ ap (joined was.files.files) (sym none) ∙ was.invariant.files;
-      sharing = share_as (λ n. in_lists n c.args.lists.items - in_lists n was.lists.items) (λ n. in_lists n c.args.lists.items) c.args.pages.now.store was.pages.store was.invariant.sharing
-          (λ n. (let rest = ap (in_lists n) none in omega (arith, rest)));
-      counted = was.invariant.counted;
-      more_are = omega (arith, copies, more);
-    }
+returns-clause-joined g c = grind (arith, common_steps, nil_from_length, none_joined, share_as)

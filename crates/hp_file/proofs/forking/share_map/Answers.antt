@@ -1,28 +1,14 @@
-use Rattle.std.proofs.Common.{◌≡◌, ◌<◌, ◌+◌, ◌-◌, ap, drop, length, refl, subst, arith}
-use Rattle.std.specs.Prelude.{IsSome, slice_index_or}
+use Rattle.std.proofs.lemmas.Grind.{common_steps}
+use Rattle.std.proofs.Common.{◌≡◌, ◌<◌, ◌+◌, ◌-◌, ap, drop, length, arith}
 use Rattle.std.specs.List.{count_by, sum_by}
-use Rattle.hp_mapping.specs.Mapped.{IsClear, has_copy}
-use Rattle.hp_model.specs.declared.place.Place.TheVariants.{Gone}
-use Rattle.hp_model.specs.files.Mapping.{copy_of, place_at}
+use Rattle.hp_mapping.specs.Mapped.{has_copy}
 use Rattle.hp_lookup.specs.Held.{in_place}
 use Rattle.hp_file.proofs.Runs.{behind, left_sum, run_first, run_fits, run_sum, shared_before}
 use Rattle.hp_file.proofs.Sharing.{bare_in, bare_one, has_one, no_copy, shared_all, shared_as, shared_none, shared_then, stands_at, to_copy}
 use Rattle.hp_file.proofs.forking.share_map.Goals as goal
 
 pub loop-at-init : goal.loop-at-init
-loop-at-init g c =
-    let m = c.args.map.now in
-    let none : c.start-from.result - m.start ≡ 0 = omega (arith, c.start-from.ensures) in
-    let all = ap (λ k. count_by has_copy (drop k m.places)) none in
-    record {
-      start = omega (arith, c.start-from.ensures);
-      up_to = omega (arith, c.start-from.ensures, c.end-end.ensures);
-      shared = shared_as m.places m.places m.places (drop (c.start-from.result - m.start) m.places) c.args.pages.now.store c.args.pages.now.store (shared_none m.places c.args.pages.now.store
-          c.requires.held.some)
-          (λ n. refl) (λ n. ap (λ k. sum_by (in_place n) (drop k m.places)) none);
-      counted = c.requires.held.counted;
-      more = omega (arith, all);
-    }
+loop-at-init g c = grind (arith, common_steps, shared_as, shared_none)
 
 pub share_run-past-requires-clause-held : goal.share_run-past-requires-clause-held
 share_run-past-requires-clause-held g c =
@@ -42,26 +28,10 @@ share_run-past-requires-clause-held g c =
     }
 
 pub share_run-past-requires-clause-few : goal.share_run-past-requires-clause-few
-share_run-past-requires-clause-few g c =
-    let m = c.args.map.now in
-    let was = c.loop-at.invariant in
-    let e = c.in-Some.ensures in
-    let at = c.in-Some.at in
-    let its = run_sum (at - m.start) m.places c.run_from.result.now c.run_from.ensures has_one in
-    let same = to_copy has_one bare_one m c.loop-at.from at was.start e.from (omega (arith, e.below, c.end-end.ensures)) e.clear in
-    let more = was.more in
-    omega (arith, its, same, more, c.requires.few)
+share_run-past-requires-clause-few g c = grind (arith, common_steps, run_sum, bare_one, has_one, to_copy)
 
 pub loop-at-smaller : goal.loop-at-smaller
-loop-at-smaller g c =
-    let m = c.args.map.now in
-    let e = c.in-Some.ensures in
-    let at = c.in-Some.at in
-    let was = c.loop-at.invariant in
-    let here : place_at m at ≡ slice_index_or m.places (at - m.start) Gone = stands_at m at (at - m.start) (omega (arith, was.start, e.from)) in
-    let some = run_first (at - m.start) m.places c.run_from.result.now c.run_from.ensures (subst (λ p. IsSome (copy_of p)) here e.copy) in
-    let past = c.share_run-past.ensures.past some in
-    omega (arith, past, e.from, e.below)
+loop-at-smaller g c = grind (arith, common_steps, run_first, stands_at)
 
 pub loop-at-preserved : goal.loop-at-preserved
 loop-at-preserved g c =
@@ -95,13 +65,4 @@ loop-at-preserved g c =
     }
 
 pub returns : goal.returns
-returns g c =
-    let m = c.args.map.now in
-    let was = c.loop-at.invariant in
-    let from = c.loop-at.from in
-    let clear = subst (λ k. IsClear from k m) c.end-end.ensures c.in_default.ensures.none in
-    record {
-      sharing = shared_all m.places (drop (from - m.start) m.places) c.args.pages.now.store c.loop-at.pages.store was.shared (λ n. no_copy (in_place n) (bare_in n) m from was.start clear);
-      counted = was.counted;
-      more = (let none = no_copy has_one bare_one m from was.start clear in let more = was.more in omega (arith, none, more));
-    }
+returns g c = grind (arith, common_steps, bare_in, bare_one, has_one, no_copy, shared_all)

@@ -1,3 +1,4 @@
+use Rattle.std.proofs.lemmas.Grind.{common_steps}
 use Rattle.std.proofs.Common.{◌+◌, ◌∷◌, drop, refl, sym, ◌∙◌, arith}
 use Rattle.std.specs.List.{sum_by}
 use Rattle.hp_lookup.specs.Held.{in_place}
@@ -6,39 +7,13 @@ use Rattle.hp_file.proofs.Sharing.{copied_in, drop_read, has_one, shared_as, sha
 use Rattle.hp_file.proofs.forking.share_run.Goals as goal
 
 pub loop-at-init : goal.loop-at-init
-loop-at-init g c = record {
-  high = omega arith;
-  shared = shared_none c.args.places.now c.args.pages.now.store c.requires.held.some;
-  counted = omega (arith, c.requires.held.counted);
-  kept = refl;
-  copies = omega arith;
-}
+loop-at-init g c = grind (arith, common_steps, shared_none)
 
 pub add_holder-requires-clause-held : goal.add_holder-requires-clause-held
-add_holder-requires-clause-held g c =
-    let ps = c.args.places.now in
-    let number = c.in-Some.number in
-    let was = c.loop-at.invariant in
-    let p = c.index-places-at.result in
-    let step = sum_read (in_place number) ps c.loop-at.at p c.loop-at-test.true c.index-places-at.is in
-    let here = copied_in number number p (sym c.copy_in.ensures ∙ c.in-Some.is) in
-    let one = is_it number in
-    let less = was.shared.less number in
-    let held = was.shared.sharing.held number in
-    let all = c.requires.held.held number in
-    omega (arith, step, here, one, less, held, all)
-
-pub add_holder-requires-clause-some : goal.add_holder-requires-clause-some
-add_holder-requires-clause-some g c = c.loop-at.invariant.shared.sharing.some
+add_holder-requires-clause-held g c = grind (arith, common_steps, is_it, copied_in, sum_read)
 
 pub add_holder-requires-clause-few : goal.add_holder-requires-clause-few
-add_holder-requires-clause-few g c =
-    let ps = c.args.places.now in
-    let was = c.loop-at.invariant in
-    let p = c.index-places-at.result in
-    let step = sum_read has_one ps c.loop-at.at p c.loop-at-test.true c.index-places-at.is in
-    let one = some_one p c.in-Some.number (sym c.copy_in.ensures ∙ c.in-Some.is) in
-    omega (arith, step, one, was.counted, was.kept, was.copies, c.requires.few)
+add_holder-requires-clause-few g c = grind (arith, common_steps, has_one, some_one, sum_read)
 
 pub loop-at-preserved : goal.loop-at-preserved
 loop-at-preserved g c =

@@ -1,3 +1,4 @@
+use Rattle.std.proofs.lemmas.Grind.{common_steps}
 use Rattle.std.proofs.Common.{arith, ap, ◌+◌, ◌<◌, length, take, ◌∙◌}
 use Rattle.std.specs.Prelude.{slice_index_or}
 use Rattle.std.specs.List.{sum_by}
@@ -39,41 +40,13 @@ loop-at-preserved g c =
     )
 
 pub overflow_add-maps : goal.overflow_add-maps
-overflow_add-maps g c =
-    let was = c.loop-at in
-    let f = c.index_mut.result.now in
-    let inside : was.at < length was.files.files = omega (arith, c.loop-at-test.true, c.len-at-end.ensures, was.invariant.5) in
-    let step = sum_by-set (λ (f : NumberedFile). length f.maps) was.files.files was.at c.drop_maps_of-gone.new.self f inside in
-    let same = ap (λ (f : NumberedFile). length f.maps) c.index_mut.ensures.value in
-    let had = was.invariant.3 in
-    let left = c.drop_maps_of-gone.ensures.maps in
-    omega (arith, step, same, had, left, c.requires.few_maps)
+overflow_add-maps g c = grind (arith, common_steps, sum_by-set)
 
 pub overflow_add-reserves : goal.overflow_add-reserves
-overflow_add-reserves g c =
-    let was = c.loop-at in
-    let f = c.index_mut.result.now in
-    let inside : was.at < length was.files.files = omega (arith, c.loop-at-test.true, c.len-at-end.ensures, was.invariant.5) in
-    let step = sum_by-set file_owed was.files.files was.at c.drop_maps_of-gone.new.self f inside in
-    let same = ap file_owed c.index_mut.ensures.value in
-    let had = was.invariant.2 in
-    let left = c.drop_maps_of-gone.ensures.reserves in
-    omega (arith, step, same, had, left, c.requires.few)
+overflow_add-reserves g c = grind (arith, common_steps, sum_by-set)
 
 pub drop_maps_of-gone-requires-clause-held : goal.drop_maps_of-gone-requires-clause-held
-drop_maps_of-gone-requires-clause-held g c =
-    let was = c.loop-at in
-    let f = c.index_mut.result.now in
-    let inside : was.at < length was.files.files = omega (arith, c.loop-at-test.true, c.len-at-end.ensures, was.invariant.5) in
-    part_held (left_held c.requires.held was.invariant.0)
-    (λ n. (let part = get_or-le-sum_by (in_file n) was.files.files was.at f inside in let same = ap (in_file n) c.index_mut.ensures.value in omega (arith, part, same)))
+drop_maps_of-gone-requires-clause-held g c = grind (arith, common_steps, get_or-le-sum_by, left_held, part_held)
 
 pub drop_maps_of-gone-requires-clause-few : goal.drop_maps_of-gone-requires-clause-few
-drop_maps_of-gone-requires-clause-few g c =
-    let was = c.loop-at in
-    let f = c.index_mut.result.now in
-    let inside : was.at < length was.files.files = omega (arith, c.loop-at-test.true, c.len-at-end.ensures, was.invariant.5) in
-    let part = get_or-le-sum_by file_owed was.files.files was.at f inside in
-    let same = ap file_owed c.index_mut.ensures.value in
-    let had = was.invariant.2 in
-    omega (arith, part, same, had, c.requires.few)
+drop_maps_of-gone-requires-clause-few g c = grind (arith, common_steps, get_or-le-sum_by)

@@ -1,4 +1,5 @@
-use Rattle.std.proofs.Common.{◌≡◌, ◌-◌, ◌*◌, ◌/◌, ◌%◌, ◌<◌, ◌≤◌, ◌^◌, eqb, get_or, length, sym, ap, ◌∙◌, arith}
+use Rattle.std.proofs.lemmas.Grind.{common_steps}
+use Rattle.std.proofs.Common.{◌≡◌, ◌-◌, ◌/◌, ◌%◌, ◌<◌, ◌^◌, eqb, get_or, ap, ◌∙◌, arith}
 use Rattle.std.specs.Int.{bit_at}
 use Rattle.std.proofs.lemmas.Nat.Bits.{bit_at_ones}
 use Rattle.hp_model.proofs.Counting.{count_outside}
@@ -9,10 +10,7 @@ use Rattle.hp_inode.proofs.Removed.{counted_in_word}
 use Rattle.hp_inode.proofs.bits.count_in_word.Goals as goal
 
 pub returns-then-at-words : goal.returns-then-at-words
-returns-then-at-words c =
-    let words = c.args.words.now in
-    let past : 64 * length words ≤ c.args.a = omega (arith, c.if-at-words.true) in
-    sym (count_outside (marked words) c.args.a (c.args.b - c.args.a) (λ k low high. unmarked_past words k (omega (arith, past, low))))
+returns-then-at-words c = grind (arith, common_steps, count_outside, unmarked_past)
 
 pub returns-then-words-at : goal.returns-then-words-at
 returns-then-words-at c =

@@ -1,3 +1,4 @@
+use Rattle.std.proofs.lemmas.Grind.{common_steps}
 use Rattle.std.proofs.Common.{◌≡◌, ◌/◌, ap, length, arith, ◌∙◌}
 use Rattle.hp_inode.proofs.Chunks.{room_there, rows_more}
 use Rattle.hp_inode.proofs.chunk_list.add_chunk.Goals as goal
@@ -8,6 +9,4 @@ push_bare-requires c =
     omega (arith, room_there c.args.homes.now.items c.args.slots.now.items c.args.at (c.len-home.result / 64) c.requires.given c.requires.none home _ c.requires.room, c.args.slots.now.ok.0)
 
 pub returns-clause-rows : goal.returns-clause-rows
-returns-clause-rows c =
-    let home : c.len-home.result / 64 ≡ length c.args.slots.now.items / 64 = ap (λ n. n / 64) (c.len-home.ensures ∙ c.args.slots.now.ok.0) in
-    rw c.push_bare.ensures.items (rows_more c.args.homes.now.items c.args.slots.now.items c.args.at (c.len-home.result / 64) c.requires.given c.requires.none home)
+returns-clause-rows c = grind (arith, common_steps, rows_more)

@@ -1,10 +1,7 @@
-use Rattle.std.proofs.Common.{arith, rules, ◌≡◌, ◌*◌, ◌+◌, ◌-◌, ◌<◌, ◌^◌, get_or, set, count_ones}
+use Rattle.std.proofs.Common.{arith, rules, ◌≡◌, ◌*◌, ◌+◌, ◌<◌, ◌^◌, get_or, set, count_ones}
 use Rattle.hp_marks.proofs.Bits.{full_ones}
-use Rattle.hp_inode.proofs.Removed.{joined, removed_word, not_begun}
+use Rattle.hp_inode.proofs.Removed.{joined, removed_word}
 use Rattle.hp_inode.proofs.entry_block.clear_full.Goals as goal
-
-pub loop-at-init : goal.loop-at-init
-loop-at-init c = record { from = omega arith; within = omega arith; removed = not_begun c.args.words.now (64 * c.args.from) (64 * (c.args.from - c.args.from)) (omega arith) }
 
 pub loop-at-preserved : goal.loop-at-preserved
 loop-at-preserved c =

@@ -1,10 +1,7 @@
-use Rattle.std.proofs.Common.{arith, rules, refl, ◌*◌, ◌+◌, ◌-◌, ◌<◌, ◌^◌, get_or, set, count_ones}
+use Rattle.std.proofs.Common.{arith, rules, ◌*◌, ◌+◌, ◌-◌, ◌<◌, ◌^◌, get_or, set, count_ones}
 use Rattle.hp_inode.specs.EntryBlock.{IsRemoved}
-use Rattle.hp_inode.proofs.Removed.{joined, removed_word, few_removed, passed, passed_from, passed_to, not_begun}
+use Rattle.hp_inode.proofs.Removed.{joined, removed_word, few_removed, passed, passed_from, passed_to}
 use Rattle.hp_inode.proofs.entry_block.clear_words.Goals as goal
-
-pub loop-at-init : goal.loop-at-init
-loop-at-init c = record { from = omega arith; within = omega arith; removed = not_begun c.args.words.now (64 * c.args.from) 0 refl }
 
 pub loop-at-preserved-then-word-eq0 : goal.loop-at-preserved-then-word-eq0
 loop-at-preserved-then-word-eq0 c =

@@ -1,12 +1,7 @@
+use Rattle.std.proofs.lemmas.Grind.{common_steps}
 use Rattle.std.proofs.Common.{◌≡◌, ◌/◌, ap, length, arith, ◌∙◌}
-use Rattle.hp_mapping.proofs.Chunked.{chunked_more, home_few, same_more}
+use Rattle.hp_mapping.proofs.Chunked.{home_few, same_more}
 use Rattle.hp_mapping.proofs.sparse.add_chunk.Goals as goal
-
-pub overflow_cast-len : goal.overflow_cast-len
-overflow_cast-len c =
-    let home : c.len.result / 64 ≡ length c.args.places.now.items / 64 = ap (λ n. n / 64) (c.len.ensures ∙ c.args.places.now.ok.0) in
-    let few = home_few c.args.homes.now.items c.args.places.now.items c.args.index (c.len.result / 64) c.requires.chunked c.requires.none c.requires.within home in
-    omega (arith, few, c.requires.few)
 
 pub push_fresh-requires : goal.push_fresh-requires
 push_fresh-requires c =
@@ -14,12 +9,5 @@ push_fresh-requires c =
     let few = home_few c.args.homes.now.items c.args.places.now.items c.args.index (c.len.result / 64) c.requires.chunked c.requires.none c.requires.within home in
     omega (arith, few, home, c.requires.chunked.used, c.requires.room, c.args.places.now.ok.0)
 
-pub returns-clause-chunked : goal.returns-clause-chunked
-returns-clause-chunked c =
-    let home : c.len.result / 64 ≡ length c.args.places.now.items / 64 = ap (λ n. n / 64) (c.len.ensures ∙ c.args.places.now.ok.0) in
-    rw c.push_fresh.ensures.items (chunked_more c.args.homes.now.items c.args.places.now.items c.args.index (c.len.result / 64) c.requires.chunked c.requires.none c.requires.within home)
-
 pub returns-clause-same : goal.returns-clause-same
-returns-clause-same c =
-    let home : c.len.result / 64 ≡ length c.args.places.now.items / 64 = ap (λ n. n / 64) (c.len.ensures ∙ c.args.places.now.ok.0) in
-    rw c.push_fresh.ensures.items (same_more c.args.homes.now.items c.args.places.now.items c.args.index (c.len.result / 64) c.requires.chunked c.requires.none c.requires.within home)
+returns-clause-same c = grind (arith, common_steps, same_more)

@@ -1,27 +1,15 @@
+use Rattle.std.proofs.lemmas.Grind.{common_steps}
 use Rattle.std.proofs.Common.{◌≡◌, [], ◌+◌, ap, sym, ◌∙◌, arith}
-use Rattle.std.specs.List.{count_by, sum_by}
+use Rattle.std.specs.List.{sum_by}
 use Rattle.hp_model.specs.files.File.{cell_punched}
-use Rattle.hp_model.specs.files.MountCounts.{is_waiting}
 use Rattle.hp_model.specs.Lists.{edit_range}
 use Rattle.hp_lookup.specs.Held.{in_cell, in_file, in_map}
 use Rattle.hp_file.proofs.Cutting.{all_waiting, bare_pages, no_pages}
 use Rattle.hp_file.proofs.Counting.{dropped_then}
-use Rattle.hp_lookup.specs.Numbered.{NumberedFile}
 use Rattle.hp_file.proofs.file.File.close.Goals as goal
 
 pub drop_maps-requires : goal.drop_maps-requires
-drop_maps-requires g c =
-    let inside = c.self.inside in
-    record {
-      held = λ n. (let whole = ap (in_file n) c.self.view_is in
-          let none = ap (sum_by (in_cell n)) c.drop_pages.ensures.cells ∙ no_pages n c.len-len.result inside.inode c.len-len.ensures.len in
-          let held = c.drop_pages.ensures.dropping.dropping.held n in
-          let all = c.requires.held n in
-          let same = ap (sum_by (in_map n)) c.deref.ensures.value in
-          omega (arith, whole, none, held, all, same));
-      some = c.drop_pages.ensures.dropping.dropping.some;
-      counted = c.drop_pages.ensures.dropping.counted;
-    }
+drop_maps-requires g c = grind (arith, common_steps, no_pages)
 
 pub returns-clause-dropping : goal.returns-clause-dropping
 returns-clause-dropping g c =
@@ -40,6 +28,4 @@ drop_entries-requires-clause-pageless g c =
     (c.drop_pages.ensures.cells ∙ ap (λ b. edit_range cell_punched 0 b c.self.inside.inode) (sym same)) 0 (omega arith)
 
 pub returns-clause-entries : goal.returns-clause-entries
-returns-clause-entries g c =
-    c.drop_entries.ensures.count ∙ all_waiting c.len-len.result c.self.inside.inode c.drop_pages.new.inode c.len-len.ensures.len c.drop_pages.ensures.cells
-    ∙ ap (λ (f : NumberedFile). count_by is_waiting f.cells) c.self.view_is
+returns-clause-entries g c = grind (arith, common_steps, all_waiting)

@@ -1,3 +1,4 @@
+use Rattle.std.proofs.lemmas.Grind.{common_steps}
 use Rattle.std.proofs.Common.{[], ap, ◌∙◌, arith, length}
 use Rattle.std.specs.List.{sum_by}
 use Rattle.hp_lookup.specs.Held.{in_cell, in_file}
@@ -21,14 +22,7 @@ set_len-requires-clause-holes g c =
     gone_holes c.args.len c.len-end.result old.cells c.self-2.inside.inode c.drop_entries-entries.new.self end_is bare_is c.min.result c.min.ensures c.drop_entries-entries.ensures.cells
 
 pub returns-clause-file : goal.returns-clause-file
-returns-clause-file g c =
-    let old = c.args.self.now in
-    let end_is = c.len-end.ensures.len ∙ ap (λ (f : NumberedFile). length f.cells) c.self.view_is in
-    let left_is = c.self-2.view_is ∙ c.punch.ensures.file in
-    let bare_is = ap (λ (f : NumberedFile). f.cells) left_is in
-    cut_file c.args.len c.len-end.result old _ c.set_len.new.self end_is left_is
-    (c.set_len.ensures ∙ cut_is c.args.len c.len-end.result old.cells c.self-2.inside.inode c.drop_entries-entries.new.self end_is bare_is
-    c.min.result c.min.ensures c.drop_entries-entries.ensures.cells)
+returns-clause-file g c = grind (arith, common_steps, cut_file, cut_is)
 
 pub returns-clause-dropping : goal.returns-clause-dropping
 returns-clause-dropping g c =

@@ -1,6 +1,6 @@
-use Rattle.std.proofs.Common.{ℕ, ◌<◌, None, ap, length, subst, sym, ◌∙◌}
+use Rattle.std.proofs.lemmas.Grind.{common_steps}
+use Rattle.std.proofs.Common.{ℕ, ◌<◌, None, ap, length, subst, sym, ◌∙◌, arith}
 use Rattle.std.specs.Prelude.{slice_index_or}
-use Rattle.std.specs.List.{remove}
 use Rattle.std.proofs.lemmas.Grind.{get_or_default_zero}
 use Rattle.std.proofs.lemmas.List.{length-map}
 use Rattle.slab.specs.Slab.{Updates}
@@ -13,9 +13,7 @@ module _ (c : goal.After-remove) where
   inside = subst (λ (n : ℕ). c.args.at < n) (ap (λ (l : Listed). length l.files) (sym c.self.view_is) ∙ length-map c.self.inside.order.items _) c.requires
 
   updates : Updates c.self.inside.files c.remove.new.self (slice_index_or c.self.inside.order.items c.args.at 0) None
-  updates = subst (λ key. Updates c.self.inside.files c.remove.new.self key None)
-      (c.number.ensures ∙ c.remove-spot.ensures.value ∙ get_or_default_zero c.self.inside.order.items c.args.at c.remove-spot.result inside)
-      c.remove.ensures.updates
+  updates = grind (arith, common_steps, get_or_default_zero, inside)
 
 pub invariant_of-self : goal.invariant_of-self
 invariant_of-self c =
@@ -23,8 +21,4 @@ invariant_of-self c =
     rw c.remove-spot.ensures.items (removed_order s.files s.order.items c.self.invariant c.args.at (inside c) c.remove.new.self (updates c))
 
 pub returns-clause-files : goal.returns-clause-files
-returns-clause-files c =
-    let s = c.self.inside in
-    rw c.remove-spot.ensures.items
-    (removed_files s.files s.order.items c.self.invariant c.args.at (inside c) c.remove.new.self (updates c)
-    ∙ ap (λ (l : Listed). remove l.files c.args.at) c.self.view_is)
+returns-clause-files c = grind (arith, common_steps, removed_files)

@@ -1,3 +1,4 @@
+use Rattle.std.proofs.lemmas.Grind.{common_steps}
 use Rattle.std.proofs.Common.{◌≤◌, ◌<◌, ◌^◌, None, length, get_or, ap, ◌∙◌, arith, ⊎_elim}
 use Rattle.std.proofs.lemmas.Bool.{cases_lt}
 use Rattle.hp_inode.specs.Rows.{slot_in}
@@ -6,37 +7,22 @@ use Rattle.hp_inode.proofs.Chunks.{all_promised, homes_alike, homes_promised, mo
 use Rattle.hp_inode.proofs.chunk_list.ChunkList.make.Goals as goal
 
 pub returns-in_err-extend-clause-pages : goal.returns-in_err-extend-clause-pages
-returns-in_err-extend-clause-pages c j k small =
-    let s = c.self.inside in
-    ap (λ r. get_or r k None) (row_alike s.homes.items c.extend.new.homes.items s.slots.items c.extend.ensures.same j) ∙ ap (λ rows. slot_in rows j k) c.self.view_is
+returns-in_err-extend-clause-pages c j k small = grind (arith, common_steps, row_alike)
 
 pub returns-in_err-extend-clause-kept : goal.returns-in_err-extend-clause-kept
-returns-in_err-extend-clause-kept c j =
-    let s = c.self.inside in
-    omega (arith, ap length (row_alike s.homes.items c.extend.new.homes.items s.slots.items c.extend.ensures.same j), ap (λ rows. slot_count rows j) c.self.view_is)
+returns-in_err-extend-clause-kept c j = grind (arith, common_steps, row_alike)
 
 pub returns-in_err-extend-clause-below : goal.returns-in_err-extend-clause-below
-returns-in_err-extend-clause-below c j below =
-    let s = c.self.inside in
-    ap length (row_alike s.homes.items c.extend.new.homes.items s.slots.items c.extend.ensures.same j) ∙ ap (λ rows. slot_count rows j) c.self.view_is
+returns-in_err-extend-clause-below c j below = grind (arith, common_steps, row_alike)
 
 pub returns-in_err-make_room-clause-pages : goal.returns-in_err-make_room-clause-pages
-returns-in_err-make_room-clause-pages c j k small =
-    let s = c.self.inside in
-    rw c.make_room.ensures.items
-    (ap (λ r. get_or r k None) (row_alike s.homes.items c.extend.new.homes.items s.slots.items c.extend.ensures.same j) ∙ ap (λ rows. slot_in rows j k) c.self.view_is)
+returns-in_err-make_room-clause-pages c j k small = grind (arith, common_steps, row_alike)
 
 pub returns-in_err-make_room-clause-kept : goal.returns-in_err-make_room-clause-kept
-returns-in_err-make_room-clause-kept c j =
-    let s = c.self.inside in
-    rw c.make_room.ensures.items
-    (omega (arith, ap length (row_alike s.homes.items c.extend.new.homes.items s.slots.items c.extend.ensures.same j), ap (λ rows. slot_count rows j) c.self.view_is))
+returns-in_err-make_room-clause-kept c j = grind (arith, common_steps, row_alike)
 
 pub returns-in_err-make_room-clause-below : goal.returns-in_err-make_room-clause-below
-returns-in_err-make_room-clause-below c j below =
-    let s = c.self.inside in
-    rw c.make_room.ensures.items
-    (ap length (row_alike s.homes.items c.extend.new.homes.items s.slots.items c.extend.ensures.same j) ∙ ap (λ rows. slot_count rows j) c.self.view_is)
+returns-in_err-make_room-clause-below c j below = grind (arith, common_steps, row_alike)
 
 pub invariant_of-self-2 : goal.invariant_of-self-2
 invariant_of-self-2 c =

@@ -1,4 +1,5 @@
-use Rattle.std.proofs.Common.{ap, [], length, arith}
+use Rattle.std.proofs.lemmas.Grind.{common_steps}
+use Rattle.std.proofs.Common.{arith}
 use Rattle.std.proofs.lemmas.Result.{on_ok_weaker}
 use Rattle.hp_marks.specs.Marks.{marked}
 use Rattle.hp_inode.proofs.Blocks.{others_stay_there, seen_there}
@@ -6,8 +7,7 @@ use Rattle.hp_inode.proofs.Later.{here_now}
 use Rattle.hp_inode.proofs.entries.Entries.make_in.Goals as goal
 
 pub returns-clause-ok : goal.returns-clause-ok
-returns-clause-ok c = on_ok_weaker c.make_room.result
-    (λ room. omega (arith, room c.requires.some, ap length (here_now [] c.make.new.self c.args.at c.at_mut.result.now c.make_room.new.self c.at_mut.ensures.value))) c.make_room.ensures.ok
+returns-clause-ok c = grind (arith, common_steps, on_ok_weaker, here_now)
 
 pub returns-clause-same : goal.returns-clause-same
 returns-clause-same c k =
@@ -15,5 +15,4 @@ returns-clause-same c k =
     (λ block. marked block k) (c.make_room.ensures.same k))
 
 pub returns-clause-others : goal.returns-clause-others
-returns-clause-others c =
-    rw (← c.self.view_is) (others_stay_there c.self.inside.blocks c.make.new.self c.make.ensures.same c.args.at c.at_mut.result.now c.make_room.new.self c.at_mut.ensures.value)
+returns-clause-others c = grind (arith, common_steps, others_stay_there)

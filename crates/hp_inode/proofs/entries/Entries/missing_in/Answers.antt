@@ -3,8 +3,5 @@ use Rattle.hp_inode.specs.EntryBlock.{missing_in}
 use Rattle.hp_inode.proofs.Blocks.{none_missed}
 use Rattle.hp_inode.proofs.entries.Entries.missing_in.Goals as goal
 
-pub returns-in-Some : goal.returns-in-Some
-returns-in-Some c = c.missing.ensures ∙ ap (λ block. missing_in block c.args.from c.args.to) (sym (rw c.in-Some.is at c.block.ensures))
-
 pub returns-in-None : goal.returns-in-None
 returns-in-None c = c.saturating_sub.ensures ∙ none_missed c.args.from c.args.to ∙ ap (λ block. missing_in block c.args.from c.args.to) (sym (rw c.in-None.is at c.block.ensures))

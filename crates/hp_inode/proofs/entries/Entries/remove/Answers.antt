@@ -1,33 +1,14 @@
-use Rattle.std.proofs.Common.{◌+◌, ◌-◌, ◌%◌, ◌≤◌, ◌&&◌, not, ◌∙◌, arith}
-use Rattle.std.proofs.Math.Bool.{and-true}
+use Rattle.std.proofs.lemmas.Grind.{common_steps}
+use Rattle.std.proofs.Common.{◌+◌, ◌%◌, ◌≤◌, ◌∙◌, arith}
 use Rattle.hp_inode.specs.Blocks.{entered_at}
-use Rattle.hp_inode.proofs.Blocks.{counted_here, counted_on, few_in, near_changed, near_counted, still_entered, taken_out}
+use Rattle.hp_inode.proofs.Blocks.{counted_here, counted_on, few_in, near_counted, still_entered, taken_out}
 use Rattle.hp_inode.proofs.entries.Entries.remove.Goals as goal
 
 pub returns-then-b-le-BLOCK-clause-count : goal.returns-then-b-le-BLOCK-clause-count
 returns-then-b-le-BLOCK-clause-count c = c.remove_in.ensures.count ∙ near_counted c.args.self.now c.args.a c.args.b c.if-b-le-BLOCK.true
 
-pub returns-then-b-le-BLOCK-clause-left : goal.returns-then-b-le-BLOCK-clause-left
-returns-then-b-le-BLOCK-clause-left c =
-    near_changed (λ t out. t && not out) and-true c.args.self.now c.remove_in.new.self c.args.a c.args.b c.if-b-le-BLOCK.true c.remove_in.ensures.others c.remove_in.ensures.here
-
 pub overflow_add-removed : goal.overflow_add-removed
-overflow_add-removed c =
-    let at = c.loop-at.at in
-    let count = c.within_block-count.result in
-    let fits : at % 65536 + count ≤ 65536 = omega (arith, c.within_block-count.ensures) in
-    let part = c.remove_in-removed.ensures.count ∙ counted_here c.loop-at.self at count fits in
-    omega (
-      arith,
-      part,
-      few_in (entered_at c.loop-at.self) at count,
-      few_in (entered_at c.args.self.now) c.args.a (at - c.args.a),
-      c.loop-at.invariant.counted,
-      c.loop-at.invariant.from,
-      c.within_block-count.ensures,
-      c.loop-at-test.true,
-      c.ranges.b.fits,
-    )
+overflow_add-removed c = grind (arith, common_steps, counted_here, few_in)
 
 pub loop-at-preserved : goal.loop-at-preserved
 loop-at-preserved c =

@@ -1,18 +1,10 @@
-use Rattle.std.proofs.Common.{◌≡◌, ◌+◌, ◌/◌, ◌%◌, ◌&&◌, not, true, [], set, Some, refl, sym, ap, ◌∙◌, arith}
+use Rattle.std.proofs.Common.{◌+◌, ◌/◌, ◌%◌, ◌&&◌, not, [], set, Some, refl, arith}
 use Rattle.std.proofs.Math.Bool.{and-true}
 use Rattle.hp_model.specs.beside.Ranges.{within}
-use Rattle.hp_inode.specs.Blocks.{entered_at}
 use Rattle.hp_inode.specs.Later.{contents}
 use Rattle.hp_marks.specs.Marks.{marked}
-use Rattle.hp_inode.proofs.Blocks.{changed_there, near, near_changed, others_stay_there, part_out}
-use Rattle.hp_inode.proofs.Later.{block_there}
+use Rattle.hp_inode.proofs.Blocks.{changed_there, near_changed, others_stay_there, part_out}
 use Rattle.hp_inode.proofs.entries.Entries.take_out.Goals as goal
-
-pub take_out-requires : goal.take_out-requires
-take_out-requires c =
-    let blocks = c.self.inside.blocks in
-    let on : entered_at (contents [] blocks) c.args.i ≡ true = rw c.self.view_is c.requires in
-    ap (λ block. marked block c.args.i) (sym (block_there [] blocks 0 c.first_mut.result.now c.first_mut.ensures.value)) ∙ sym (near (contents [] blocks) c.args.i c.if-i-lt-BLOCK.true) ∙ on
 
 pub returns-then-i-lt-BLOCK : goal.returns-then-i-lt-BLOCK
 returns-then-i-lt-BLOCK c =

@@ -30,11 +30,3 @@ invariant_of-self c =
     rw (written_back words c.set_mark.new.words long)
     (spread_entries words marks c.set_mark.new.words c.change_mark.new.words.items i (i + 1) c.self.invariant (omega (arith, enough)) long did.len here
     (λ k. above k ∙ ap (λ n. marked marks k || within (i / 64) n k) end))
-
-pub returns-clause-here : goal.returns-clause-here
-returns-clause-here c =
-    let words = c.self.inside.words.items in
-    let long : length c.set_mark.new.words ≡ length words = search rules in
-    rw (written_back words c.set_mark.new.words long, ← c.self.view_is)
-    (put_in (marked words) (marked c.set_mark.new.words) c.args.i
-    (λ k other. c.set_mark.ensures.others k other ∙ ap (λ ws. marked ws k) c.as_mut_slice-words.ensures.value) c.set_mark.ensures.here)

@@ -1,3 +1,4 @@
+use Rattle.std.proofs.lemmas.Grind.{common_steps}
 use Rattle.std.proofs.Common.{ap, sym, ◌∙◌, ◌≡◌, ℕ, false, arith}
 use Rattle.std.specs.List.{All, count_by}
 use Rattle.hp_model.specs.declared.cell.Cell.{Cell}
@@ -28,9 +29,7 @@ invariant_of-self c =
     c.remove-count.ensures.left)))
 
 pub returns-clause-count : goal.returns-clause-count
-returns-clause-count c =
-    let within = rw (← c.self.view_is, length-cells c.self.inside.len c.self.inside.entries c.self.inside.table) at c.requires.within in
-    rw (← c.self.view_is) (c.remove-count.ensures.count ∙ entered_cells _ _ _ c.args.a c.args.b within)
+returns-clause-count c = grind (arith, common_steps, length-cells, entered_cells)
 
 pub returns-clause-cells : goal.returns-clause-cells
 returns-clause-cells c =

@@ -1,3 +1,4 @@
+use Rattle.std.proofs.lemmas.Grind.{common_steps}
 use Rattle.std.proofs.Common.{◌+◌, Some, sym, ap, ◌∙◌, arith}
 use Rattle.std.specs.List.{count_by}
 use Rattle.std.proofs.lemmas.List.Sums.{count_by-le-length}
@@ -25,9 +26,7 @@ invariant_of-self c =
     }
 
 pub overflow_add-self : goal.overflow_add-self
-overflow_add-self c =
-    let s = c.self.inside in
-    omega (arith, c.self.invariant.paged, c.self.invariant.kept.small, count_by-le-length has_page (cells_of s.len s.entries s.table), length-cells s.len s.entries s.table)
+overflow_add-self c = grind (arith, common_steps, count_by-le-length, length-cells)
 
 pub returns : goal.returns
 returns c =

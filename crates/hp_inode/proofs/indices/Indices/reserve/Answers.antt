@@ -1,3 +1,4 @@
+use Rattle.std.proofs.lemmas.Grind.{common_steps}
 use Rattle.std.proofs.Common.{ℕ, Bool, true, false, cond, refl, ap, ◌∙◌, ◌≡◌, ◌≤◌, ◌<◌, arith}
 use mir.Val.{bool_byte}
 use Rattle.hp_inode.proofs.CellFacts.{length-cells}
@@ -13,9 +14,7 @@ one_at_most true = omega arith
 one_at_most false = omega arith
 
 pub make_slot-requires : goal.make_slot-requires
-make_slot-requires c =
-    let within = rw (← c.self.view_is, length-cells c.self.inside.len c.self.inside.entries c.self.inside.table) at c.requires in
-    omega (arith, within, c.self.invariant.kept.small)
+make_slot-requires c = grind (arith, common_steps, length-cells)
 
 pub invariant_of-self : goal.invariant_of-self
 invariant_of-self c =
@@ -23,9 +22,7 @@ invariant_of-self c =
     same_unready s.len s.count s.entries s.entries s.table c.make_slot.new.self (λ k. refl) c.make_slot.ensures.pages c.self.invariant c.make_slot.ensures.kept _
 
 pub enter-requires : goal.enter-requires
-enter-requires c =
-    let within = rw (← c.self.view_is, length-cells c.self.inside.len c.self.inside.entries c.self.inside.table) at c.requires in
-    omega (arith, within, c.self.invariant.kept.small)
+enter-requires c = grind (arith, common_steps, length-cells)
 
 pub invariant_of-self-in_err-fresh : goal.invariant_of-self-in_err-fresh
 invariant_of-self-in_err-fresh c =

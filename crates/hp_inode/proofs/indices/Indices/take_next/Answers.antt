@@ -25,9 +25,6 @@ pub returns-in_err-i-clause-none : goal.returns-in_err-i-clause-none
 returns-in_err-i-clause-none c is =
     rw (c.in_err-i.ensures.none refl) (no_page_there _ _ _ _ c.self.invariant.kept c.args.a c.args.b c.in_err-i.ensures.taken)
 
-pub invariant_of-self : goal.invariant_of-self
-invariant_of-self c = rw (c.in_err-i.ensures.none refl) c.self.invariant
-
 pub invariant_of-self-2 : goal.invariant_of-self-2
 invariant_of-self-2 c =
     let s = c.self.inside in

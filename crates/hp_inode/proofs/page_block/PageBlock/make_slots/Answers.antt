@@ -1,6 +1,6 @@
+use Rattle.std.proofs.lemmas.Grind.{common_steps}
 use Rattle.std.proofs.Common.{◌/◌, ◌%◌, refl, arith}
 use Rattle.std.proofs.lemmas.Bool.{lt-ltb}
-use Rattle.hp_inode.specs.Chunks.{slot_count}
 use Rattle.hp_inode.proofs.Tables.{table_alike}
 use Rattle.hp_inode.proofs.page_block.PageBlock.make_slots.Goals as goal
 
@@ -40,6 +40,4 @@ invariant_of-self-in_err-make c =
     (omega (arith, was.wide, did.more, c.make.ensures.len, c.in_ok-make_places-2.ensures.ok, end)) (λ i. c.make.ensures.pages (i / 64) (i % 64) (omega arith)) did.marks above.marks
 
 pub returns-in_ok-make-clause-made : goal.returns-in_ok-make-clause-made
-returns-in_ok-make-clause-made c k low high =
-    let all = c.in_ok-make.ensures.made (k / 64) (omega (arith, low)) (omega (arith, high, c.div_ceil-end.ensures)) in
-    lt-ltb (k % 64) (slot_count c.make.new.self (k / 64)) (omega (arith, all))
+returns-in_ok-make-clause-made c k low high = grind (arith, common_steps, lt-ltb)

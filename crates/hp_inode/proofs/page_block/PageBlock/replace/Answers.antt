@@ -1,4 +1,5 @@
-use Rattle.std.proofs.Common.{rules, ◌≡◌, ℕ, ◌/◌, ◌<◌, ◌^◌, true, eqb, length, get_or, not, refl, sym, ap, ◌∙◌}
+use Rattle.std.proofs.lemmas.Grind.{common_steps}
+use Rattle.std.proofs.Common.{rules, ◌≡◌, ℕ, ◌/◌, ◌<◌, ◌^◌, true, eqb, length, get_or, not, refl, sym, ap, ◌∙◌, arith}
 use Rattle.std.specs.Option.{is_some}
 use Rattle.hp_marks.specs.Marks.{marked}
 use Rattle.hp_inode.specs.Rows.{has_slot}
@@ -52,8 +53,7 @@ pub returns-clause-here : goal.returns-clause-here
 returns-clause-here c = rw c.replace-was.ensures.set (page_in_set c.self.inside.chunks c.args.i c.args.page (rw c.self.view_is c.requires.slot))
 
 pub returns-clause-others : goal.returns-clause-others
-returns-clause-others c k differs =
-    rw (c.replace-was.ensures.set, ← c.self.view_is) (page_in_others c.self.inside.chunks c.args.i c.args.page (rw c.self.view_is c.requires.slot) k differs)
+returns-clause-others c k differs = grind (arith, common_steps, page_in_others)
 
 pub returns-clause-slots : goal.returns-clause-slots
 returns-clause-slots c k = rw (c.replace-was.ensures.set, ← c.self.view_is) (has_slot_set c.self.inside.chunks c.args.i c.args.page (rw c.self.view_is c.requires.slot) k)

@@ -1,16 +1,7 @@
-use Rattle.std.proofs.Common.{◌≡◌, ◌/◌, ◌%◌, true, [], Some, refl, sym, ap, ◌∙◌, arith}
-use Rattle.hp_inode.specs.Blocks.{has_slot_at}
-use Rattle.hp_inode.specs.Later.{contents}
+use Rattle.std.proofs.Common.{◌/◌, ◌%◌, Some, refl, arith}
 use Rattle.hp_inode.specs.Rows.{has_slot}
-use Rattle.hp_inode.proofs.Blocks.{all_there, blocks_set, near_slot, others_set, page_set}
-use Rattle.hp_inode.proofs.Later.{block_there}
+use Rattle.hp_inode.proofs.Blocks.{all_there, blocks_set, others_set, page_set}
 use Rattle.hp_inode.proofs.table.PageTable.fill.Goals as goal
-
-pub fill-requires : goal.fill-requires
-fill-requires c =
-    let blocks = c.self.inside.blocks in
-    let slot : has_slot_at (contents [] blocks) c.args.i ≡ true = rw c.self.view_is c.requires in
-    ap (λ block. has_slot block c.args.i) (sym (block_there [] blocks 0 c.first_mut.result.now c.first_mut.ensures.value)) ∙ sym (near_slot (contents [] blocks) c.args.i c.if-i-lt-BLOCK.true) ∙ slot
 
 pub invariant_of-self : goal.invariant_of-self
 invariant_of-self c =
@@ -18,12 +9,6 @@ invariant_of-self c =
     blocks_set s.blocks 0 c.first_mut.result.now c.fill.new.self c.first_mut.ensures.value c.args.i c.args.i
     (omega (arith, c.if-i-lt-BLOCK.true)) (omega (arith, c.if-i-lt-BLOCK.true)) c.fill.ensures.others
     s.bare_from s.bare_to c.min-self-inside.result c.min-self-inside.ensures c.self.invariant
-
-pub returns-then-i-lt-BLOCK-clause-here : goal.returns-then-i-lt-BLOCK-clause-here
-returns-then-i-lt-BLOCK-clause-here c =
-    page_set c.self.inside.blocks 0 c.first_mut.result.now c.fill.new.self c.first_mut.ensures.value c.args.i c.args.i
-    (omega (arith, c.if-i-lt-BLOCK.true)) (omega (arith, c.if-i-lt-BLOCK.true)) c.fill.ensures.others
-    (Some c.args.page) c.fill.ensures.here
 
 pub returns-then-i-lt-BLOCK-clause-others : goal.returns-then-i-lt-BLOCK-clause-others
 returns-then-i-lt-BLOCK-clause-others c =

@@ -1,8 +1,7 @@
 use Rattle.std.proofs.Common.{◌≡◌, ◌/◌, ◌%◌, true, [], set, Some, OnOk, subst, refl, sym, ap, ◌∙◌, arith}
-use Rattle.std.proofs.lemmas.Result.{on_ok_weaker}
 use Rattle.hp_inode.specs.Later.{contents}
 use Rattle.hp_inode.specs.Rows.{Rows, has_slot, page_in}
-use Rattle.hp_inode.proofs.Blocks.{all_there, few_there, near_slot, others_stay_there, slots_stay, table_there, was_there}
+use Rattle.hp_inode.proofs.Blocks.{all_there, few_there, others_stay_there, slots_stay, table_there, was_there}
 use Rattle.hp_inode.proofs.Later.{here_now}
 use Rattle.hp_inode.proofs.table.PageTable.make_slot.Goals as goal
 
@@ -27,13 +26,6 @@ returns-then-i-lt-BLOCK-clause-kept c =
     (others_stay_there blocks blocks (λ j. refl) 0 old new is)
     (λ k has. ap (λ block. has_slot block k) (here_now [] blocks 0 old new is)
     ∙ c.make_slot.ensures.kept k (ap (λ block. has_slot block k) (sym (was_there blocks blocks (λ j. refl) 0 old new is)) ∙ has)))
-
-pub returns-then-i-lt-BLOCK-clause-made : goal.returns-then-i-lt-BLOCK-clause-made
-returns-then-i-lt-BLOCK-clause-made c =
-    let blocks = c.self.inside.blocks in
-    let new = c.make_slot.new.self in
-    on_ok_weaker c.make_slot.result (λ made. near_slot (contents [] (set blocks 0 (Some new))) c.args.i c.if-i-lt-BLOCK.true
-    ∙ ap (λ block. has_slot block c.args.i) (here_now [] blocks 0 c.first_mut.result.now new c.first_mut.ensures.value) ∙ made) c.make_slot.ensures.made
 
 pub invariant_of-self-2 : goal.invariant_of-self-2
 invariant_of-self-2 c =

@@ -1,4 +1,5 @@
-use Rattle.std.proofs.Common.{◌≡◌, true, length, sym, ap, arith, ◌∙◌}
+use Rattle.std.proofs.lemmas.Grind.{common_steps}
+use Rattle.std.proofs.Common.{length, sym, ap, arith, ◌∙◌}
 use Rattle.std.specs.List.{count_by}
 use Rattle.hp_model.specs.declared.place.Place.TheVariants.{Gone}
 use Rattle.hp_model.specs.files.Mapping.{is_unconsumed}
@@ -32,8 +33,4 @@ invariant_of-self-2 c =
     (omega (arith, long, few), omega (arith, owned, whole, parts, left, c.leave_range-freed.ensures.freed))
 
 pub returns-clause-freed : goal.returns-clause-freed
-returns-clause-freed c =
-    let m = c.args.self.now in
-    let same : m.places ≡ c.self.inside.places = ap (λ s. s.places) (sym c.self.view_is) in
-    let owner = ap (λ s. s.owner) (sym c.self.view_is) ∙ sym c.if-not-is_owner.ensures in
-    c.leave_range-freed.ensures.freed ∙ sym (freed_reserves c.args.a c.args.b c.offset-from.result c.offset-to.result m c.self.inside.places true same owner c.offset-from.ensures c.offset-to.ensures)
+returns-clause-freed c = grind (arith, common_steps, freed_reserves)

@@ -1,10 +1,7 @@
+use Rattle.std.proofs.lemmas.Grind.{common_steps}
 use Rattle.hp_mapping.proofs.Packed.{unconsumed_in}
-use Rattle.std.proofs.Common.{◌≡◌, true, sym, ◌∙◌}
-use Rattle.hp_model.specs.files.Mapping.{is_live}
-use Rattle.hp_mapping.specs.Packed.{place_in}
+use Rattle.std.proofs.Common.{arith}
 use Rattle.hp_mapping.proofs.packed_place.PackedPlace.is_unconsumed.Goals as goal
 
 pub returns-then-is_live : goal.returns-then-is_live
-returns-then-is_live c =
-    let live : is_live (place_in c.self.inside.code) ≡ true = rw c.self.view_is (sym c.is_live.ensures ∙ c.if-is_live.true) in
-    rw (← c.self.view_is) (unconsumed_in c.self.inside.code live)
+returns-then-is_live c = grind (arith, common_steps, unconsumed_in)

@@ -1,15 +1,8 @@
-use Rattle.std.proofs.Common.{◌≡◌, slice_index_or, true, ap, length, arith}
-use Rattle.std.proofs.lemmas.List.Sums.{count_by-le-length}
-use Rattle.hp_mapping.specs.Mapped.{has_copy}
+use Rattle.std.proofs.Common.{◌≡◌, slice_index_or, true}
 use Rattle.hp_model.specs.declared.place.Place.TheVariants.{Gone}
 use Rattle.hp_model.specs.files.Mapping.{is_live}
-use Rattle.hp_mapping.proofs.MarkedPlaces.{counted_copied, one_at_most}
+use Rattle.hp_mapping.proofs.MarkedPlaces.{counted_copied}
 use Rattle.hp_mapping.proofs.places.Places.set_copy.Goals as goal
-
-pub overflow_add-self : goal.overflow_add-self
-overflow_add-self c =
-    let same : length c.self.inside.places ≡ length c.args.self.now = ap length c.self.view_is in
-    omega (arith, same, one_at_most c.set_copy-bare.result, c.from.ensures, count_by-le-length has_copy c.self.inside.places, c.self.invariant.count_is, c.set_copy-bare.ensures.few)
 
 pub invariant_of-self : goal.invariant_of-self
 invariant_of-self c =

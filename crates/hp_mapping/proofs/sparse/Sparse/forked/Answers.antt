@@ -1,3 +1,4 @@
+use Rattle.std.proofs.lemmas.Grind.{common_steps}
 use Rattle.std.proofs.Common.{◌∙◌, length, ap, arith}
 use Rattle.hp_mapping.proofs.Chunked.{all_forked, chunked_forked}
 use Rattle.hp_mapping.proofs.sparse.Sparse.forked.Goals as goal
@@ -16,6 +17,4 @@ invariant_of-result c =
     )
 
 pub returns : goal.returns
-returns c =
-    let s = c.self.inside in
-    rw (c.in_ok-homes.ensures.items, c.deref-2.ensures.value, c.in_ok-places.ensures.items, c.deref.ensures.value, ← c.self.view_is) (all_forked s.count s.homes.items s.places.items)
+returns c = grind (arith, common_steps, all_forked)

@@ -1,33 +1,13 @@
-use Rattle.std.proofs.Common.{◌<◌, ◌∙◌, ap, length, arith}
-use Rattle.hp_model.specs.declared.place.Place.TheVariants.{Gone}
-use Rattle.hp_model.specs.files.Mapping.{is_unconsumed}
+use Rattle.std.proofs.lemmas.Grind.{common_steps}
+use Rattle.std.proofs.Common.{arith}
 use Rattle.hp_mapping.proofs.Chunked.{get_touched, long, set_touched}
 use Rattle.hp_mapping.proofs.sparse.Sparse.leave.Goals as goal
 
-pub touch-slot-requires-clause-few : goal.touch-slot-requires-clause-few
-touch-slot-requires-clause-few c = c.self.invariant.3
-
 pub touch-slot-requires-clause-within : goal.touch-slot-requires-clause-within
-touch-slot-requires-clause-within c =
-    let s = c.self.inside in
-    omega (arith, c.requires, ap length c.self.view_is, long s.count s.homes.items s.places.items, c.self.invariant.2)
+touch-slot-requires-clause-within c = grind (arith, common_steps, long)
 
 pub returns-clause-left : goal.returns-clause-left
-returns-clause-left c =
-    let s = c.self.inside in
-    let at = c.args.at in
-    let new = c.touch-slot.new in
-    let did = c.touch-slot.ensures in
-    let less : at < s.count = omega (arith, c.requires, ap length c.self.view_is, long s.count s.homes.items s.places.items) in
-    rw (← c.self.view_is, c.gone.ensures) (set_touched s.count s.homes.items s.places.items new.homes.items new.places.items at c.touch-slot.result did.chunked did.same less did.slot Gone did.own)
+returns-clause-left c = grind (arith, common_steps, long, set_touched)
 
 pub returns-clause-freed : goal.returns-clause-freed
-returns-clause-freed c =
-    let s = c.self.inside in
-    let at = c.args.at in
-    let new = c.touch-slot.new in
-    let did = c.touch-slot.ensures in
-    let less : at < s.count = omega (arith, c.requires, ap length c.self.view_is, long s.count s.homes.items s.places.items) in
-    let was = c.index_mut-place.ensures.value ∙ get_touched s.count s.homes.items s.places.items new.homes.items new.places.items at
-    c.touch-slot.result did.chunked did.same less did.slot c.index_mut-place.result.now in
-    rw (← c.self.view_is) (c.is_unconsumed-freed.ensures ∙ ap is_unconsumed was)
+returns-clause-freed c = grind (arith, common_steps, get_touched, long)

@@ -1,8 +1,7 @@
-use Rattle.std.proofs.Common.{sym}
+use Rattle.std.proofs.lemmas.Grind.{common_steps}
+use Rattle.std.proofs.Common.{arith}
 use Rattle.hp_mapping.proofs.Chunked.{long}
 use Rattle.hp_mapping.proofs.sparse.Sparse.len.Goals as goal
 
 pub returns : goal.returns
-returns c =
-    let s = c.self.inside in
-    rw (← c.self.view_is) (sym (long s.count s.homes.items s.places.items))
+returns c = grind (arith, common_steps, long)

@@ -1,4 +1,5 @@
-use Rattle.std.proofs.Common.{◌≡◌, ℕ, Ok, Err, Some, refl}
+use Rattle.std.proofs.lemmas.Grind.{common_steps}
+use Rattle.std.proofs.Common.{◌≡◌, ℕ, Ok, Err, Some, refl, arith}
 use Rattle.hp_model.specs.beside.Told.{told_reply}
 use Rattle.hp_model.specs.declared.refusal.Refusal.TheVariants.{TraceFull}
 use Rattle.hp_model.specs.declared.section.PoolAnswer.{PoolAnswer}
@@ -22,9 +23,7 @@ alone took full size k home old new door {e} {f} {a} {b} event reply noted ends 
     (alone_is_done took full (λ (x : Choice). slot_event size k x old (as_event home f)) old new door b noted ends)
 
 pub returns-in-Create-clause-done : goal.returns-in-Create-clause-done
-returns-in-Create-clause-done g c k =
-    alone g.D.PoolDoor.took g.D.PoolDoor.is_full g.N.Naming.page_bytes k c.args.home (Some c.args.self.now) (Some c.create.new.self) c.args.door.now
-    c.in-Create.is c.done.ensures c.create.ensures.noted (c.create.ensures.done g.N.Naming.page_bytes k)
+returns-in-Create-clause-done g c k = grind (arith, common_steps, alone)
 
 pub returns-in-Df-clause-done : goal.returns-in-Df-clause-done
 returns-in-Df-clause-done g c k =
@@ -32,16 +31,10 @@ returns-in-Df-clause-done g c k =
     {a = told_reply (Ok c.usage.result)} c.in-Df.is refl (λ e. cc) (c.usage.ensures.done g.N.Naming.page_bytes k)
 
 pub returns-in-Ls-clause-done : goal.returns-in-Ls-clause-done
-returns-in-Ls-clause-done g c k =
-    alone g.D.PoolDoor.took g.D.PoolDoor.is_full g.N.Naming.page_bytes k c.args.home (Some c.args.self.now) (Some c.args.self.now) c.args.door.now
-    {a = told_reply c.ls.result} c.in-Ls.is refl c.ls.ensures.noted (c.ls.ensures.done g.N.Naming.page_bytes k)
+returns-in-Ls-clause-done g c k = grind (arith, common_steps, alone)
 
 pub returns-in-Stat-clause-done : goal.returns-in-Stat-clause-done
-returns-in-Stat-clause-done g c k =
-    alone g.D.PoolDoor.took g.D.PoolDoor.is_full g.N.Naming.page_bytes k c.args.home (Some c.args.self.now) (Some c.args.self.now) c.args.door.now
-    {a = told_reply c.stat.result} c.in-Stat.is refl c.stat.ensures.noted (c.stat.ensures.done g.N.Naming.page_bytes k)
+returns-in-Stat-clause-done g c k = grind (arith, common_steps, alone)
 
 pub returns-in-Read-clause-done : goal.returns-in-Read-clause-done
-returns-in-Read-clause-done g c k =
-    alone g.D.PoolDoor.took g.D.PoolDoor.is_full g.N.Naming.page_bytes k c.args.home (Some c.args.self.now) (Some c.args.self.now) c.args.door.now
-    c.in-Read.is c.bytes.ensures c.read.ensures.noted (c.read.ensures.done k)
+returns-in-Read-clause-done g c k = grind (arith, common_steps, alone)

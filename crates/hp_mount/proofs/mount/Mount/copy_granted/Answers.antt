@@ -1,8 +1,9 @@
+use Rattle.std.proofs.lemmas.Grind.{common_steps}
 use Rattle.std.proofs.Common.{◌≡◌, ℕ, ◌||◌, Bool, max, false, None, Some, refl, sym, ap, subst, ◌∙◌, arith}
 use Rattle.std.specs.List.{flat_map}
 use Rattle.hp_model.specs.declared.place.Place.TheVariants.{Live}
 use Rattle.hp_model.specs.files.File.{Mount}
-use Rattle.hp_model.specs.files.Mapping.{place_at, copy_of, is_live}
+use Rattle.hp_model.specs.files.Mapping.{place_at}
 use Rattle.hp_model.specs.files.Page.{Page}
 use Rattle.hp_model.specs.files.MountCounts.{stamps_of}
 use Rattle.hp_model.specs.Lists.{is_among}
@@ -19,8 +20,7 @@ use Rattle.hp_mount_laws.proofs.Private as private
 use Rattle.hp_mount_laws.proofs.Private.{place_touched, stamped_fresh}
 use Rattle.hp_subpool.specs.Subpool as share
 use Rattle.hp_mount.proofs.mount.Mount.copy_granted.Given.{Over}
-use Rattle.hp_mount.proofs.Here.{file_here, map_here, place_here}
-use Rattle.hp_mount_files.proofs.Here as inner
+use Rattle.hp_mount.proofs.Here.{place_here}
 use Rattle.hp_mount.proofs.mount.Mount.copy_granted.Goals as goal
 use Rattle.hp_mount.proofs.mount.Mount.copy_granted.Goals.{After-is_full, After-put_copy}
 
@@ -88,25 +88,11 @@ module _ (g : Over) (c : After-put_copy g) where
   bytes = ap (λ (p : Page). p.bytes) c.with_shown-page.ensures ∙ ap (λ (w : Files). value g.N.Naming.page_bytes (file_at w.files k) (map_in (file_at w.files k) j) i) room_is
       ∙ ap (λ (x : Mount). value g.N.Naming.page_bytes (file_in x k) (map_in (file_in x k) j) i) c.self.view_is
 
-pub with_shown-page-requires-clause-file : goal.with_shown-page-requires-clause-file
-with_shown-page-requires-clause-file g c = inner.file_here c.in-Ok.ensures.ok c.args.at.file (file_here c.self.view_is c.args.at.file c.requires.file)
-
-pub with_shown-page-requires-clause-map : goal.with_shown-page-requires-clause-map
-with_shown-page-requires-clause-map g c = inner.map_here c.in-Ok.ensures.ok c.args.at.file c.args.at.map (map_here c.self.view_is c.args.at.file c.args.at.map c.requires.map)
-
-pub put_copy-requires-clause-file : goal.put_copy-requires-clause-file
-put_copy-requires-clause-file g c = inner.file_here c.in-Ok.ensures.ok c.args.at.file (file_here c.self.view_is c.args.at.file c.requires.file)
-
-pub put_copy-requires-clause-map : goal.put_copy-requires-clause-map
-put_copy-requires-clause-map g c = inner.map_here c.in-Ok.ensures.ok c.args.at.file c.args.at.map (map_here c.self.view_is c.args.at.file c.args.at.map c.requires.map)
-
 pub put_copy-requires-clause-live : goal.put_copy-requires-clause-live
-put_copy-requires-clause-live g c =
-    ap is_live (inner.place_here c.in-Ok.ensures.ok c.args.at.file c.args.at.map c.args.index (place_here c.self.view_is c.args.at.file c.args.at.map c.args.index c.requires.needs.place))
+put_copy-requires-clause-live g c = grind (arith, common_steps, place_here)
 
 pub put_copy-requires-clause-bare : goal.put_copy-requires-clause-bare
-put_copy-requires-clause-bare g c =
-    ap copy_of (inner.place_here c.in-Ok.ensures.ok c.args.at.file c.args.at.map c.args.index (place_here c.self.view_is c.args.at.file c.args.at.map c.args.index c.requires.needs.place))
+put_copy-requires-clause-bare g c = grind (arith, common_steps, place_here)
 
 pub returns-then-is_full-clause-done : goal.returns-then-is_full-clause-done
 returns-then-is_full-clause-done g c =

@@ -21,7 +21,7 @@ use Rattle.hp_model.specs.Lists.{is_among}
 use Rattle.hp_mount_laws.specs.Kept.{IsKept, mount_from}
 use Rattle.hp_lookup.specs.Files.{Files, copied_at, file_at}
 use Rattle.hp_mount.proofs.mount.Mount.copy_reserved.Given.{Over}
-use Rattle.hp_mount.proofs.Here.{file_here, map_here, place_here}
+use Rattle.hp_mount.proofs.Here.{place_here}
 use Rattle.hp_mount.proofs.mount.Mount.copy_reserved.Goals as goal
 use Rattle.hp_mount.proofs.mount.Mount.copy_reserved.Goals.{After-self}
 
@@ -50,18 +50,6 @@ module _ (g : Over) (c : After-self g) where
     left = keeps.reserved_left c.self.inside.share c.self.inside.files c.self.inside.inodes c.args.self.now c.self.invariant c.self.view_is
         c.args.at.file c.args.at.map c.args.index c.requires.file c.requires.map
         stamp page fresh c.requires.needs.consumed place new w reserved new_is (copied c.requires.needs.consumed place)
-
-pub with_shown-page-requires-clause-file : goal.with_shown-page-requires-clause-file
-with_shown-page-requires-clause-file g c = file_here c.self.view_is c.args.at.file c.requires.file
-
-pub with_shown-page-requires-clause-map : goal.with_shown-page-requires-clause-map
-with_shown-page-requires-clause-map g c = map_here c.self.view_is c.args.at.file c.args.at.map c.requires.map
-
-pub put_copy-requires-clause-file : goal.put_copy-requires-clause-file
-put_copy-requires-clause-file g c = file_here c.self.view_is c.args.at.file c.requires.file
-
-pub put_copy-requires-clause-map : goal.put_copy-requires-clause-map
-put_copy-requires-clause-map g c = map_here c.self.view_is c.args.at.file c.args.at.map c.requires.map
 
 pub put_copy-requires-clause-live : goal.put_copy-requires-clause-live
 put_copy-requires-clause-live g c = ap is_live (place_here c.self.view_is c.args.at.file c.args.at.map c.args.index c.requires.needs.place)

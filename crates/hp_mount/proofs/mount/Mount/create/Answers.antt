@@ -1,8 +1,5 @@
-use Rattle.std.proofs.Common.{Some, sym, ap, ◌∙◌}
-use Rattle.hp_model.specs.files.File.{Mount, new_file}
-use Rattle.hp_model.specs.files.MakeMap.{with_new}
-use Rattle.hp_lookup.specs.Files.{Files}
-use Rattle.hp_mount_laws.specs.Kept.{mount_from}
+use Rattle.std.proofs.lemmas.Grind.{common_steps}
+use Rattle.std.proofs.Common.{sym, ◌∙◌, arith}
 use Rattle.hp_mount_laws.proofs.Making.{create_done, create_refused, create_without_memory}
 use Rattle.hp_mount.proofs.mount.Mount.create.Goals as goal
 
@@ -10,13 +7,7 @@ pub returns-in-Some-clause-done : goal.returns-in-Some-clause-done
 returns-in-Some-clause-done g c size k = create_refused c.args.self.now c.args.name.now size k c.in-Some.refusal (sym c.refused_file.ensures.first ∙ c.in-Some.is)
 
 pub returns-in-Err-clause-done : goal.returns-in-Err-clause-done
-returns-in-Err-clause-done g c size k =
-    let o = c.self.inside in
-    create_without_memory c.args.self.now c.args.name.now size k _ (sym c.refused_file.ensures.first ∙ c.in_default.is)
-    (ap (λ (v : Files). mount_from o.share o.inodes v.files) c.in-Err.ensures.err ∙ c.self.view_is)
+returns-in-Err-clause-done g c size k = grind (arith, common_steps, create_without_memory)
 
 pub returns-clause-done : goal.returns-clause-done
-returns-clause-done g c size k =
-    let o = c.self.inside in
-    create_done c.args.self.now c.args.name.now size k _ (sym c.refused_file.ensures.first ∙ c.in_default.is)
-    (ap (λ (v : Files). mount_from o.share o.inodes v.files) c.in_default-create.ensures.ok ∙ ap (λ (x : Mount). with_new x (new_file (Some c.args.name.now))) c.self.view_is)
+returns-clause-done g c size k = grind (arith, common_steps, create_done)

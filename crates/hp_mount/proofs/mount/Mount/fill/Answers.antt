@@ -18,9 +18,6 @@ returns-then-is_full-clause-done g c =
     let full = full_as o.share o.files o.inodes a.self.now c.self.invariant c.self.view_is _ c.missing-k.result c.is_full.result more_is c.is_full.ensures in
     fill_full g.D.PoolDoor.took g.D.PoolDoor.is_full g.N.Naming.page_bytes a.self.now a.file a.start a.end a.door.now (full ∙ c.if-is_full.true)
 
-pub preallocate-requires-clause-k : goal.preallocate-requires-clause-k
-preallocate-requires-clause-k g c = c.missing-k.ensures ∙ unentered_lent c.file.ensures c.args.start c.args.end (omega (arith, c.requires.order))
-
 pub preallocate-requires-clause-held : goal.preallocate-requires-clause-held
 preallocate-requires-clause-held g c =
     let o = c.self.inside in
@@ -72,3 +69,6 @@ returns-in-Err-clause-done g c =
     fill_denied took g.D.PoolDoor.is_full g.N.Naming.page_bytes a.self.now a.file a.start a.end a.door.now (full ∙ c.if-is_full.false) o.share c.missing-k.result a.count more_is
     c.requires.count (rise_as o.share o.files o.inodes a.self.now c.self.invariant c.self.view_is c.missing-k.result) c.in-Err.refusal c.preallocate.new.share
     c.preallocate.new.door _ c.in-Err.ensures.refused stays
+
+pub preallocate-requires-clause-k : goal.preallocate-requires-clause-k
+preallocate-requires-clause-k g c = c.missing-k.ensures ∙ unentered_lent c.file.ensures c.args.start c.args.end (omega (arith, c.requires.order))

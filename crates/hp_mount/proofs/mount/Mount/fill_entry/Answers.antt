@@ -1,12 +1,8 @@
-use Rattle.std.proofs.Common.{◌≡◌, ◌<◌, Some, length, sym, ap, subst, ◌∙◌}
+use Rattle.std.proofs.lemmas.Grind.{common_steps}
+use Rattle.std.proofs.Common.{◌<◌, length, sym, ap, subst, ◌∙◌, arith}
 use Rattle.std.proofs.lemmas.Result.{err_from_is_err_and}
-use Rattle.hp_mount_door.specs.Door.{IsDoorRefusal}
-use Rattle.hp_model.specs.files.Access.{shared_access}
-use Rattle.hp_mount_laws.specs.Done.{Tried, done}
-use Rattle.hp_mount_laws.specs.Kept.{mount_from}
-use Rattle.hp_subpool.specs.Subpool.{Subpool}
-use Rattle.hp_model.specs.files.File.{Mount, cell_at, with_cell, with_file}
-use Rattle.hp_model.specs.declared.cell.Cell.TheVariants.{Entered, Present}
+use Rattle.hp_model.specs.files.File.{Mount, with_cell, with_file}
+use Rattle.hp_model.specs.declared.cell.Cell.TheVariants.{Present}
 use Rattle.hp_model.specs.files.Page.{Page}
 use Rattle.hp_model.specs.declared.section.Section.TheVariants.{TakePage}
 use Rattle.hp_model.specs.pool.Pool.{granted_at}
@@ -16,13 +12,7 @@ use Rattle.hp_mount_laws.proofs.Shared.{entered_full, shared_entered}
 use Rattle.hp_mount.proofs.mount.Mount.fill_entry.Goals as goal
 
 pub invariant_of-self-2 : goal.invariant_of-self-2
-invariant_of-self-2 g c =
-    let s = c.self.inside in
-    let k = c.args.file in
-    let i = c.args.index in
-    entry_kept s.share s.files s.inodes c.self.invariant k (subst (λ m. k < length m.files) (sym c.self.view_is) c.requires.file) i c.zero.new.self c.take_page.new.share c.fill.new.self
-    (subst (λ m. i < length (file_in m k).cells) (sym c.self.view_is) c.requires.below) (subst (λ m. cell_at (file_in m k) i ≡ Entered) (sym c.self.view_is) c.requires.entered)
-    c.in_ok-page.ensures.share c.fill.ensures
+invariant_of-self-2 g c = grind (arith, common_steps, entry_kept)
 
 pub returns-clause-done : goal.returns-clause-done
 returns-clause-done g c s at file =
@@ -41,13 +31,4 @@ returns-clause-done g c s at file =
     ∙ ap (λ (x : Mount). with_file x k (with_cell (file_in x k) i (Present page))) c.self.view_is)
 
 pub returns-in_err-page-clause-done : goal.returns-in_err-page-clause-done
-returns-in_err-page-clause-done g c s at file =
-    let o = c.self.inside in
-    let m = c.args.self.now in
-    let back = err_from_is_err_and c.from_residual.result c.from_residual.ensures.1 in
-    let now : Mount = mount_from c.take_page.new.share o.inodes o.files.files in
-    subst (λ q. Tried g.D.PoolDoor.took g.D.PoolDoor.is_full (λ x. shared_access x g.N.Naming.page_bytes m s c.args.home c.args.index
-    (cell_at s.file c.args.index)) (Some m) c.args.door.now (done q) (Some now) c.take_page.new.self) (sym back.1)
-    (entered_full g.D.PoolDoor.took g.D.PoolDoor.is_full g.N.Naming.page_bytes m c.args.home c.args.file c.args.index s at file c.args.door.now c.take_page.new.self now back.0 c.requires.entered
-    (subst (λ x. IsDoorRefusal x ⊥ ((c.take_page.new.self ≡ c.args.door.now) × g.D.PoolDoor.is_full c.take_page.new.self)) (sym back.2) c.in_err-page.ensures.err)
-    (ap (λ (x : Subpool). mount_from x o.inodes o.files.files) c.in_err-page.ensures.unchanged ∙ c.self.view_is))
+returns-in_err-page-clause-done g c s at file = grind (arith, common_steps, err_from_is_err_and, entered_full)

@@ -1,4 +1,5 @@
-use Rattle.std.proofs.Common.{◌≡◌, Some, take, drop, ap, subst, ◌∙◌}
+use Rattle.std.proofs.lemmas.Grind.{common_steps}
+use Rattle.std.proofs.Common.{◌≡◌, Some, take, drop, ap, subst, ◌∙◌, arith}
 use Rattle.hp_model.specs.declared.step.Intent.TheVariants.{Read}
 use Rattle.hp_model.specs.files.File.{Mount}
 use Rattle.hp_model.specs.files.Value.{value}
@@ -6,9 +7,8 @@ use Rattle.hp_model.specs.machine.Plan.{and_then}
 use Rattle.hp_model.specs.machine.Promises.{file_in, map_in}
 use Rattle.hp_mount_files.specs.Lent.{IsReadable}
 use Rattle.hp_mount.specs.declared.mount.reach.Asked.TheVariants.{Bytes}
-use Rattle.hp_mount.specs.Found.{IsPlaced, spot_of, why_not}
+use Rattle.hp_mount.specs.Found.{IsPlaced, why_not}
 use Rattle.hp_mount.proofs.Commands.{backed_not_memory, denied, early_not_memory, follows, loads, not_begun, why_is_early}
-use Rattle.hp_mount.proofs.Here.{file_here, map_here}
 use Rattle.hp_mount.proofs.Loading.{loaded, loaded_found}
 use Rattle.hp_mount.proofs.mount.Mount.load.Goals as goal
 
@@ -22,15 +22,7 @@ returns-in-Err-clause-done g c k =
     (subst (λ n. why_not c.args.self.now c.args.access.now asked n ≡ Some c.in-Err.refusal) c.requires.page_bytes c.in-Err.ensures.refused)
 
 pub returns-in-Err-clause-memory : goal.returns-in-Err-clause-memory
-returns-in-Err-clause-memory g c backed =
-    let a = c.args.access.now in
-    early_not_memory c.in-Err.refusal (why_is_early c.args.page_bytes a.index (Bytes c.args.offset c.args.count) (spot_of a c.args.self.now) c.in-Err.refusal c.in-Err.ensures.refused)
-
-pub found-requires-clause-file : goal.found-requires-clause-file
-found-requires-clause-file g c = file_here c.self.view_is c.in-Ok.at.file c.in-Ok.ensures.placed.file
-
-pub found-requires-clause-map : goal.found-requires-clause-map
-found-requires-clause-map g c = map_here c.self.view_is c.in-Ok.at.file c.in-Ok.at.map c.in-Ok.ensures.placed.map
+returns-in-Err-clause-memory g c backed = grind (arith, common_steps, early_not_memory, why_is_early)
 
 pub returns-in-Some-clause-done : goal.returns-in-Some-clause-done
 returns-in-Some-clause-done g c =
@@ -64,6 +56,4 @@ returns-in-Err-reach-clause-done g c k =
     c.in-Err-reach.refusal c.reach.result c.reach.new.self c.reach.new.door c.in-Err-reach.is c.reach.ensures.done
 
 pub returns-in-Err-reach-clause-memory : goal.returns-in-Err-reach-clause-memory
-returns-in-Err-reach-clause-memory g c =
-    backed_not_memory c.args.access.now Read (Bytes c.args.offset c.args.count) c.args.page_bytes c.args.self.now c.in-Ok.at c.in-Ok.ensures.placed
-    c.in-Err-reach.refusal c.reach.result c.in-Err-reach.is c.reach.ensures.memory
+returns-in-Err-reach-clause-memory g c = grind (arith, common_steps, backed_not_memory)

@@ -1,3 +1,4 @@
+use Rattle.std.proofs.lemmas.Grind.{common_steps}
 use Rattle.std.proofs.Common.{◌≡◌, ◌<◌, None, Some, ap, subst, sym, ◌∙◌, arith}
 use Rattle.hp_model.specs.files.File.{Mount}
 use Rattle.hp_model.specs.files.Fill.{lacking}
@@ -33,9 +34,7 @@ returns-then-count-eq0-clause-done g c k =
     (sym c.in_default-refused_range.ensures.refused) none
 
 pub fill-requires-clause-count : goal.fill-requires-clause-count
-fill-requires-clause-count g c =
-    let a = c.args in
-    c.lacking-count.ensures ∙ lacking_lent c.file.ensures a.start a.end ∙ ap (λ (x : Mount). lacking a.start a.end (file_in x c.in-Some.file)) c.self.view_is
+fill-requires-clause-count g c = grind (arith, common_steps, lacking_lent)
 
 pub returns-clause-done : goal.returns-clause-done
 returns-clause-done g c k =

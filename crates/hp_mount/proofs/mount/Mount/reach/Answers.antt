@@ -1,4 +1,5 @@
-use Rattle.std.proofs.Common.{refl, sym, ap, ◌∙◌, Some}
+use Rattle.std.proofs.lemmas.Grind.{common_steps}
+use Rattle.std.proofs.Common.{refl, sym, ap, ◌∙◌, Some, arith}
 use Rattle.hp_model.specs.files.Access.{access, shared_access}
 use Rattle.hp_model.specs.files.File.{Mount, cell_at, file_in, map_in}
 use Rattle.hp_model.specs.files.Mapping.{is_shared}
@@ -8,14 +9,7 @@ use Rattle.hp_mount_laws.specs.Done.{done}
 use Rattle.hp_mount_laws.specs.Reach.{spot_at}
 use Rattle.hp_mount.proofs.Commands.{backed_is_entered, shared_is}
 use Rattle.hp_mount_laws.proofs.Trying.{tried_as}
-use Rattle.hp_mount.proofs.Here.{file_here, map_here}
 use Rattle.hp_mount.proofs.mount.Mount.reach.Goals as goal
-
-pub map-requires-clause-file : goal.map-requires-clause-file
-map-requires-clause-file g c = file_here c.self.view_is c.args.at.file c.requires.file
-
-pub map-requires-clause-map : goal.map-requires-clause-map
-map-requires-clause-map g c = map_here c.self.view_is c.args.at.file c.args.at.map c.requires.map
 
 pub returns-then-is_shared-clause-done : goal.returns-then-is_shared-clause-done
 returns-then-is_shared-clause-done g c =
@@ -30,8 +24,4 @@ returns-then-is_shared-clause-done g c =
     (c.reach_shared.ensures.done s refl refl)
 
 pub returns-then-is_shared-clause-memory : goal.returns-then-is_shared-clause-memory
-returns-then-is_shared-clause-memory g c backed =
-    let s = spot_at c.args.self.now c.args.at.file c.args.at.map in
-    c.reach_shared.ensures.memory (backed_is_entered c.args.intent (Some s) s c.args.index refl
-    (sym (ap (λ (x : Mount). is_shared (map_in (file_in x c.args.at.file) c.args.at.map).sharing) c.self.view_is) ∙ sym (c.is_shared.ensures ∙ shared_lent c.map.ensures)
-    ∙ c.if-is_shared.true) backed)
+returns-then-is_shared-clause-memory g c backed = grind (arith, common_steps, shared_lent, backed_is_entered)

@@ -1,56 +1,26 @@
-use Rattle.std.proofs.Common.{sym, ap, ◌∙◌}
+use Rattle.std.proofs.lemmas.Grind.{common_steps}
+use Rattle.std.proofs.Common.{sym, ap, ◌∙◌, arith}
 use Rattle.hp_model.specs.files.File.{Mount, cell_at}
 use Rattle.hp_model.specs.files.Mapping.{place_at}
 use Rattle.hp_model.specs.machine.Promises.{file_in, map_in}
 use Rattle.hp_mount_files.proofs.Lent.{unmapped_lent, reserve_lent}
 use Rattle.hp_mount_laws.proofs.Private as private
-use Rattle.hp_mount_laws.specs.Reach.{shows_page, has_reserve}
+use Rattle.hp_mount_laws.specs.Reach.{shows_page}
 use Rattle.hp_file.proofs.PutCopy.{bare_place}
-use Rattle.hp_mount.proofs.Here.{file_here, map_here, needs_copy}
+use Rattle.hp_mount.proofs.Here.{needs_copy}
 use Rattle.hp_mount.proofs.mount.Mount.reach_bare.Goals as goal
 
-pub map-requires-clause-file : goal.map-requires-clause-file
-map-requires-clause-file g c = file_here c.self.view_is c.args.at.file c.requires.file
-
-pub map-requires-clause-map : goal.map-requires-clause-map
-map-requires-clause-map g c = map_here c.self.view_is c.args.at.file c.args.at.map c.requires.map
-
-pub shows_page-requires : goal.shows_page-requires
-shows_page-requires g c = file_here c.self.view_is c.args.at.file c.requires.file
-
-pub map-requires-2-clause-file : goal.map-requires-2-clause-file
-map-requires-2-clause-file g c = file_here c.self.view_is c.args.at.file c.requires.file
-
-pub map-requires-2-clause-map : goal.map-requires-2-clause-map
-map-requires-2-clause-map g c = map_here c.self.view_is c.args.at.file c.args.at.map c.requires.map
-
 pub copy_reserved-requires-clause-needs : goal.copy_reserved-requires-clause-needs
-copy_reserved-requires-clause-needs g c =
-    let k = c.args.at.file in
-    let j = c.args.at.map in
-    let i = c.args.index in
-    needs_copy c.args.self.now k j i c.args.intent c.requires.private c.requires.live c.requires.bare
-    (sym (ap (λ (x : Mount). (map_in (file_in x k) j).unmapped) c.self.view_is) ∙ sym (c.is_marked.ensures ∙ unmapped_lent c.map.ensures) ∙ c.if-is_marked.false)
-    (sym (ap (λ (x : Mount). shows_page c.args.intent (cell_at (file_in x k) i)) c.self.view_is) ∙ sym c.shows_page.ensures ∙ c.if-shows_page.false)
+copy_reserved-requires-clause-needs g c = grind (arith, common_steps, unmapped_lent, needs_copy)
 
 pub copy_reserved-requires-clause-reserved : goal.copy_reserved-requires-clause-reserved
-copy_reserved-requires-clause-reserved g c =
-    sym (ap (λ (x : Mount). has_reserve (map_in (file_in x c.args.at.file) c.args.at.map) c.args.index) c.self.view_is)
-    ∙ sym (c.has_reserve.ensures ∙ reserve_lent c.map-2.ensures c.args.index) ∙ c.if-has_reserve.true
+copy_reserved-requires-clause-reserved g c = grind (arith, common_steps, reserve_lent)
 
 pub copy_granted-requires-clause-needs : goal.copy_granted-requires-clause-needs
-copy_granted-requires-clause-needs g c =
-    let k = c.args.at.file in
-    let j = c.args.at.map in
-    let i = c.args.index in
-    needs_copy c.args.self.now k j i c.args.intent c.requires.private c.requires.live c.requires.bare
-    (sym (ap (λ (x : Mount). (map_in (file_in x k) j).unmapped) c.self.view_is) ∙ sym (c.is_marked.ensures ∙ unmapped_lent c.map.ensures) ∙ c.if-is_marked.false)
-    (sym (ap (λ (x : Mount). shows_page c.args.intent (cell_at (file_in x k) i)) c.self.view_is) ∙ sym c.shows_page.ensures ∙ c.if-shows_page.false)
+copy_granted-requires-clause-needs g c = grind (arith, common_steps, unmapped_lent, needs_copy)
 
 pub copy_granted-requires-clause-unreserved : goal.copy_granted-requires-clause-unreserved
-copy_granted-requires-clause-unreserved g c =
-    sym (ap (λ (x : Mount). has_reserve (map_in (file_in x c.args.at.file) c.args.at.map) c.args.index) c.self.view_is)
-    ∙ sym (c.has_reserve.ensures ∙ reserve_lent c.map-2.ensures c.args.index) ∙ c.if-has_reserve.false
+copy_granted-requires-clause-unreserved g c = grind (arith, common_steps, reserve_lent)
 
 pub returns-then-is_marked-clause-done : goal.returns-then-is_marked-clause-done
 returns-then-is_marked-clause-done g c =

@@ -30,7 +30,7 @@ use Rattle.hp_mount_laws.proofs.Shared.{same_touched}
 use Rattle.hp_subpool.specs.Subpool as share
 use Rattle.hp_laws.proofs.counts.Copies.{live_of}
 use Rattle.hp_mount.proofs.mount.Mount.reach_own.Given.{Over}
-use Rattle.hp_mount.proofs.Here.{file_here, map_here, state_here}
+use Rattle.hp_mount.proofs.Here.{state_here}
 use Rattle.hp_lookup.specs.declared.copy_state.CopyState.TheVariants.{HeldBySeveral}
 use Rattle.hp_mount.proofs.mount.Mount.reach_own.Goals as goal
 use Rattle.hp_mount.proofs.mount.Mount.reach_own.Goals.{After-is_full}
@@ -104,30 +104,6 @@ module _ (g : Over) (c : After-is_full g) where
   refused_left : (new : share.Subpool) → new ≡ c.self.inside.share → mount_from new c.self.inside.inodes c.self.inside.files.files ≡ m
   refused_left new same = mount_left c.self.inside.share new c.self.inside.inodes c.self.inside.files.files c.self.inside.files.files
       (ap (λ (x : share.Subpool). x.max) same) (ap (λ (x : share.Subpool). x.min) same) refl ∙ c.self.view_is
-
-pub map-requires-clause-file : goal.map-requires-clause-file
-map-requires-clause-file g c = file_here c.self.view_is c.args.at.file c.requires.file
-
-pub map-requires-clause-map : goal.map-requires-clause-map
-map-requires-clause-map g c = map_here c.self.view_is c.args.at.file c.args.at.map c.requires.map
-
-pub take_back-requires-clause-file : goal.take_back-requires-clause-file
-take_back-requires-clause-file g c = file_here c.self.view_is c.args.at.file c.requires.file
-
-pub take_back-requires-clause-map : goal.take_back-requires-clause-map
-take_back-requires-clause-map g c = map_here c.self.view_is c.args.at.file c.args.at.map c.requires.map
-
-pub with_shown-page-requires-clause-file : goal.with_shown-page-requires-clause-file
-with_shown-page-requires-clause-file g c = file_here c.self.view_is c.args.at.file c.requires.file
-
-pub with_shown-page-requires-clause-map : goal.with_shown-page-requires-clause-map
-with_shown-page-requires-clause-map g c = map_here c.self.view_is c.args.at.file c.args.at.map c.requires.map
-
-pub part-requires-clause-file : goal.part-requires-clause-file
-part-requires-clause-file g c = file_here c.self.view_is c.args.at.file c.requires.file
-
-pub part-requires-clause-map : goal.part-requires-clause-map
-part-requires-clause-map g c = map_here c.self.view_is c.args.at.file c.args.at.map c.requires.map
 
 pub part-requires-clause-several : goal.part-requires-clause-several
 part-requires-clause-several g c = state_here c.self.view_is c.args.at.file c.args.at.map c.args.index HeldBySeveral c.requires.several

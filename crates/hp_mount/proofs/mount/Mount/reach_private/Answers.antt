@@ -6,14 +6,7 @@ use Rattle.hp_lookup.specs.declared.copy_state.CopyState.TheVariants as state
 use Rattle.hp_file.specs.States.{IsCopyState}
 use Rattle.hp_mount_laws.proofs.Private as private
 use Rattle.hp_laws.proofs.counts.Copies.{live_of}
-use Rattle.hp_mount.proofs.Here.{file_here, map_here}
 use Rattle.hp_mount.proofs.mount.Mount.reach_private.Goals as goal
-
-pub copy-requires-clause-file : goal.copy-requires-clause-file
-copy-requires-clause-file g c = file_here c.self.view_is c.args.at.file c.requires.file
-
-pub copy-requires-clause-map : goal.copy-requires-clause-map
-copy-requires-clause-map g c = map_here c.self.view_is c.args.at.file c.args.at.map c.requires.map
 
 pub reach_own-requires-clause-several : goal.reach_own-requires-clause-several
 reach_own-requires-clause-several g c =

@@ -1,4 +1,5 @@
-use Rattle.std.proofs.Common.{◌≡◌, [], ◌∷◌, Bool, true, false, not, length, ap, sym, ◌∙◌, arith}
+use Rattle.std.proofs.lemmas.Grind.{common_steps}
+use Rattle.std.proofs.Common.{◌≡◌, [], ◌∷◌, Bool, not, ap, sym, ◌∙◌, arith}
 use Rattle.std.proofs.lemmas.Bool.Decides.{nat_tests}
 use Rattle.hp_model.specs.declared.refusal.Refusal.TheVariants.{BeyondEnd, OutOfRange}
 use Rattle.hp_model.specs.files.File.{Mount}
@@ -25,22 +26,10 @@ returns-then-not-is_live-clause-refused g c =
     (sym (live g (goal.at.returns-then-not-is_live-clause-refused g c).After-is_live c.if-not-is_live.true))
 
 pub returns-then-index-len-clause-refused : goal.returns-then-index-len-clause-refused
-returns-then-index-len-clause-refused g c =
-    let s = spot_at c.args.self.now c.args.at.file c.args.at.map in
-    let i = c.args.index in
-    let is = live g (goal.at.returns-then-index-len-clause-refused g c).After-is_live c.if-not-is_live.false in
-    let long = c.len.ensures ∙ len_lent c.file.ensures ∙ ap (λ (x : Mount). length (file_in x c.args.at.file).cells) c.self.view_is in
-    let beyond : is_beyond s i ≡ true = grind (arith, nat_tests, long, c.if-index-len.true) in
-    sym (ap (λ b. first_of ((not b, OutOfRange) ∷ (is_beyond s i, BeyondEnd) ∷ [])) is ∙ ap (λ b. first_of ((b, BeyondEnd) ∷ [])) beyond)
+returns-then-index-len-clause-refused g c = grind (arith, common_steps, nat_tests, len_lent)
 
 pub returns-clause-refused : goal.returns-clause-refused
-returns-clause-refused g c =
-    let s = spot_at c.args.self.now c.args.at.file c.args.at.map in
-    let i = c.args.index in
-    let is = live g (goal.at.returns-clause-refused g c).After-is_live c.if-not-is_live.false in
-    let long = c.len.ensures ∙ len_lent c.file.ensures ∙ ap (λ (x : Mount). length (file_in x c.args.at.file).cells) c.self.view_is in
-    let beyond : is_beyond s i ≡ false = grind (arith, nat_tests, long, c.if-index-len.false) in
-    sym (ap (λ b. first_of ((not b, OutOfRange) ∷ (is_beyond s i, BeyondEnd) ∷ [])) is ∙ ap (λ b. first_of ((b, BeyondEnd) ∷ [])) beyond)
+returns-clause-refused g c = grind (arith, common_steps, nat_tests, len_lent)
 
 pub returns-clause-live : goal.returns-clause-live
 returns-clause-live g c = live g (goal.at.returns-clause-live g c).After-is_live c.if-not-is_live.false

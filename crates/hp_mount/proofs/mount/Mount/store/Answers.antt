@@ -1,38 +1,26 @@
-use Rattle.std.proofs.Common.{◌≡◌, Some, length, sym, ap, subst, ◌∙◌}
+use Rattle.std.proofs.lemmas.Grind.{common_steps}
+use Rattle.std.proofs.Common.{◌≡◌, Some, length, subst, arith}
 use Rattle.hp_model.specs.declared.step.Intent.TheVariants.{Write}
-use Rattle.hp_model.specs.files.File.{Mount, file_in, map_in}
-use Rattle.hp_model.specs.files.Mapping.{is_shared}
 use Rattle.hp_model.specs.machine.Plan.{and_then}
 use Rattle.hp_mount_files.proofs.Lent.{shared_lent}
 use Rattle.hp_mount.specs.declared.mount.reach.Asked.TheVariants.{Bytes}
-use Rattle.hp_mount.specs.Found.{IsPlaced, spot_of, why_not}
+use Rattle.hp_mount.specs.Found.{IsPlaced, why_not}
 use Rattle.hp_mount.proofs.Commands.{early_not_memory, follows, not_begun, stores, why_is_early}
-use Rattle.hp_mount.proofs.Here.{file_here, map_here}
 use Rattle.hp_mount.proofs.mount.Mount.store.Goals as goal
-
-pub map-requires-clause-file : goal.map-requires-clause-file
-map-requires-clause-file g c = file_here c.self.view_is c.in-Ok.at.file c.in-Ok.ensures.placed.file
-
-pub map-requires-clause-map : goal.map-requires-clause-map
-map-requires-clause-map g c = map_here c.self.view_is c.in-Ok.at.file c.in-Ok.at.map c.in-Ok.ensures.placed.map
 
 pub store_shared-requires-clause-placed : goal.store_shared-requires-clause-placed
 store_shared-requires-clause-placed g c =
     subst (λ n. IsPlaced c.args.self.now c.args.access.now (Bytes c.args.offset (length c.args.bytes.now)) n c.in-Ok.at) c.requires.page_bytes c.in-Ok.ensures.placed
 
 pub store_shared-requires-clause-shared : goal.store_shared-requires-clause-shared
-store_shared-requires-clause-shared g c =
-    sym (ap (λ (x : Mount). is_shared (map_in (file_in x c.in-Ok.at.file) c.in-Ok.at.map).sharing) c.self.view_is)
-    ∙ sym (c.is_shared-is_shared.ensures ∙ shared_lent c.map.ensures) ∙ c.if-is_shared.true
+store_shared-requires-clause-shared g c = grind (arith, common_steps, shared_lent)
 
 pub store_private-requires-clause-placed : goal.store_private-requires-clause-placed
 store_private-requires-clause-placed g c =
     subst (λ n. IsPlaced c.args.self.now c.args.access.now (Bytes c.args.offset (length c.args.bytes.now)) n c.in-Ok.at) c.requires.page_bytes c.in-Ok.ensures.placed
 
 pub store_private-requires-clause-private : goal.store_private-requires-clause-private
-store_private-requires-clause-private g c =
-    sym (ap (λ (x : Mount). is_shared (map_in (file_in x c.in-Ok.at.file) c.in-Ok.at.map).sharing) c.self.view_is)
-    ∙ sym (c.is_shared-is_shared.ensures ∙ shared_lent c.map.ensures) ∙ c.if-is_shared.false
+store_private-requires-clause-private g c = grind (arith, common_steps, shared_lent)
 
 pub returns-in-Err-clause-done : goal.returns-in-Err-clause-done
 returns-in-Err-clause-done g c k =
@@ -44,6 +32,4 @@ returns-in-Err-clause-done g c k =
     (subst (λ n. why_not c.args.self.now c.args.access.now asked n ≡ Some c.in-Err.refusal) c.requires.page_bytes c.in-Err.ensures.refused)
 
 pub returns-in-Err-clause-memory : goal.returns-in-Err-clause-memory
-returns-in-Err-clause-memory g c backed =
-    let a = c.args.access.now in
-    early_not_memory c.in-Err.refusal (why_is_early c.args.page_bytes a.index (Bytes c.args.offset (length c.args.bytes.now)) (spot_of a c.args.self.now) c.in-Err.refusal c.in-Err.ensures.refused)
+returns-in-Err-clause-memory g c backed = grind (arith, common_steps, early_not_memory, why_is_early)

@@ -1,7 +1,7 @@
-use Rattle.std.proofs.Common.{◌≡◌, map, ap, subst, sym, refl, ◌∙◌, arith}
-use Rattle.std.specs.List.{filter, sum_by}
+use Rattle.std.proofs.lemmas.Grind.{common_steps}
+use Rattle.std.proofs.Common.{map, ap, subst, refl, ◌∙◌, arith}
+use Rattle.std.specs.List.{filter}
 use Rattle.hp_model.specs.files.GiveBack.{file_without, is_kept}
-use Rattle.hp_model.specs.files.MountCounts.{file_reserves}
 use Rattle.hp_lookup.specs.Dropping.{IsLeft}
 use Rattle.hp_lookup.specs.Files.{Files}
 use Rattle.hp_mount_files.proofs.Exiting.{exit_files, exit_keeps, exit_left}
@@ -16,11 +16,7 @@ pub drop_maps_of-gone-requires-clause-held : goal.drop_maps_of-gone-requires-cla
 drop_maps_of-gone-requires-clause-held g c = (let s = c.self.inside in all_held s.pages.store s.pages.more s.list.files c.self.invariant.held)
 
 pub drop_maps_of-gone-requires-clause-few : goal.drop_maps_of-gone-requires-clause-few
-drop_maps_of-gone-requires-clause-few g c =
-    let s = c.self.inside in
-    let all = files_owe s.pages.store s.list.files in
-    let same = ap (λ (v : Files). sum_by file_reserves v.files) c.self.view_is in
-    omega (arith, all, same, c.requires)
+drop_maps_of-gone-requires-clause-few g c = grind (arith, common_steps, files_owe)
 
 pub invariant_of-self : goal.invariant_of-self
 invariant_of-self g c =
@@ -38,7 +34,4 @@ returns-clause-left g c =
     (exit_left c.self.invariant one.ensures c.retain_used.ensures)
 
 pub returns-then-not-has_maps-clause-files : goal.returns-then-not-has_maps-clause-files
-returns-then-not-has_maps-clause-files g c =
-    let s = c.self.inside in
-    none_leaves c.args.task c.args.self.now.files (sym c.has_maps.ensures ∙ c.if-not-has_maps.true)
-    (subst (λ (v : Files). filter is_kept v.files ≡ v.files) c.self.view_is (all_kept s.pages.store s.list.files c.self.invariant.keyed.kept))
+returns-then-not-has_maps-clause-files g c = grind (arith, common_steps, all_kept, none_leaves)

@@ -1,8 +1,6 @@
+use Rattle.std.proofs.lemmas.Grind.{common_steps}
 use Rattle.std.proofs.Common.{◌≡◌, refl, ◌==◌, cond, ℕ, ◌+◌, ◌-◌, ap, subst, sym, ◌∙◌, arith}
-use Rattle.std.specs.List.{sum_by}
-use Rattle.hp_model.specs.files.MountCounts.{file_reserves}
 use Rattle.hp_lookup.specs.Tally.{count_of}
-use Rattle.hp_lookup.specs.Files.{Files}
 use Rattle.hp_lookup.specs.Hints.{IsFiles}
 use Rattle.hp_mount_files.proofs.Exiting.{maps_in}
 use Rattle.hp_mount_files.proofs.Forks.{all_used, files_as, forked_few, forked_keeps, forked_left, forked_shows, join_few, join_held, join_keys, join_none, join_room, set_out}
@@ -13,8 +11,7 @@ use Rattle.hp_lookup.proofs.Tallies.{maps_labelled}
 use Rattle.hp_mount_files.proofs.files.Files.fork.Goals as goal
 
 pub children-requires : goal.children-requires
-children-requires g c =
-    c.count-count.ensures ∙ c.self.invariant.keyed.tallied c.args.parent ∙ maps_labelled c.args.parent c.self.inside.list.files
+children-requires g c = grind (arith, common_steps, maps_labelled)
 
 pub drop_some_maps_of-gone-requires-clause-count : goal.drop_some_maps_of-gone-requires-clause-count
 drop_some_maps_of-gone-requires-clause-count g c =
@@ -25,23 +22,13 @@ drop_some_maps_of-gone-requires-clause-listed g c =
     c.self.invariant.keyed.kept
 
 pub drop_some_maps_of-gone-requires-clause-held : goal.drop_some_maps_of-gone-requires-clause-held
-drop_some_maps_of-gone-requires-clause-held g c =
-    let set = set_out c.self.invariant c.self.view_is c.reserve.ensures.same c.in_ok-lists.ensures c.deref.ensures.value c.room_for-room.ensures
-    c.in_ok-make_room-2.ensures.few c.in_ok-make_room-2.ensures.ok c.in_ok-make_room-2.ensures.pages c.make_room-2.ensures.same in
-    all_held _ _ _ set.is.held
+drop_some_maps_of-gone-requires-clause-held g c = grind (arith, common_steps, set_out, all_held)
 
 pub drop_some_maps_of-gone-requires-clause-few : goal.drop_some_maps_of-gone-requires-clause-few
-drop_some_maps_of-gone-requires-clause-few g c =
-    let s = c.self.inside in
-    let all = files_owe s.pages.store s.list.files in
-    let same = ap (λ (v : Files). sum_by file_reserves v.files) c.self.view_is in
-    omega (arith, all, same, c.requires.few)
+drop_some_maps_of-gone-requires-clause-few g c = grind (arith, common_steps, files_owe)
 
 pub drop_some_maps_of-gone-requires-clause-few_maps : goal.drop_some_maps_of-gone-requires-clause-few_maps
-drop_some_maps_of-gone-requires-clause-few_maps g c =
-    let s = c.self.inside in
-    let all = c.self.invariant.keyed.map_count ∙ maps_in s.list.files in
-    omega (arith, all, c.self.ranges)
+drop_some_maps_of-gone-requires-clause-few_maps g c = grind (arith, common_steps, maps_in)
 
 pub join_all-requires-clause-room : goal.join_all-requires-clause-room
 join_all-requires-clause-room g c =
@@ -56,10 +43,7 @@ join_all-requires-clause-held g c =
     join_held set c.requires.apart c.drop_some_maps_of-gone.ensures
 
 pub join_all-requires-clause-few : goal.join_all-requires-clause-few
-join_all-requires-clause-few g c =
-    let set = set_out c.self.invariant c.self.view_is c.reserve.ensures.same c.in_ok-lists.ensures c.deref.ensures.value c.room_for-room.ensures
-    c.in_ok-make_room-2.ensures.few c.in_ok-make_room-2.ensures.ok c.in_ok-make_room-2.ensures.pages c.make_room-2.ensures.same in
-    join_few set c.requires.apart c.drop_some_maps_of-gone.ensures
+join_all-requires-clause-few g c = grind (arith, common_steps, join_few, set_out)
 
 pub join_all-requires-clause-none : goal.join_all-requires-clause-none
 join_all-requires-clause-none g c =
@@ -82,11 +66,7 @@ retain_some_used-requires g c =
     all_used set c.requires.apart c.drop_some_maps_of-gone.ensures c.join_all.ensures.joined
 
 pub overflow_sub-self : goal.overflow_sub-self
-overflow_sub-self g c =
-    let s = c.self.inside in
-    let all = c.self.invariant.keyed.map_count ∙ maps_in s.list.files in
-    let gone = c.drop_some_maps_of-gone.ensures.gone in
-    omega (arith, all, gone)
+overflow_sub-self g c = grind (arith, common_steps, maps_in)
 
 pub overflow_add-self : goal.overflow_add-self
 overflow_add-self g c =

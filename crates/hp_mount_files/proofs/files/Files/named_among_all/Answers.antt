@@ -1,27 +1,17 @@
-use Rattle.std.proofs.Common.{◌≡◌, ◌∙◌, ◌<◌, ◌≤◌, None, ap, arith, length, subst, sym}
+use Rattle.std.proofs.lemmas.Grind.{common_steps}
+use Rattle.std.proofs.Common.{◌≡◌, ◌≤◌, None, arith, length, subst}
 use Rattle.std.proofs.lemmas.List.Sums.{position_or_len_is}
 use Rattle.hp_model.specs.Lists.{found}
 use Rattle.hp_model.specs.machine.SlotEvent.{has_name}
 use Rattle.hp_lookup.specs.Files.{Files}
 use Rattle.hp_lookup.specs.Keyed.{has_label, label_of}
 use Rattle.hp_lookup.specs.Numbered.{NumberedFile}
-use Rattle.hp_lookup.specs.Places.{IsNamed}
 use Rattle.hp_lookup.proofs.Cells.{no_file}
 use Rattle.hp_lookup.proofs.Unique.{named_first, named_nowhere}
 use Rattle.hp_mount_files.proofs.files.Files.named_among_all.Goals as goal
 
 pub returns-then-is_named-clause-some : goal.returns-then-is_named-clause-some
-returns-then-is_named-clause-some g c =
-    let s = c.self.inside in
-    let files = s.list.files in
-    let name = c.args.name.now in
-    let file = c.index.result.now in
-    let own = λ (f : NumberedFile). has_label name (label_of f) in
-    let within : c.loop-at.at < length files = omega (arith, c.loop-at-test.true, c.len-at-end.ensures) in
-    let at_is = position_or_len_is own files c.loop-at.at file (omega (arith, within)) (λ k less. c.loop-at.invariant k file less)
-    (λ l. ap own (sym c.index.ensures) ∙ sym c.is_named.ensures ∙ c.if-is_named.true) in
-    subst (λ (v : Files). IsNamed v.files name c.loop-at.at) c.self.view_is
-    (subst (IsNamed _ name) at_is (named_first s.pages.store files name (subst (λ n. n < length files) (sym at_is) within)))
+returns-then-is_named-clause-some g c = grind (arith, common_steps, position_or_len_is, named_first)
 
 pub returns-clause-none : goal.returns-clause-none
 returns-clause-none g c =

@@ -1,11 +1,10 @@
+use Rattle.std.proofs.lemmas.Grind.{common_steps}
 use Rattle.std.proofs.Common.{◌+◌, max, ap, sym, ◌∙◌, arith}
 use Rattle.std.specs.List.{count_by}
 use Rattle.hp_model.specs.files.File.{cell_at, is_entered}
 use Rattle.hp_model.specs.files.Fill.{lacks_page}
 use Rattle.hp_model.specs.Lists.{part}
-use Rattle.hp_mount_door.specs.Door.{by_node}
 use Rattle.hp_lookup.specs.Files.{Files, file_at}
-use Rattle.hp_file.specs.Filling.{zeros_at}
 use Rattle.hp_file.proofs.Filling.{all_filled, entries_there, lacking_there, rising_length}
 use Rattle.hp_mount_files.proofs.files.Files.preallocate.Goals as goal
 
@@ -23,18 +22,7 @@ put_pages-requires-clause-count g c =
     ∙ sym (ap (λ (v : Files). count_by lacks_page (part a.from a.to (file_at v.files a.file).cells)) c.in-Ok.ensures.ok)
 
 pub put_pages-requires-clause-room : goal.put_pages-requires-clause-room
-put_pages-requires-clause-room g c =
-    let a = c.args in
-    let long = rising_length a.count c.in-Ok.got.pages c.in-Ok.ensures.rising in
-    let room = ap (λ (v : Files). v.room) c.in-Ok.ensures.ok in
-    omega (arith, long, room, c.requires.held)
+put_pages-requires-clause-room g c = grind (arith, common_steps, rising_length)
 
 pub returns-in-Ok-clause-filled : goal.returns-in-Ok-clause-filled
-returns-in-Ok-clause-filled g c =
-    let a = c.args in (
-      by_node c.in-Ok.got.pages,
-      c.in-Ok.ensures.taken,
-      c.put_pages.ensures.put ∙ ap (zeros_at g.N.Naming.page_bytes a.file a.from c.in-Ok.got.pages) c.in-Ok.ensures.ok
-          ∙ all_filled g.N.Naming.page_bytes a.file a.from a.to a.self.now c.requires.file c.requires.order (max a.self.now.room (a.share.now.held + a.k))
-          a.count c.in-Ok.got.pages c.in-Ok.ensures.rising c.requires.count,
-    )
+returns-in-Ok-clause-filled g c = grind (arith, common_steps, all_filled)

@@ -1,3 +1,4 @@
+use Rattle.std.proofs.lemmas.Grind.{common_steps}
 use Rattle.std.proofs.Common.{◌≡◌, ◌==◌, ℕ, ◌+◌, ◌<◌, cond, List, length, slice_set, ap, subst, sym, ◌∙◌, rules, arith}
 use Rattle.std.proofs.lemmas.List.{set-get_or}
 use Rattle.hp_model.specs.Lists.{is_among}
@@ -29,14 +30,10 @@ module _ (g : Over) (c : After-make_map_room g) where
       c.make_map_room.ensures.noted c.make_map_room.ensures.counted c.self.invariant
 
 pub index-requires : goal.index-requires
-index-requires g c =
-    let s = c.self.inside in
-    file_inside s.pages.store s.pages.more s.list.files c.self.view_is c.args.file c.requires.file
+index-requires g c = grind (arith, common_steps, file_inside)
 
 pub index_mut-at-requires : goal.index_mut-at-requires
-index_mut-at-requires g c =
-    let s = c.self.inside in
-    file_inside s.pages.store s.pages.more s.list.files c.self.view_is c.args.file c.requires.file
+index_mut-at-requires g c = grind (arith, common_steps, file_inside)
 
 pub invariant_of-self : goal.invariant_of-self
 invariant_of-self g c = roomy g (goal.at.invariant_of-self g c).After-make_map_room

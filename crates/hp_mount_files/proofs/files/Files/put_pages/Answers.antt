@@ -1,3 +1,4 @@
+use Rattle.std.proofs.lemmas.Grind.{common_steps}
 use Rattle.std.proofs.Common.{None, ◌≡◌, ℕ, ◌+◌, ◌-◌, ◌<◌, ◌≤◌, List, true, ◌∷◌, length, refl, ap, sym, subst, ◌∙◌, arith}
 use Rattle.std.specs.Prelude.{slice_set}
 use Rattle.std.proofs.lemmas.List.{set-get_or}
@@ -41,17 +42,10 @@ loop-index-init g c =
     }
 
 pub put_next-requires-clause-some : goal.put_next-requires-clause-some
-put_next-requires-clause-some g c =
-    let was = c.loop-index.invariant in
-    putting_some g.N.Naming.page_bytes c.args.from c.args.to c.loop-index.index (file_at c.args.self.now.files c.args.file).cells (file_at c.loop-index.self.files c.args.file).cells
-    c.args.batch.now.pages c.loop-index.batch.pages was.putting c.loop-index.invariant.low c.loop-index-test.true c.in-Entered.ensures
+put_next-requires-clause-some g c = grind (arith, common_steps, putting_some)
 
 pub put_next-requires-clause-room : goal.put_next-requires-clause-room
-put_next-requires-clause-room g c =
-    let was = c.loop-index.invariant in
-    let some = putting_some g.N.Naming.page_bytes c.args.from c.args.to c.loop-index.index (file_at c.args.self.now.files c.args.file).cells (file_at c.loop-index.self.files c.args.file).cells
-    c.args.batch.now.pages c.loop-index.batch.pages was.putting c.loop-index.invariant.low c.loop-index-test.true c.in-Entered.ensures in
-    omega (arith, some, was.room, was.fits)
+put_next-requires-clause-room g c = grind (arith, common_steps, putting_some)
 
 pub loop-index-preserved : goal.loop-index-preserved
 loop-index-preserved g c =

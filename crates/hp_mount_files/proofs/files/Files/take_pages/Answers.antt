@@ -1,6 +1,6 @@
-use Rattle.std.proofs.Common.{◌≡◌, ◌+◌, ◌<◌, length, max, ap, sym, subst, ◌∙◌, arith}
+use Rattle.std.proofs.lemmas.Grind.{common_steps}
+use Rattle.std.proofs.Common.{◌<◌, length, ap, sym, subst, ◌∙◌, arith}
 use Rattle.hp_lookup.specs.Files.{Files}
-use Rattle.hp_file.specs.Filling.{entered_at}
 use Rattle.hp_lookup.specs.Keyed.{label_of}
 use Rattle.hp_lookup.specs.Numbered.{NumberedFile, files_shown}
 use Rattle.hp_lookup.specs.Tally.{count_of}
@@ -12,9 +12,7 @@ use Rattle.hp_mount_files.proofs.Here.{file_inside}
 use Rattle.hp_mount_files.proofs.files.Files.take_pages.Goals as goal
 
 pub index_mut-at-requires : goal.index_mut-at-requires
-index_mut-at-requires g c =
-    let s = c.self.inside in
-    file_inside s.pages.store s.pages.more s.list.files (c.self.view_is ∙ c.in-Ok.ensures.ok) c.args.file c.requires.file
+index_mut-at-requires g c = grind (arith, common_steps, file_inside)
 
 pub invariant_of-self-2 : goal.invariant_of-self-2
 invariant_of-self-2 g c =
@@ -29,13 +27,4 @@ invariant_of-self-2 g c =
     (range_held s.pages.store s.pages.more s.list.files c.self.invariant.held c.args.file c.args.from c.args.to within x y c.index_mut-at.ensures.value is)
 
 pub returns-clause-ok : goal.returns-clause-ok
-returns-clause-ok g c =
-    let s = c.self.inside in
-    let shown : c.args.file < length (files_shown s.pages.store s.list.files) = subst (λ (v : Files). c.args.file < length v.files) (sym (c.self.view_is ∙ c.in-Ok.ensures.ok)) c.requires.file in
-    let within : c.args.file < length s.list.files = (let same = files_len s.pages.store s.list.files in omega (arith, same, shown)) in
-    let a = c.args in
-    let reserves : c.saturating_add-reserves.result ≡ a.share.now.held + a.k = omega (arith, c.held.ensures, c.saturating_add-reserves.ensures, c.in-Ok.ensures.few) in
-    range_view s.pages.store s.pages.more s.list.files c.self.invariant.held a.file a.from a.to within
-    c.index_mut-at.result.now c.take_pages.new.self c.index_mut-at.ensures.value c.in_default-take_pages.ensures.ok
-    ∙ ap (λ (v : Files). entered_at a.file a.from a.to v.room v) (c.self.view_is ∙ c.in-Ok.ensures.ok)
-    ∙ ap (λ n. entered_at a.file a.from a.to (max a.self.now.room n) a.self.now) reserves
+returns-clause-ok g c = grind (arith, common_steps, range_view, files_len)

@@ -1,4 +1,5 @@
-use Rattle.std.proofs.Common.{◌<◌, length, ap, subst, sym, ◌∙◌}
+use Rattle.std.proofs.lemmas.Grind.{common_steps}
+use Rattle.std.proofs.Common.{◌<◌, length, ap, subst, sym, ◌∙◌, arith}
 use Rattle.std.specs.Prelude.{slice_set}
 use Rattle.hp_model.specs.files.GiveBack.{truncated}
 use Rattle.hp_lookup.specs.Tally.{count_of}
@@ -10,14 +11,10 @@ use Rattle.hp_mount_files.proofs.Here.{file_inside, held_inside}
 use Rattle.hp_mount_files.proofs.files.Files.truncate.Goals as goal
 
 pub index_mut-at-requires : goal.index_mut-at-requires
-index_mut-at-requires g c =
-    let s = c.self.inside in
-    file_inside s.pages.store s.pages.more s.list.files c.self.view_is c.args.file c.requires.file
+index_mut-at-requires g c = grind (arith, common_steps, file_inside)
 
 pub truncate-requires-clause-held : goal.truncate-requires-clause-held
-truncate-requires-clause-held g c =
-    let s = c.self.inside in
-    held_inside s.pages.store s.pages.more s.list.files c.self.view_is c.args.file c.requires.file c.index_mut-at.result.now c.index_mut-at.ensures.value c.self.invariant.held
+truncate-requires-clause-held g c = grind (arith, common_steps, held_inside)
 
 pub invariant_of-self : goal.invariant_of-self
 invariant_of-self g c =

@@ -1,3 +1,4 @@
+use Rattle.std.proofs.lemmas.Grind.{common_steps}
 use Rattle.std.proofs.Common.{◌≡◌, arith, ◌<◌, length, ap, subst, sym, ◌∙◌}
 use Rattle.std.specs.Prelude.{slice_set}
 use Rattle.hp_model.specs.files.GiveBack.{unlinked}
@@ -11,24 +12,16 @@ use Rattle.hp_mount_files.proofs.Here.{file_inside, held_inside}
 use Rattle.hp_mount_files.proofs.files.Files.unlink.Goals as goal
 
 pub index-requires : goal.index-requires
-index-requires g c =
-    let s = c.self.inside in
-    file_inside s.pages.store s.pages.more s.list.files c.self.view_is c.args.file c.requires.within
+index-requires g c = grind (arith, common_steps, file_inside)
 
 pub index_mut-at-requires : goal.index_mut-at-requires
-index_mut-at-requires g c =
-    let s = c.self.inside in
-    file_inside s.pages.store s.pages.more s.list.files c.self.view_is c.args.file c.requires.within
+index_mut-at-requires g c = grind (arith, common_steps, file_inside)
 
 pub remove-gone-requires : goal.remove-gone-requires
-remove-gone-requires g c =
-    let s = c.self.inside in
-    file_inside s.pages.store s.pages.more s.list.files c.self.view_is c.args.file c.requires.within
+remove-gone-requires g c = grind (arith, common_steps, file_inside)
 
 pub close-requires : goal.close-requires
-close-requires g c =
-    let s = c.self.inside in
-    held_inside s.pages.store s.pages.more s.list.files c.self.view_is c.args.file c.requires.within c.remove-gone.result c.remove-gone.ensures.value c.self.invariant.held
+close-requires g c = grind (arith, common_steps, held_inside)
 
 pub invariant_of-self : goal.invariant_of-self
 invariant_of-self g c =

@@ -1,11 +1,10 @@
-use Rattle.std.proofs.Common.{◌≡◌, Bool, cond, ◌+◌, ◌<◌, ◌^◌, ◌≢◌, ℕ, true, false, length, refl, map, ap, subst, sym, ◌∙◌, arith}
+use Rattle.std.proofs.lemmas.Grind.{common_steps}
+use Rattle.std.proofs.Common.{◌≡◌, Bool, cond, ◌+◌, ◌<◌, ◌^◌, ◌≢◌, ℕ, true, false, refl, map, ap, subst, sym, ◌∙◌, arith}
 use Rattle.std.specs.Prelude.{slice_set}
 use Rattle.std.specs.List.{filter, sum_by}
 use Rattle.hp_model.specs.files.GiveBack.{file_unmapped, is_kept}
 use Rattle.hp_model.specs.files.Mapping.{Mapping, is_map, is_mapped, without_range}
-use Rattle.hp_model.specs.files.MountCounts.{file_reserves}
 use Rattle.std.proofs.lemmas.List.Sums.{get_or-le-sum_by}
-use Rattle.hp_lookup.specs.Held.{in_file}
 use Rattle.hp_lookup.specs.Tally.{count_of}
 use Rattle.hp_lookup.specs.Dropping.{IsLeft}
 use Rattle.hp_lookup.specs.Files.{Files}
@@ -44,21 +43,10 @@ module _ (g : Over) (c : After-unmap-gone g) where
       by false e = refl
 
   few : sum_by file_owed c.self.inside.list.files < 2 ^ 64
-  few =
-      let all = files_owe c.self.inside.pages.store c.self.inside.list.files in
-      let same = ap (λ (v : Files). sum_by file_reserves v.files) c.self.view_is in
-      omega (arith, all, same, c.requires.few)
+  few = grind (arith, common_steps, files_owe)
 
 pub unmap-gone-requires-clause-held : goal.unmap-gone-requires-clause-held
-unmap-gone-requires-clause-held g c =
-    let s = c.self.inside in
-    let found : IsFound (files_shown s.pages.store s.list.files) c.args.task c.args.number c.args.at.file c.args.at.map =
-    subst (λ (v : Files). IsFound v.files c.args.task c.args.number c.args.at.file c.args.at.map) (sym c.self.view_is) c.requires.found in
-    let inside : c.args.at.file < length s.list.files = omega (arith, found.file_within, files_len s.pages.store s.list.files) in
-    part_held (all_held s.pages.store s.pages.more s.list.files c.self.invariant.held) (λ n.
-    let part = get_or-le-sum_by (in_file n) s.list.files c.args.at.file c.index_mut-file.result.now inside in
-    let its = ap (in_file n) c.index_mut-file.ensures.value in
-    omega (arith, part, its))
+unmap-gone-requires-clause-held g c = grind (arith, common_steps, get_or-le-sum_by, part_held, all_held, files_len)
 
 pub invariant_of-self : goal.invariant_of-self
 invariant_of-self g c =
@@ -93,18 +81,7 @@ returns-then-gone-eq0-clause-left g c =
     c.index_mut-file.ensures.value one.ensures.file one.ensures.dropping.dropping one.result.reserves one.ensures.reserves mapped one.ensures.dropping.counted)
 
 pub sweep_file-entries-requires-clause-held : goal.sweep_file-entries-requires-clause-held
-sweep_file-entries-requires-clause-held g c =
-    let found = (goal.at.sweep_file-entries-requires-clause-held g c).After-unmap-gone in
-    let s = c.self.inside in
-    let one = c.unmap-gone in
-    let mapped = goes g found c.if-gone-eq0.false in
-    record {
-      held = enough_held s.hints s.hints s.pages.store one.new.pages.store s.pages.more one.new.pages.more s.maps (count_of s.counts) s.list.files c.self.invariant c.args.task
-          c.args.number c.args.a c.args.b c.args.at.file c.args.at.map (there g found) c.index_mut-file.result.now one.new.self
-          c.index_mut-file.ensures.value one.ensures.file one.ensures.dropping.dropping one.result.reserves one.ensures.reserves mapped;
-      some = one.ensures.dropping.dropping.some;
-      counted = one.ensures.dropping.counted;
-    }
+sweep_file-entries-requires-clause-held g c = grind (arith, common_steps, enough_held)
 
 pub overflow_sub-self : goal.overflow_sub-self
 overflow_sub-self g c =

@@ -1,8 +1,9 @@
-use Rattle.std.proofs.Common.{◌≡◌, ◌<◌, length, ap, subst, sym, ◌∙◌}
+use Rattle.std.proofs.lemmas.Grind.{common_steps}
+use Rattle.std.proofs.Common.{◌≡◌, ◌<◌, length, ap, subst, sym, arith}
 use Rattle.hp_model.specs.files.File.{cell_at}
 use Rattle.hp_model.specs.declared.cell.Cell.TheVariants.{Entered}
 use Rattle.hp_lookup.specs.Tally.{count_of}
-use Rattle.hp_lookup.specs.Files.{file_at, filled_at}
+use Rattle.hp_lookup.specs.Files.{file_at}
 use Rattle.hp_lookup.proofs.Views.{fill_view, fill_keeps}
 use Rattle.hp_lookup.specs.Keyed.{label_of}
 use Rattle.hp_lookup.specs.Numbered.{NumberedFile}
@@ -27,12 +28,4 @@ invariant_of-self g c =
     (subst (λ v. 0 < v.room) (sym c.self.view_is) c.requires.room))
 
 pub returns : goal.returns
-returns g c =
-    let s = c.self.inside in
-    let k = c.args.file in
-    let i = c.args.index in
-    fill_view s.pages.store s.pages.more s.list.files c.self.invariant.held k i (subst (λ v. k < length v.files) (sym c.self.view_is) c.requires.file) c.index_mut-at.result.now
-    c.index_mut-at.ensures.value
-    c.insert-number.result c.args.page c.insert-number.new.self c.fill.new.self c.insert-number.ensures.fresh c.insert-number.ensures.within c.insert-number.ensures.inserted c.fill.ensures
-    (subst (λ v. cell_at (file_at v.files k) i ≡ Entered) (sym c.self.view_is) c.requires.entered)
-    ∙ ap (filled_at k i c.args.page) c.self.view_is
+returns g c = grind (arith, common_steps, fill_view)

@@ -1,8 +1,9 @@
-use Rattle.std.proofs.Common.{◌≡◌, ◌<◌, length, ap, subst, sym, ◌∙◌}
+use Rattle.std.proofs.lemmas.Grind.{common_steps}
+use Rattle.std.proofs.Common.{◌≡◌, ◌<◌, length, ap, subst, sym, arith}
 use Rattle.hp_model.specs.files.File.{cell_at}
-use Rattle.hp_model.specs.declared.cell.Cell.TheVariants.{Hole, Entered}
+use Rattle.hp_model.specs.declared.cell.Cell.TheVariants.{Entered}
 use Rattle.hp_lookup.specs.Tally.{count_of}
-use Rattle.hp_lookup.specs.Files.{file_at, with_cell_at}
+use Rattle.hp_lookup.specs.Files.{file_at}
 use Rattle.hp_file.proofs.Entering.{leave_view, leave_keeps}
 use Rattle.hp_lookup.specs.Keyed.{label_of}
 use Rattle.hp_lookup.specs.Numbered.{NumberedFile}
@@ -24,12 +25,4 @@ invariant_of-self g c =
     (subst (λ v. cell_at (file_at v.files k) i ≡ Entered) (sym c.self.view_is) c.requires.entered))
 
 pub returns : goal.returns
-returns g c =
-    let s = c.self.inside in
-    let k = c.args.file in
-    let i = c.args.index in
-    leave_view s.pages.store s.pages.more s.list.files c.self.invariant.held k i (subst (λ v. k < length v.files) (sym c.self.view_is) c.requires.file)
-    c.index_mut-at.result.now c.leave.new.self c.index_mut-at.ensures.value
-    (subst (λ v. i < length (file_at v.files k).cells) (sym c.self.view_is) c.requires.below) c.leave.ensures
-    (subst (λ v. cell_at (file_at v.files k) i ≡ Entered) (sym c.self.view_is) c.requires.entered)
-    ∙ ap (with_cell_at k i Hole) c.self.view_is
+returns g c = grind (arith, common_steps, leave_view)

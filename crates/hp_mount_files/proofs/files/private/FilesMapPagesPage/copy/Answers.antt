@@ -1,9 +1,8 @@
-use Rattle.std.proofs.Common.{arith, ◌≡◌, ◌+◌, ◌≤◌, ◌==◌, ◌^◌, true, false, ap, subst, sym, ◌∙◌}
-use Rattle.std.specs.List.{sum_by}
+use Rattle.std.proofs.lemmas.Grind.{common_steps}
+use Rattle.std.proofs.Common.{arith, ◌≡◌, ◌==◌, true, false, ap, subst, sym, ◌∙◌}
 use Rattle.std.proofs.lemmas.Bool.{eq-eqb}
 use Rattle.std.proofs.lemmas.Bool.Decides.{nat_tests}
 use Rattle.hp_model.specs.files.Mapping.{place_at}
-use Rattle.hp_model.specs.files.MountCounts.{file_pages}
 use Rattle.hp_store.specs.Store.{holders_of, page_at}
 use Rattle.hp_lookup.specs.declared.copy_state.CopyState.TheVariants as state
 use Rattle.hp_lookup.specs.Files.{Files, file_at}
@@ -15,14 +14,10 @@ use Rattle.hp_mount_files.proofs.Here.{file_here, map_here, file_inside, map_ins
 use Rattle.hp_mount_files.proofs.files.private.FilesMapPagesPage.copy.Goals as goal
 
 pub index-requires : goal.index-requires
-index-requires g c =
-    let s = c.self.inside in
-    file_inside s.pages.store s.pages.more s.list.files c.self.view_is c.args.at.file c.requires.file
+index-requires g c = grind (arith, common_steps, file_inside)
 
 pub map-map-requires : goal.map-map-requires
-map-map-requires g c =
-    let s = c.self.inside in
-    map_inside s.pages.store s.pages.more s.list.files c.self.view_is c.args.at.file c.requires.file c.index.result.now c.index.ensures c.args.at.map c.requires.map
+map-map-requires g c = grind (arith, common_steps, map_inside)
 
 pub returns-in_default-clause-agreed : goal.returns-in_default-clause-agreed
 returns-in_default-clause-agreed g c =
@@ -83,9 +78,4 @@ returns-else-holders-eq1-clause-state g c =
     )
 
 pub returns-else-holders-eq1-clause-few : goal.returns-else-holders-eq1-clause-few
-returns-else-holders-eq1-clause-few g c several =
-    let s = c.self.inside in
-    subst (λ (v : Files). sum_by file_pages v.files + v.room ≤ 2 ^ 32) c.self.view_is
-    (few_there s.pages.store s.pages.more s.list.files c.self.invariant.held c.args.at.file c.args.at.map c.args.index
-    (file_here c.self.view_is c.args.at.file c.requires.file) (map_here c.self.view_is c.args.at.file c.args.at.map c.requires.map)
-    c.index.result.now c.index.ensures c.holders.ensures.few)
+returns-else-holders-eq1-clause-few g c several = grind (arith, common_steps, few_there, file_here, map_here)

@@ -1,4 +1,5 @@
-use Rattle.std.proofs.Common.{◌≡◌, false, refl, ap, subst, ◌∙◌}
+use Rattle.std.proofs.lemmas.Grind.{common_steps}
+use Rattle.std.proofs.Common.{◌≡◌, false, refl, ap, subst, ◌∙◌, arith}
 use Rattle.std.specs.List.{flat_map}
 use Rattle.hp_laws.proofs.counts.Copies.{live_of}
 use Rattle.hp_mapping.specs.Mapped.{at_place, with_copy}
@@ -18,14 +19,10 @@ use Rattle.hp_mount_files.proofs.Here.{file_here, map_here, place_here, state_he
 use Rattle.hp_mount_files.proofs.files.private.FilesMapPagesPage.part.Goals as goal
 
 pub index_mut-file-requires : goal.index_mut-file-requires
-index_mut-file-requires g c =
-    let s = c.self.inside in
-    file_inside s.pages.store s.pages.more s.list.files c.self.view_is c.args.at.file c.requires.file
+index_mut-file-requires g c = grind (arith, common_steps, file_inside)
 
 pub replace_copy-old-requires-clause-within : goal.replace_copy-old-requires-clause-within
-replace_copy-old-requires-clause-within g c =
-    let s = c.self.inside in
-    map_inside s.pages.store s.pages.more s.list.files c.self.view_is c.args.at.file c.requires.file c.index_mut-file.result.now c.index_mut-file.ensures.value c.args.at.map c.requires.map
+replace_copy-old-requires-clause-within g c = grind (arith, common_steps, map_inside)
 
 pub insert-number-requires : goal.insert-number-requires
 insert-number-requires g c =
@@ -35,13 +32,7 @@ insert-number-requires g c =
     (state_here c.self.view_is c.args.at.file c.args.at.map c.args.index state.HeldBySeveral c.requires.several)
 
 pub replace_copy-old-requires-clause-copy : goal.replace_copy-old-requires-clause-copy
-replace_copy-old-requires-clause-copy g c =
-    let s = c.self.inside in
-    let q = number s.pages.store s.pages.more s.list.files c.self.invariant.held c.args.at.file c.args.at.map c.args.index
-    (file_here c.self.view_is c.args.at.file c.requires.file) (map_here c.self.view_is c.args.at.file c.args.at.map c.requires.map)
-    c.index_mut-file.result.now c.index_mut-file.ensures.value (state_here c.self.view_is c.args.at.file c.args.at.map c.args.index
-    state.HeldBySeveral c.requires.several) in
-    rw q.1 refl
+replace_copy-old-requires-clause-copy g c = grind (arith, common_steps, number, file_here, map_here, state_here)
 
 pub drop_holder-requires-clause-held : goal.drop_holder-requires-clause-held
 drop_holder-requires-clause-held g c =

@@ -1,10 +1,11 @@
-use Rattle.std.proofs.Common.{refl, ◌≡◌, ◌-◌, ◌<◌, ◌||◌, false, ap, subst, sym, ◌∙◌, arith}
+use Rattle.std.proofs.lemmas.Grind.{common_steps}
+use Rattle.std.proofs.Common.{refl, ◌≡◌, ◌-◌, ◌<◌, false, ap, subst, sym, ◌∙◌, arith}
 use Rattle.std.specs.List.{flat_map}
 use Rattle.hp_model.specs.Lists.{is_among}
 use Rattle.hp_model.specs.files.Mapping.{place_at}
 use Rattle.hp_model.specs.files.MountCounts.{stamps_of}
 use Rattle.hp_lookup.specs.Tally.{count_of}
-use Rattle.hp_lookup.specs.Files.{Files, copied_at}
+use Rattle.hp_lookup.specs.Files.{Files}
 use Rattle.hp_lookup.specs.Places.{map_among}
 use Rattle.hp_lookup.specs.Keyed.{label_of}
 use Rattle.hp_lookup.specs.Numbered.{mapping_at}
@@ -23,20 +24,13 @@ insert-number-requires g c =
     omega (arith, room)
 
 pub index_mut-file-requires : goal.index_mut-file-requires
-index_mut-file-requires g c =
-    let s = c.self.inside in
-    file_inside s.pages.store s.pages.more s.list.files c.self.view_is c.args.at.file c.requires.file
+index_mut-file-requires g c = grind (arith, common_steps, file_inside)
 
 pub put_copy-requires-clause-within : goal.put_copy-requires-clause-within
-put_copy-requires-clause-within g c =
-    let s = c.self.inside in
-    map_inside s.pages.store s.pages.more s.list.files c.self.view_is c.args.at.file c.requires.file c.index_mut-file.result.now c.index_mut-file.ensures.value c.args.at.map c.requires.map
+put_copy-requires-clause-within g c = grind (arith, common_steps, map_inside)
 
 pub put_copy-requires-clause-live : goal.put_copy-requires-clause-live
-put_copy-requires-clause-live g c =
-    let s = c.self.inside in
-    live_inside s.pages.store s.pages.more s.list.files c.self.view_is c.args.at.file c.requires.file
-    c.index_mut-file.result.now c.index_mut-file.ensures.value c.args.at.map c.requires.map c.args.index c.requires.live
+put_copy-requires-clause-live g c = grind (arith, common_steps, live_inside)
 
 pub invariant_of-self : goal.invariant_of-self
 invariant_of-self g c =
@@ -69,14 +63,7 @@ returns-clause-fresh g c =
     c.insert-number.ensures.fresh c.insert-number.ensures.within c.insert-number.ensures.inserted)
 
 pub returns-clause-copied : goal.returns-clause-copied
-returns-clause-copied g c consumed place =
-    let s = c.self.inside in
-    put_view s.pages.store s.pages.more s.list.files c.self.invariant.held c.args.at.file c.args.at.map c.args.index
-    (file_here c.self.view_is c.args.at.file c.requires.file) (map_here c.self.view_is c.args.at.file c.args.at.map c.requires.map)
-    c.index_mut-file.result.now c.index_mut-file.ensures.value c.insert-number.result c.args.page c.insert-number.new.self
-    c.insert-number.ensures.fresh c.insert-number.ensures.within c.insert-number.ensures.inserted
-    c.put_copy.new.self c.put_copy.ensures consumed (place_here c.self.view_is c.args.at.file c.args.at.map c.args.index place)
-    ∙ ap (λ (v : Files). copied_at c.args.at.file c.args.at.map c.args.index ((map_among v.files c.args.at.file c.args.at.map).owner || consumed) c.insert-number.result c.args.page v) c.self.view_is
+returns-clause-copied g c consumed place = grind (arith, common_steps, put_view, file_here, map_here, place_here)
 
 pub returns-clause-once : goal.returns-clause-once
 returns-clause-once g c =

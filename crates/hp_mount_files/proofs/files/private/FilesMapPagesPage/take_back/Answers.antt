@@ -1,4 +1,5 @@
-use Rattle.std.proofs.Common.{◌≡◌, Option, None, Some, refl, ap, subst, ◌∙◌}
+use Rattle.std.proofs.lemmas.Grind.{common_steps}
+use Rattle.std.proofs.Common.{◌≡◌, Option, None, Some, refl, ap, subst, ◌∙◌, arith}
 use Rattle.std.specs.Prelude.{IsSome, slice_set}
 use Rattle.hp_model.specs.files.Mapping.{copy_of, place_at}
 use Rattle.hp_model.specs.files.Page.{Copy}
@@ -16,25 +17,16 @@ some_value None some = cc
 some_value (Some copy) some = (copy, refl)
 
 pub index_mut-file-requires : goal.index_mut-file-requires
-index_mut-file-requires g c =
-    let s = c.self.inside in
-    file_inside s.pages.store s.pages.more s.list.files c.self.view_is c.args.at.file c.requires.file
+index_mut-file-requires g c = grind (arith, common_steps, file_inside)
 
 pub take_back-requires-clause-within : goal.take_back-requires-clause-within
-take_back-requires-clause-within g c =
-    let s = c.self.inside in
-    map_inside s.pages.store s.pages.more s.list.files c.self.view_is c.args.at.file c.requires.file c.index_mut-file.result.now c.index_mut-file.ensures.value c.args.at.map c.requires.map
+take_back-requires-clause-within g c = grind (arith, common_steps, map_inside)
 
 pub take_back-requires-clause-copy : goal.take_back-requires-clause-copy
-take_back-requires-clause-copy g c =
-    let s = c.self.inside in
-    copy_inside s.pages.store s.pages.more s.list.files c.self.view_is c.args.at.file c.requires.file
-    c.index_mut-file.result.now c.index_mut-file.ensures.value c.args.at.map c.requires.map c.args.index c.requires.copy
+take_back-requires-clause-copy g c = grind (arith, common_steps, copy_inside)
 
 pub take_back-requires-clause-held : goal.take_back-requires-clause-held
-take_back-requires-clause-held g c =
-    let s = c.self.inside in
-    held_inside s.pages.store s.pages.more s.list.files c.self.view_is c.args.at.file c.requires.file c.index_mut-file.result.now c.index_mut-file.ensures.value c.self.invariant.held
+take_back-requires-clause-held g c = grind (arith, common_steps, held_inside)
 
 pub invariant_of-self : goal.invariant_of-self
 invariant_of-self g c =

@@ -1,0 +1,38 @@
+-- A store, by what code did.
+use Rattle.std.proofs.Common.{◌≡◌, ℕ, Some, Ok, Err, List, length, refl, ap}
+use Rattle.std.specs.Prelude.{Result}
+use Rattle.hp_model.specs.declared.answer.Answer.TheVariants.{Done}
+use Rattle.hp_model.specs.declared.event.SlotEvent.TheVariants.{Store}
+use Rattle.hp_model.specs.declared.refusal.Refusal.{Refusal}
+use Rattle.hp_model.specs.declared.section.PoolAnswer.{PoolAnswer}
+use Rattle.hp_model.specs.declared.section.Section.{Section}
+use Rattle.hp_model.specs.declared.step.Intent.TheVariants.{Write}
+use Rattle.hp_model.specs.files.File.{Mount}
+use Rattle.hp_model.specs.files.Spot.{written}
+use Rattle.hp_model.specs.machine.Plan.{and_then}
+use Rattle.hp_lookup.specs.declared.map_place.MapPlace.{MapPlace}
+use Rattle.hp_mount_laws.specs.Done.{IsAccessed, IsDone}
+use Rattle.hp_mount_laws.specs.Reach.{spot_at}
+use Rattle.hp_mount_laws.proofs.Ways.{then_goes}
+use Rattle.hp_mount.specs.Found.{IsPlaced}
+use Rattle.hp_mount.specs.declared.mount.reach.Asked.TheVariants.{Bytes}
+use Rattle.hp_mount.specs.declared.mount.reach.MapAccess.{MapAccess}
+use Rattle.hp_mount.proofs.Commands.{denied, follows, stores, went}
+
+module _ {X : Type 0} (took : X → Section → PoolAnswer → X → Type 0) (full : X → Type 0) (size home : ℕ) (m : Mount) (door : X) (a : MapAccess) (offset : ℕ) (bytes : List ℕ) (at : MapPlace)
+    (placed : IsPlaced m a (Bytes offset (length bytes)) size at) where
+  -- a store that got its page writes the bytes
+  pub stored : (result : Result (Unit {0}) Refusal) (n w : Mount) (left : X) → result ≡ Ok tt → IsAccessed took full size home at a.index Write m door result n left
+      → w ≡ written n (spot_at m at.file at.map) a.index offset bytes
+      → (k : ℕ) → IsDone took full size k (Some m) door (Store a.task home a.map a.index offset bytes) (Ok Done) (Some w) left
+  stored result n w left ok reached wrote k =
+      let cont = stores size a.index offset bytes in
+      went took full m door size home a Write (Bytes offset (length bytes)) (λ s p. and_then (cont s) p) (follows took full m door cont) at placed result n left Done (Some w) ok
+      (λ p h. then_goes took m (cont (spot_at m at.file at.map)) p door left Done n (Ok Done) (Some w) h (refl, ap Some wrote)) reached
+
+  -- one that was refused writes nothing
+  pub not_stored : (e : Refusal) (result : Result (Unit {0}) Refusal) (new : Mount) (left : X) → result ≡ Err e → IsAccessed took full size home at a.index Write m door result new left
+      → (k : ℕ) → IsDone took full size k (Some m) door (Store a.task home a.map a.index offset bytes) (Err e) (Some new) left
+  not_stored e result new left is reached k =
+      let cont = stores size a.index offset bytes in
+      denied took full m door size home a Write (Bytes offset (length bytes)) (λ s p. and_then (cont s) p) (follows took full m door cont) at placed e result new left is reached
