@@ -3,7 +3,7 @@ use Rattle.std.proofs.Common.{ℕ, ◌≡◌, ◌+◌, ◌<◌, ◌≤◌, List,
 use Rattle.std.specs.Prelude.{slice_set}
 use Rattle.std.proofs.lemmas.List.Sums.{sum_by-set, get_or-le-sum_by}
 use Rattle.hp_model.specs.declared.node.NodeRow.{NodeRow}
-use Rattle.hp_model.specs.pool.NodeRows.{row_at, no_row, sum_row, frames_of, total_of, free_of, surp_of}
+use Rattle.hp_model.specs.pool.NodeRows.{NodeRows, row_at, no_row, sum_row, frames_of, total_of, free_of, surp_of}
 use Rattle.hp_nodes.specs.Ledgers.{all_frames}
 use Rattle.hp_nodes.specs.Moves.{take_by, put_by, grow_by, shrink_by, add_surplus_by, give_back_by, promote_by, demote_by}
 
@@ -12,6 +12,13 @@ row a b c d = record { frames = a; total = b; free = c; surp = d }
 
 pub same_row : (a b c d e f g h : ℕ) → a ≡ e → b ≡ f → c ≡ g → d ≡ h → row a b c d ≡ row e f g h
 same_row a b c d e f g h p q r s = cc
+
+-- the sums are the numbers of this row
+pub record HaveSums (s : NodeRows) (r : NodeRow) : Type 0 where
+  pub frames : frames_of s.rows ≡ r.frames
+  pub total : total_of s.rows ≡ r.total
+  pub free : free_of s.rows ≡ r.free
+  pub surp : surp_of s.rows ≡ r.surp
 
 -- a row is moved by some numbers, and so are the sums
 sums_as : (rows : List NodeRow) (i : ℕ) (y sums : NodeRow) → i < length rows

@@ -1,16 +1,15 @@
 use Rattle.std.proofs.Common.{◌≡◌, ◌-◌, ◌≤◌}
 use Rattle.std.specs.Fn.{iterate}
 use Rattle.hp_model.specs.pool.NodeRows.{sum_row, shrunk}
+use Rattle.hp_nodes.specs.Moves.{shrink_by}
+use Rattle.hp_nodes.proofs.Sums.{HaveSums}
 use Rattle.hp_nodes.proofs.lists.NodeLists.shrink.Given as goal
 
 abbrev pub invariant-loop-done : goal.invariant-loop-done
 invariant-loop-done g l = record {
   within : l.done ≤ l.count;
   moved : l.self ≡ iterate shrunk l.done l.initial.self;
-  frames : (sum_row l.self.rows).frames ≡ (sum_row l.initial.self.rows).frames;
-  total : (sum_row l.self.rows).total ≡ (sum_row l.initial.self.rows).total - l.done;
-  free : (sum_row l.self.rows).free ≡ (sum_row l.initial.self.rows).free - l.done;
-  surp : (sum_row l.self.rows).surp ≡ (sum_row l.initial.self.rows).surp;
+  sums : HaveSums l.self (shrink_by l.done (sum_row l.initial.self.rows));
 }
 
 abbrev pub decreases-loop-done : goal.decreases-loop-done
