@@ -1,12 +1,11 @@
 -- Steps of the machine, by what its parts do. The code's values enter as variables with equations.
-use Rattle.std.proofs.Common.{◌≡◌, ℕ, zero, suc, ◌+◌, ◌-◌, ◌<◌, ◌≤◌, take, replicate, true, false, cond, List, [], ◌∷◌, ◌++◌}
+use Rattle.std.proofs.Common.{◌≡◌, ℕ, zero, suc, ◌+◌, ◌<◌, ◌≤◌, true, false, cond, List, [], ◌∷◌, ◌++◌}
 use Rattle.std.proofs.Common.{Option, Ok, Err, None, Some, length, map, not, ◌==◌, Bool, refl, sym, ◌∙◌, ap, subst, arith, IsTrue}
 use Rattle.std.specs.Bool.{MatchBool}
 use Rattle.std.specs.List.{find, range_with_len}
 use Rattle.std.specs.Option.{option_map}
 use Rattle.std.specs.Prelude.{nat_le, nat_lt, slice_index_or, slice_set}
-use Rattle.std.proofs.lemmas.List.{get_or_default, length-map, set-get_or, take-replicate, take_all}
-use Rattle.std.proofs.Math.Seq.{take-append-add}
+use Rattle.std.proofs.lemmas.List.{get_or_default, set-get_or}
 use Rattle.std.proofs.lemmas.Bool.Decides.{nat_tests}
 use Rattle.std.proofs.lemmas.Grind.{common_steps}
 use Rattle.hp_model.specs.declared.answer.Answer.{Answer}
@@ -27,9 +26,8 @@ use Rattle.hp_model.specs.machine.Machine.{pool_of, node_of}
 use Rattle.hp_model.specs.machine.Plan.{Reply, Slot}
 use Rattle.hp_model.specs.Profile.{most_overcommit}
 use Rattle.hp_model.specs.pool.PoolCounts.{Pool}
-use Rattle.hp_model.specs.pool.Resize.{no_count, node_count, node_counts, pool_event, set_nr}
+use Rattle.hp_model.specs.pool.Resize.{pool_event, set_nr}
 use Rattle.hp_laws.proofs.sections.PoolTied.{pool_back}
-use Rattle.hp_model.specs.declared.answer.NodeCount.{NodeCount}
 use Rattle.hp_model.specs.machine.State.{State, slot_at}
 use Rattle.hp_model.specs.machine.Step.{Script, Answer_with, Do, exit_slot, exit_slots, on_slot, only, finding, IsScript, IsStep}
 use Rattle.hp_model.specs.machine.Table.{Table, table_event, home_of, removed, when_known}
@@ -37,7 +35,8 @@ use Rattle.hp_model.specs.machine.SlotEvent.{slot_event}
 use Rattle.hp_mount_laws.specs.Done.{IsDone}
 use Rattle.hp_system.specs.Event.{AreExited, IsCarried, took}
 use Rattle.hp_model.specs.machine.Ready.{IsReadyMachine, machine_of, state_of, Machine}
-use Rattle.hp_system.proofs.Carries.{calm, event_done, kept_after, never_full, ready_by, slot_in, IsKept}
+use Rattle.hp_system.specs.Sized.{IsSized}
+use Rattle.hp_system.proofs.Carries.{calm, event_done, kept_after, kept_by, never_full, ready_by, slot_in, IsKept}
 
 same_length : (p : Pool) → length (map node_of p.nodes.rows) ≡ length p.nodes.rows
 same_length p = grind (arith, common_steps)
@@ -213,21 +212,31 @@ module _ (size bytes : ℕ) (t : Table) (xs : List Slot) (p : Pool) (kept : IsKe
       (subst (λ b. IsScript before (cond b (only (OnSlot k e)) (Answer_with (Err NoSuchSlot))) reply after) (sym there)
       (only_is before after (OnSlot k e) reply (event_done size bytes t xs k old new p q e reply kept within here happens h)))
 
--- what went through the pool by itself on a slot that was read, by a door that is never full: the event, the script, and what holds then
-module _ (size bytes : ℕ) (t : Table) (xs : List Slot) (p : Pool) (kept : IsKept size bytes t xs p) (s : State) (s_is : state_of size t xs p ≡ s)
-    (k : ℕ) (within : k < length xs) (x new : Slot) (read : x ≡ slice_index_or xs k x) (q : Pool) (e : SlotEvent) (happens : IsTrue (is_slot_event x e)) (reply : Reply)
-    (done : IsDone took (λ d. ⊥) bytes k x p e reply new q) where
-  carried : IsCarried size k p x e reply new q
-  carried = subst (λ n. IsCarried n k p x e reply new q) (sym kept.size) (never_full (λ c. slot_event bytes k c x e) x new p q reply done)
+-- the machine did an event on a slot, also as a script, and is ready for the next
+pub record IsDoneOn (m : Machine) (k : ℕ) (e : SlotEvent) (reply : Reply) (n : Machine) : Type 0 where
+  pub event : IsEvent m.state (OnSlot k e) reply n.state
+  pub script : IsScript m.state (on_slot (length m.state.slots) k e) reply n.state
+  pub ready : IsReadyMachine n
 
-  here : slot_in xs k ≡ x
-  here = read_slot xs k x x within read refl
+module _ {size : ℕ} {t : Table} {xs : List Slot} {p : Pool} {m : Machine} (is : machine_of size t xs p ≡ m) (k : ℕ) where
+  pub within_of : k < length m.state.slots → k < length xs
+  within_of l = omega (arith, l, ap (λ (x : Machine). length x.state.slots) is)
 
-  pub door_went : IsEvent s (OnSlot k e) reply (state_of size t (slice_set xs k new) q)
-  door_went = slot_went size bytes t xs p kept s s_is k within x here e happens new q reply carried
+  module _ (within : k < length xs) (x : Slot) (read : x ≡ slice_index_or xs k x) where
+    pub slot_there : slot_at m.state k ≡ x
+    slot_there = ap (λ (y : Machine). slot_at y.state k) (sym is) ∙ read_slot xs k x x within read refl
 
-  pub door_done : IsScript s (on_slot (length s.slots) k e) reply (state_of size t (slice_set xs k new) q)
-  door_done = slot_done size bytes t xs p kept s s_is k within x here e happens new q reply carried
-
-  pub door_ready : IsReadyMachine (machine_of size t (slice_set xs k new) q)
-  door_ready = ready_by (kept_after size bytes t xs k x new p q e reply kept within here happens carried)
+    -- what went through the pool by itself on a slot that was read, by a door that is never full
+    pub done_on : {bytes : ℕ} → IsSized size bytes → IsReadyMachine m → (new : Slot) (q : Pool) (e : SlotEvent) (reply : Reply) → IsTrue (is_slot_event x e)
+        → IsDone took (λ d. ⊥) bytes k x p e reply new q → IsDoneOn m k e reply (machine_of size t (slice_set xs k new) q)
+    done_on {bytes} sized r new q e reply happens done =
+        let kept = kept_by m sized is r in
+        let s_is = ap (λ (y : Machine). y.state) is in
+        let here = read_slot xs k x x within read refl in
+        let carried : IsCarried size k p x e reply new q =
+        rw kept.size (never_full (λ c. slot_event bytes k c x e) x new p q reply done) in
+        record {
+          event = slot_went size bytes t xs p kept m.state s_is k within x here e happens new q reply carried;
+          script = slot_done size bytes t xs p kept m.state s_is k within x here e happens new q reply carried;
+          ready = ready_by (kept_after size bytes t xs k x new p q e reply kept within here happens carried);
+        }
