@@ -21,44 +21,52 @@ macro_rules! take {
 
 // The step of a command, by its parts. The line ends behind them, or with the last.
 macro_rules! step {
-    ($words:ident; $step:ident) => {{
+    ($words:ident; $step:ident()) => {{
         $words.end()?;
         Ok(Step::$step)
     }};
-    ($words:ident; $step:ident: $($part:ident),*; $last:ident = $value:expr) => {{
+    ($words:ident; $step:ident($($part:ident),*)) => {{
+        $(let $part = take!($words, $part);)*
+        $words.end()?;
+        Ok(Step::$step { $($part),* })
+    }};
+    ($words:ident; $step:ident($($part:ident),*), $last:ident = $value:expr) => {{
         $(let $part = take!($words, $part);)*
         let $last = $value;
         Ok(Step::$step { $($part,)* $last })
     }};
-    ($words:ident; $step:ident: $($part:ident),*) => {{
-        $(let $part = take!($words, $part);)*
-        $words.end()?;
-        Ok(Step::$step { $($part),* })
+}
+
+// The step of a word, where it is one of these, and else what follows.
+macro_rules! step_by {
+    (
+        $word:ident, $words:ident;
+        $($known:literal => $step:ident $parts:tt $(, $last:ident = $value:expr)?;)*
+        _ => $other:expr
+    ) => {{
+        $(if is_known($word, $known) {
+            return step!($words; $step $parts $(, $last = $value)?);
+        })*
+        $other
     }};
 }
 
 /// The step of a word that is not that of a load, a store or a fault, and the words after it, or `BadLine`.
 #[tactic(auto, unfolding(crate::specs::Commands::task_commands))]
+#[inline(never)]
 pub fn step_of_command<'a>(word: &[u8], words: &mut Words<'a>) -> Result<Step<'a>, Refusal>
     requires { is_access word.now ≡ false }
     ensures { result ≡ step_of_command word.now words.old }
 {
-    if is_known(word, b"connect") {
-        step!(words; Connect: task, home)
-    } else if is_known(word, b"attach") {
-        step!(words; Attach: task)
-    } else if is_known(word, b"fork") {
-        step!(words; Fork: parent, child)
-    } else if is_known(word, b"exit") {
-        step!(words; Exit: task)
-    } else if is_known(word, b"map") {
-        step!(words; Map: task, slot, name, from, pages, sharing; reserving = reserving(words)?)
-    } else if is_known(word, b"anon") {
-        step!(words; Anon: task, pages, sharing; reserving = reserving(words)?)
-    } else if is_known(word, b"unmap") {
-        step!(words; Unmap: task, slot, map, from, to)
-    } else {
-        slot_command(word, words)
+    step_by! { word, words;
+        b"connect" => Connect(task, home);
+        b"attach" => Attach(task);
+        b"fork" => Fork(parent, child);
+        b"exit" => Exit(task);
+        b"map" => Map(task, slot, name, from, pages, sharing), reserving = reserving(words)?;
+        b"anon" => Anon(task, pages, sharing), reserving = reserving(words)?;
+        b"unmap" => Unmap(task, slot, map, from, to);
+        _ => slot_command(word, words)
     }
 }
 
@@ -68,32 +76,20 @@ pub fn step_of_command<'a>(word: &[u8], words: &mut Words<'a>) -> Result<Step<'a
 fn slot_command<'a>(word: &[u8], words: &mut Words<'a>) -> Result<Step<'a>, Refusal>
     ensures { result ≡ slot_command word.now words.old }
 {
-    if is_known(word, b"mount") {
-        step!(words; Mount: slot, options)
-    } else if is_known(word, b"remount") {
-        step!(words; Remount: slot, options)
-    } else if is_known(word, b"umount") {
-        step!(words; Umount: slot)
-    } else if is_known(word, b"create") {
-        step!(words; Create: slot, name)
-    } else if is_known(word, b"unlink") {
-        step!(words; Unlink: slot, name)
-    } else if is_known(word, b"truncate") {
-        step!(words; Truncate: slot, name, pages)
-    } else if is_known(word, b"punch") {
-        step!(words; Punch: slot, name, from, to)
-    } else if is_known(word, b"preallocate") {
-        step!(words; Preallocate: slot, name, from, to)
-    } else if is_known(word, b"read") {
-        step!(words; Read: slot, name, index, offset, count)
-    } else if is_known(word, b"ls") {
-        step!(words; Ls: slot)
-    } else if is_known(word, b"stat") {
-        step!(words; Stat: slot, name)
-    } else if is_known(word, b"df") {
-        step!(words; Df: slot)
-    } else {
-        pool_command(word, words)
+    step_by! { word, words;
+        b"mount" => Mount(slot, options);
+        b"remount" => Remount(slot, options);
+        b"umount" => Umount(slot);
+        b"create" => Create(slot, name);
+        b"unlink" => Unlink(slot, name);
+        b"truncate" => Truncate(slot, name, pages);
+        b"punch" => Punch(slot, name, from, to);
+        b"preallocate" => Preallocate(slot, name, from, to);
+        b"read" => Read(slot, name, index, offset, count);
+        b"ls" => Ls(slot);
+        b"stat" => Stat(slot, name);
+        b"df" => Df(slot);
+        _ => pool_command(word, words)
     }
 }
 
@@ -103,16 +99,12 @@ fn slot_command<'a>(word: &[u8], words: &mut Words<'a>) -> Result<Step<'a>, Refu
 fn pool_command<'a>(word: &[u8], words: &mut Words<'a>) -> Result<Step<'a>, Refusal>
     ensures { result ≡ pool_command word.now words.old }
 {
-    if is_known(word, b"nr") {
-        step!(words; Nr: pages)
-    } else if is_known(word, b"overcommit") {
-        step!(words; Overcommit: pages)
-    } else if is_known(word, b"meminfo") {
-        step!(words; Meminfo)
-    } else if is_known(word, b"nodes") {
-        step!(words; Nodes)
-    } else {
-        Err(Refusal::BadLine)
+    step_by! { word, words;
+        b"nr" => Nr(pages);
+        b"overcommit" => Overcommit(pages);
+        b"meminfo" => Meminfo();
+        b"nodes" => Nodes();
+        _ => Err(Refusal::BadLine)
     }
 }
 
@@ -120,14 +112,14 @@ fn pool_command<'a>(word: &[u8], words: &mut Words<'a>) -> Result<Step<'a>, Refu
 pub fn fault(words: &mut Words<'_>) -> Result<Step<'static>, Refusal>
     ensures { result ≡ fault_of words.old }
 {
-    step!(words; Fault: task, slot, map, index, intent)
+    step!(words; Fault(task, slot, map, index, intent))
 }
 
 #[tactic(auto, unfolding(hp_model::specs::text::Reading::load_of))]
 pub fn load(words: &mut Words<'_>) -> Result<Step<'static>, Refusal>
     ensures { result ≡ load_of words.old }
 {
-    step!(words; Load: task, slot, map, index, offset, count)
+    step!(words; Load(task, slot, map, index, offset, count))
 }
 
 #[tactic(auto, unfolding(hp_model::specs::text::Reading::store_of), using(crate::proofs::LastHex::then_last))]
@@ -135,5 +127,5 @@ pub fn store<'a>(words: &mut Words<'_>, room: &'a mut [u8]) -> Result<Step<'a>, 
     requires { length room.old ≡ 512 }
     ensures { result ≡ store_of words.old }
 {
-    step!(words; Store: task, slot, map, index, offset; bytes = Lent::new(last_hex(words, room)?))
+    step!(words; Store(task, slot, map, index, offset), bytes = Lent::new(last_hex(words, room)?))
 }
