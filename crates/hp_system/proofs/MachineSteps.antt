@@ -5,7 +5,8 @@ use Rattle.std.specs.Bool.{MatchBool}
 use Rattle.std.specs.List.{find, range_with_len}
 use Rattle.std.specs.Option.{option_map}
 use Rattle.std.specs.Prelude.{nat_le, nat_lt, slice_index_or, slice_set}
-use Rattle.std.proofs.lemmas.List.{get_or_default, set-get_or}
+use Rattle.std.proofs.lemmas.List.FromFn.{map-range_with_len_more}
+use Rattle.std.proofs.lemmas.List.{get_or_default, set-get_or, map-id}
 use Rattle.std.proofs.lemmas.Bool.Decides.{nat_tests}
 use Rattle.std.proofs.lemmas.Grind.{common_steps}
 use Rattle.hp_model.specs.declared.answer.Answer.{Answer}
@@ -79,10 +80,15 @@ module _ (size : ℕ) (t : Table) (slots : List Slot) (p : Pool) where
       (calm, tt, subst (λ n. with_table s (table_event n t e) ≡ (reply, state_of size u slots p)) (sym (same_length p)) (ap (λ x. (x.0, state_of size x.1 slots p)) h))
 
   -- an event of the task table, as a script's first
-  pub table_goes : (e : TableEvent) (reply : Reply) (u : Table) (nodes : ℕ) (s : State) → nodes ≡ length p.nodes.rows → table_event nodes t e ≡ (reply, u)
+  table_goes : (e : TableEvent) (reply : Reply) (u : Table) (nodes : ℕ) (s : State) → nodes ≡ length p.nodes.rows → table_event nodes t e ≡ (reply, u)
       → state_of size t slots p ≡ s → IsEvent s (Tasks e) reply (state_of size u slots p)
   table_goes e reply u nodes s count h s_is =
       subst (λ x. IsEvent x (Tasks e) reply (state_of size u slots p)) s_is (table_event_is e reply u (subst (λ n. table_event n t e ≡ (reply, u)) count h))
+
+-- an event of the task table of a machine
+pub table_went : {size nodes : ℕ} {t u : Table} {xs : List Slot} {p : Pool} {m : Machine} {reply : Reply} (e : TableEvent) → machine_of size t xs p ≡ m
+    → nodes ≡ length p.nodes.rows → table_event nodes t e ≡ (reply, u) → IsEvent m.state (Tasks e) reply (state_of size u xs p)
+table_went {size} {nodes} {t} {u} {xs} {p} {m} {reply} e is count h = table_goes size t xs p e reply u nodes m.state count h (ap (λ (x : Machine). x.state) is)
 
 -- ---- the pool
 
@@ -136,14 +142,8 @@ leaves_there s t k task r some goes next reply u h =
     subst (λ b. MatchBool b (IsScript s (Do (OnSlot k (slot.ExitMaps task)) (λ r. next)) reply u) (IsScript s next reply u)) (sym some) (r, t, goes, h)
 
 -- one number after others
-range_more : (a n : ℕ) → range_with_len a (suc n) ≡ range_with_len a n ++ (a + n) ∷ []
-range_more a zero = ap (λ k. k ∷ []) {x = a} {y = a + 0} (omega arith)
-range_more a (suc n) =
-    let next : a + 1 + n ≡ a + suc n = omega arith in
-    ap (λ ks. a ∷ ks) (range_more (a + 1) n ∙ ap (λ k. range_with_len (a + 1) n ++ k ∷ []) next)
-
 pub first_more : (n : ℕ) → range_with_len 0 (n + 1) ≡ range_with_len 0 n ++ n ∷ []
-first_more n = ap (range_with_len 0) {x = n + 1} {y = suc n} (omega arith) ∙ range_more 0 n ∙ ap (λ k. range_with_len 0 n ++ k ∷ []) {x = 0 + n} {y = n} (omega arith)
+first_more n = simp map-id at (map-range_with_len_more (λ (k : ℕ). k) 0 n n (omega arith))
 
 -- one slot after others
 pub exited_more : (s mid t : State) (ks : List ℕ) (k task : ℕ) → AreExited s ks task mid → AreExited mid (k ∷ []) task t → AreExited s (ks ++ k ∷ []) task t

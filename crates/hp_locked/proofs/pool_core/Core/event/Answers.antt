@@ -1,3 +1,4 @@
+use Rattle.std.proofs.Common.{sym, ◌∙◌}
 use Rattle.hp_model.specs.declared.entry.PoolEntry.TheVariants.{OfPool}
 use Rattle.hp_locked.specs.Told.{pool_reply}
 use Rattle.hp_locked.proofs.Added.{entry_kept}
@@ -6,11 +7,9 @@ use Rattle.hp_locked.proofs.pool_core.Core.event.Goals as goal
 
 pub invariant_of-self-2 : goal.invariant_of-self-2
 invariant_of-self-2 g c =
-    let has = c.has_room.ensures.room in
-    let yes = c.if-not-has_room.false in
     entry_kept (OfPool c.args.event (pool_reply c.answered-told.result)) c.self.invariant c.note_event-place.ensures.entries c.note_event-place.ensures.left
     c.note_event-place.ensures.extra c.note_event-place.ensures.pool c.note_event-place.ensures.run
-    c.answered-told.ensures.event c.answered-told.ensures.ready c.law.ensures.settled cc
+    c.answered-told.ensures.event c.answered-told.ensures.ready c.law.ensures.settled (sym c.has_room.ensures.room ∙ c.if-not-has_room.false)
 
 pub returns-clause-limits : goal.returns-clause-limits
 returns-clause-limits g c =

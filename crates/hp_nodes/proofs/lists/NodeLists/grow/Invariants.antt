@@ -1,16 +1,11 @@
-use Rattle.std.proofs.Common.{◌≡◌, ◌-◌, ◌≤◌}
-use Rattle.std.specs.Fn.{iterate}
-use Rattle.hp_model.specs.pool.NodeRows.{sum_row, grown}
+use Rattle.std.proofs.Common.{◌-◌}
+use Rattle.hp_model.specs.pool.NodeRows.{grown}
 use Rattle.hp_nodes.specs.Moves.{grow_by}
-use Rattle.hp_nodes.proofs.Sums.{HaveSums}
+use Rattle.hp_nodes.proofs.Sums.{AreDone}
 use Rattle.hp_nodes.proofs.lists.NodeLists.grow.Given as goal
 
 abbrev pub invariant-loop-done : goal.invariant-loop-done
-invariant-loop-done g l = record {
-  within : l.done ≤ l.count;
-  moved : l.self ≡ iterate grown l.done l.initial.self;
-  sums : HaveSums l.self (grow_by l.done (sum_row l.initial.self.rows));
-}
+invariant-loop-done g l = AreDone grown grow_by l.done l.count l.initial.self l.self
 
 abbrev pub decreases-loop-done : goal.decreases-loop-done
 decreases-loop-done g l = l.count - l.done

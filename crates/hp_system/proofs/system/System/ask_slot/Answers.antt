@@ -4,13 +4,13 @@ use Rattle.hp_model.specs.beside.Told.{told_reply}
 use Rattle.hp_model.specs.machine.Plan.{Choice}
 use Rattle.hp_model.specs.machine.SlotEvent.{slot_event}
 use Rattle.hp_events.specs.SlotWork.{asked_event}
-use Rattle.hp_system.proofs.Carries.{kept_by, never_full_at, ready, work_happens}
+use Rattle.hp_system.proofs.Carries.{never_full_at, work_happens}
+use Rattle.hp_system.proofs.Ready.{pool_ready}
 use Rattle.hp_system.proofs.MachineSteps.{done_on}
 use Rattle.hp_system.proofs.system.System.ask_slot.Goals as goal
 
 pub ask-requires-clause-ready : goal.ask-requires-clause-ready
-ask-requires-clause-ready g c = (let s = c.self.inside in ready s.page_bytes g.N.Naming.page_bytes s.table s.slots.items s.pool
-    (kept_by c.args.self.now c.self.invariant c.self.view_is c.requires.ready))
+ask-requires-clause-ready g c = pool_ready c.self.view_is c.requires.ready
 
 pub returns : goal.returns
 returns g c =

@@ -3,13 +3,12 @@ use Rattle.hp_model.specs.declared.answer.Answer.TheVariants.{Done}
 use Rattle.hp_model.specs.declared.event.SlotEvent.TheVariants.{ExitMaps}
 use Rattle.hp_model.specs.machine.Event.{has_maps_of}
 use Rattle.hp_model.specs.machine.State.{slot_at}
-use Rattle.hp_system.proofs.Carries.{kept_by, ready}
+use Rattle.hp_system.proofs.Ready.{pool_ready}
 use Rattle.hp_system.proofs.MachineSteps.{done_on, leaves_there, slot_there, within_of}
 use Rattle.hp_system.proofs.system.System.exit_slot.Goals as goal
 
 pub leave-requires-clause-ready : goal.leave-requires-clause-ready
-leave-requires-clause-ready g c = (let s = c.self.inside in ready s.page_bytes g.N.Naming.page_bytes s.table s.slots.items s.pool
-    (kept_by c.args.self.now c.self.invariant c.self.view_is c.requires.ready))
+leave-requires-clause-ready g c = pool_ready c.self.view_is c.requires.ready
 
 pub returns-then-has_maps : goal.returns-then-has_maps
 returns-then-has_maps g c =

@@ -4,14 +4,13 @@ use Rattle.hp_model.specs.beside.Accesses.{done_reply}
 use Rattle.hp_model.specs.declared.event.SlotEvent.TheVariants.{ForkMaps}
 use Rattle.hp_model.specs.machine.Event.{has_maps_of}
 use Rattle.hp_model.specs.machine.State.{slot_at}
-use Rattle.hp_system.proofs.Carries.{kept_by, ready}
+use Rattle.hp_system.proofs.Ready.{pool_ready}
 use Rattle.hp_system.proofs.Forking.{slot_forked}
 use Rattle.hp_system.proofs.MachineSteps.{done_on, slot_there, within_of}
 use Rattle.hp_system.proofs.system.System.fork_slot.Goals as goal
 
 pub fork-requires-clause-ready : goal.fork-requires-clause-ready
-fork-requires-clause-ready g c = (let s = c.self.inside in ready s.page_bytes g.N.Naming.page_bytes s.table s.slots.items s.pool
-    (kept_by c.args.self.now c.self.invariant c.self.view_is c.requires.ready))
+fork-requires-clause-ready g c = pool_ready c.self.view_is c.requires.ready
 
 pub fork-requires-clause-apart : goal.fork-requires-clause-apart
 fork-requires-clause-apart g c = false_from_ne_true (c.args.parent == c.args.child) (λ e. c.requires.apart (eqb-true c.args.parent c.args.child e))

@@ -3,13 +3,11 @@ use Rattle.hp_model.specs.declared.event.SlotEvent.TheVariants.{Load}
 use Rattle.hp_mount.specs.declared.mount.reach.MapAccess.{MapAccess}
 use Rattle.hp_model.specs.beside.Accesses.{bytes_reply}
 use Rattle.hp_system.proofs.Accesses.{load_is, of_mount, of_none, of_no_slot, of_nobody}
-use Rattle.hp_system.proofs.Carries.{kept_by, ready}
+use Rattle.hp_system.proofs.Ready.{pool_ready}
 use Rattle.hp_system.proofs.system.System.load.Goals as goal
 
 pub load-requires-clause-ready : goal.load-requires-clause-ready
-load-requires-clause-ready g c =
-    let s = c.self.inside in
-    ready s.page_bytes g.N.Naming.page_bytes s.table s.slots.items s.pool (kept_by c.args.self.now c.self.invariant c.self.view_is c.requires.ready)
+load-requires-clause-ready g c = pool_ready c.self.view_is c.requires.ready
 
 pub returns-in_default : goal.returns-in_default
 returns-in_default g c =

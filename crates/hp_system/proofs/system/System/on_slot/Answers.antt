@@ -2,13 +2,13 @@ use Rattle.std.proofs.Common.{◌<◌, length, arith, rules}
 use Rattle.std.proofs.lemmas.Grind.{common_steps}
 use Rattle.hp_model.specs.beside.Told.{told_reply}
 use Rattle.hp_events.specs.Event.{as_event}
-use Rattle.hp_system.proofs.Carries.{happens, kept_by, ready}
+use Rattle.hp_system.proofs.Carries.{happens}
+use Rattle.hp_system.proofs.Ready.{pool_ready}
 use Rattle.hp_system.proofs.MachineSteps.{done_on}
 use Rattle.hp_system.proofs.system.System.on_slot.Goals as goal
 
 pub act-requires-clause-ready : goal.act-requires-clause-ready
-act-requires-clause-ready g c = (let s = c.self.inside in ready s.page_bytes g.N.Naming.page_bytes s.table s.slots.items s.pool
-    (kept_by c.args.self.now c.self.invariant c.self.view_is c.requires.ready))
+act-requires-clause-ready g c = pool_ready c.self.view_is c.requires.ready
 
 pub returns : goal.returns
 returns g c =

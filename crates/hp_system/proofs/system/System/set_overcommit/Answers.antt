@@ -3,14 +3,14 @@ use Rattle.hp_model.specs.declared.answer.Answer.TheVariants.{Done}
 use Rattle.hp_model.specs.declared.event.PoolEvent.TheVariants.{Overcommit}
 use Rattle.hp_model.specs.machine.Step.{IsStep}
 use Rattle.hp_model.specs.Profile.{most_overcommit}
-use Rattle.hp_system.proofs.Carries.{kept_by_pool, ready, kept_by, ready_by}
+use Rattle.hp_system.proofs.Carries.{kept_by_pool, kept_by, ready_by}
+use Rattle.hp_system.proofs.Ready.{pool_ready}
 use Rattle.hp_system.proofs.MachineSteps.{overcommit_event, overcommit_refused, pool_goes}
 use Rattle.hp_model.specs.machine.Ready.{Machine}
 use Rattle.hp_system.proofs.system.System.set_overcommit.Goals as goal
 
 pub set_overcommit-requires-clause-settled : goal.set_overcommit-requires-clause-settled
-set_overcommit-requires-clause-settled g c =
-    let s = c.self.inside in (ready s.page_bytes g.N.Naming.page_bytes s.table s.slots.items s.pool (kept_by c.args.self.now c.self.invariant c.self.view_is c.requires.ready)).settled
+set_overcommit-requires-clause-settled g c = (pool_ready c.self.view_is c.requires.ready).settled
 
 pub returns-then-pages-gt-MOST_OVERCOMMIT-clause-step : goal.returns-then-pages-gt-MOST_OVERCOMMIT-clause-step
 returns-then-pages-gt-MOST_OVERCOMMIT-clause-step g c =

@@ -3,13 +3,11 @@ use Rattle.hp_model.specs.declared.event.SlotEvent.TheVariants.{Store}
 use Rattle.hp_mount.specs.declared.mount.reach.MapAccess.{MapAccess}
 use Rattle.hp_model.specs.beside.Accesses.{done_reply}
 use Rattle.hp_system.proofs.Accesses.{store_is, of_mount, of_none, of_no_slot, of_nobody}
-use Rattle.hp_system.proofs.Carries.{kept_by, ready}
+use Rattle.hp_system.proofs.Ready.{pool_ready}
 use Rattle.hp_system.proofs.system.System.store.Goals as goal
 
 pub store-requires-clause-ready : goal.store-requires-clause-ready
-store-requires-clause-ready g c =
-    let s = c.self.inside in
-    ready s.page_bytes g.N.Naming.page_bytes s.table s.slots.items s.pool (kept_by c.args.self.now c.self.invariant c.self.view_is c.requires.ready)
+store-requires-clause-ready g c = pool_ready c.self.view_is c.requires.ready
 
 pub returns-in_default : goal.returns-in_default
 returns-in_default g c =
