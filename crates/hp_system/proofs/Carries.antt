@@ -2,17 +2,17 @@
 use Rattle.std.proofs.Common.{◌≡◌, ℕ, ◌<◌, false, List, Err, Ok, None, length, refl, sym, ◌∙◌, ap, subst, arith, IsTrue}
 use Rattle.std.specs.Prelude.{nat_lt, slice_index_or, slice_set}
 use Rattle.std.proofs.lemmas.Bool.Decides.{nat_tests}
-use Rattle.std.proofs.lemmas.List.{length-map, set-get_or}
+use Rattle.std.proofs.lemmas.List.{set-get_or}
 use Rattle.hp_model.specs.declared.event.Event.TheVariants.{Slot as OnSlot, Pool as OnPool}
 use Rattle.hp_model.specs.declared.event.PoolEvent.{PoolEvent}
 use Rattle.hp_model.specs.declared.event.SlotEvent.{SlotEvent}
 use Rattle.hp_model.specs.declared.refusal.Refusal.TheVariants as refusal
 use Rattle.hp_model.specs.machine.Event.{CanHappen, IsEvent, IsFresh, after, asked_pool, is_slot_event, planned, with_outcome}
 use Rattle.hp_model.specs.threads.LocalRun.{Gives, ThroughDoor}
-use Rattle.hp_model.specs.machine.Machine.{node_of, pool_of, with_pool}
+use Rattle.hp_model.specs.machine.Machine.{pool_of, with_pool}
 use Rattle.hp_model.specs.machine.Plan.{Reply, Slot, Outcome, Refused, Answered, Plan, Finish, Ask, Choice}
 use Rattle.hp_model.specs.pool.Pool.{section}
-use Rattle.hp_model.specs.pool.PoolCounts.{Pool, IsSettled}
+use Rattle.hp_model.specs.pool.PoolCounts.{Pool}
 use Rattle.hp_model.specs.pool.Resize.{pool_event}
 use Rattle.hp_model.specs.machine.Settled.{IsSettledState}
 use Rattle.hp_model.specs.machine.SlotEvent.{slot_event}

@@ -1,5 +1,5 @@
 -- Steps of the machine, by what its parts do. The code's values enter as variables with equations.
-use Rattle.std.proofs.Common.{◌≡◌, ℕ, zero, suc, ◌+◌, ◌<◌, ◌≤◌, true, false, cond, List, [], ◌∷◌, ◌++◌}
+use Rattle.std.proofs.Common.{◌≡◌, ℕ, ◌+◌, ◌<◌, ◌≤◌, true, false, cond, List, [], ◌∷◌, ◌++◌}
 use Rattle.std.proofs.Common.{Option, Ok, Err, None, Some, length, map, not, ◌==◌, Bool, refl, sym, ◌∙◌, ap, subst, arith, IsTrue}
 use Rattle.std.specs.Bool.{MatchBool}
 use Rattle.std.specs.List.{find, range_with_len}
@@ -37,7 +37,7 @@ use Rattle.hp_mount_laws.specs.Done.{IsDone}
 use Rattle.hp_system.specs.Event.{AreExited, IsCarried, took}
 use Rattle.hp_model.specs.machine.Ready.{IsReadyMachine, machine_of, state_of, Machine}
 use Rattle.hp_system.specs.Sized.{IsSized}
-use Rattle.hp_system.proofs.Carries.{calm, event_done, kept_after, kept_by, never_full, ready_by, slot_in, IsKept}
+use Rattle.hp_system.proofs.Carries.{calm, event_done, kept_after, kept_by, kept_by_pool, never_full, ready_by, slot_in, IsKept}
 
 same_length : (p : Pool) → length (map node_of p.nodes.rows) ≡ length p.nodes.rows
 same_length p = grind (arith, common_steps)
@@ -55,22 +55,14 @@ module _ (size : ℕ) (t : Table) (slots : List Slot) (p : Pool) where
       (calm, tt, subst (λ x. with_pool_reply s (pool_event x e) ≡ (reply, state_of size t slots q)) (sym tie) (ap (λ x. (x.0, state_of size t slots x.1)) h))
 
   -- an event of the pool, which is the whole of its step
-  pub pool_goes : (e : PoolEvent) (reply : Reply) (q : Pool) (s : State) → pool_of (state_of size t slots p) ≡ p → pool_event p e ≡ (reply, q)
+  pool_goes : (e : PoolEvent) (reply : Reply) (q : Pool) (s : State) → pool_of (state_of size t slots p) ≡ p → pool_event p e ≡ (reply, q)
       → state_of size t slots p ≡ s → IsScript s (only (OnPool e)) reply (state_of size t slots q)
   pool_goes e reply q s tie h s_is =
       subst (λ x. IsScript x (only (OnPool e)) reply (state_of size t slots q)) s_is (only_is (state_of size t slots p) (state_of size t slots q) (OnPool e) reply (pool_event_is e reply q tie h))
 
-  pub pool_told : (e : PoolEvent) (reply : Reply) (s : State) → pool_of (state_of size t slots p) ≡ p → pool_event p e ≡ (reply, p)
+  pool_told : (e : PoolEvent) (reply : Reply) (s : State) → pool_of (state_of size t slots p) ≡ p → pool_event p e ≡ (reply, p)
       → state_of size t slots p ≡ s → IsScript s (only (OnPool e)) reply s
   pool_told e reply s tie h s_is = subst (λ x. IsScript s (only (OnPool e)) reply x) s_is (pool_goes e reply p s tie h s_is)
-
-  pub nr_event : (n : ℕ) (q : Pool) (r : ℕ) → q ≡ set_nr n p → r ≡ q.nr → pool_event p (pool.Nr n) ≡ (Ok (Number r), q)
-  nr_event n q r q_is r_is = ap (λ x. (Ok (Number x.nr), x)) (sym q_is) ∙ ap (λ x. (Ok (Number x), q)) (sym r_is)
-
-  pub overcommit_event : (n : ℕ) (q : Pool) → n ≤ most_overcommit → q ≡ record p { overcommit = n } → pool_event p (pool.Overcommit n) ≡ (Ok Done, q)
-  overcommit_event n q few q_is =
-      let within : nat_le n most_overcommit ≡ true = grind (arith, nat_tests, few) in
-      ap (λ b. cond b (Ok Done, record p { overcommit = n }) (Err OutOfRange, p)) within ∙ ap (λ x. (Ok Done, x)) (sym q_is)
 
   -- ---- the task table
 
@@ -84,6 +76,33 @@ module _ (size : ℕ) (t : Table) (slots : List Slot) (p : Pool) where
       → state_of size t slots p ≡ s → IsEvent s (Tasks e) reply (state_of size u slots p)
   table_goes e reply u nodes s count h s_is =
       subst (λ x. IsEvent x (Tasks e) reply (state_of size u slots p)) s_is (table_event_is e reply u (subst (λ n. table_event n t e ≡ (reply, u)) count h))
+
+pub nr_event : (p : Pool) (n : ℕ) (q : Pool) (r : ℕ) → q ≡ set_nr n p → r ≡ q.nr → pool_event p (pool.Nr n) ≡ (Ok (Number r), q)
+nr_event p n q r q_is r_is = ap (λ x. (Ok (Number x.nr), x)) (sym q_is) ∙ ap (λ x. (Ok (Number x), q)) (sym r_is)
+
+pub overcommit_event : (p : Pool) (n : ℕ) (q : Pool) → n ≤ most_overcommit → q ≡ record p { overcommit = n } → pool_event p (pool.Overcommit n) ≡ (Ok Done, q)
+overcommit_event p n q few q_is =
+    let within : nat_le n most_overcommit ≡ true = grind (arith, nat_tests, few) in
+    ap (λ b. cond b (Ok Done, record p { overcommit = n }) (Err OutOfRange, p)) within ∙ ap (λ x. (Ok Done, x)) (sym q_is)
+
+-- an event of the pool of a machine
+module _ {size : ℕ} {t : Table} {xs : List Slot} {p q : Pool} {m : Machine} {reply : Reply} (e : PoolEvent) (is : machine_of size t xs p ≡ m) (r : IsReadyMachine m)
+    (h : pool_event p e ≡ (reply, q)) where
+  tied : pool_of (state_of size t xs p) ≡ p
+  tied = (subst IsReadyMachine (sym is) r).tied
+
+  s_is : state_of size t xs p ≡ m.state
+  s_is = ap (λ (x : Machine). x.state) is
+
+  pub pool_went : IsScript m.state (only (OnPool e)) reply (state_of size t xs q)
+  pool_went = pool_goes size t xs p e reply q m.state tied h s_is
+
+  -- that leaves it as it was
+  pub pool_saw : q ≡ p → IsScript m.state (only (OnPool e)) reply m.state
+  pool_saw same = pool_told size t xs p e reply m.state tied (h ∙ ap (λ x. (reply, x)) same) s_is
+
+  pub pool_leaves : {bytes : ℕ} → IsSized size bytes → IsReadyMachine (machine_of size t xs q)
+  pool_leaves {bytes} sized = ready_by (kept_by_pool size bytes t xs p q e reply (kept_by m sized is r) h)
 
 -- an event of the task table of a machine
 pub table_went : {size nodes : ℕ} {t u : Table} {xs : List Slot} {p : Pool} {m : Machine} {reply : Reply} (e : TableEvent) → machine_of size t xs p ≡ m
