@@ -1,5 +1,5 @@
 -- Forks and exits, slot after slot.
-use Rattle.std.proofs.Common.{◌≡◌, ℕ, zero, suc, ◌+◌, ◌-◌, ◌<◌, ◌≤◌, Bool, true, false, cond, List, [], ◌∷◌, ◌++◌, Ok, Err, Option, None, Some, is_some, length, refl, sym, ap, subst, ◌∙◌, arith}
+use Rattle.std.proofs.Common.{◌≡◌, ℕ, zero, suc, ◌+◌, ◌-◌, ◌<◌, ◌≤◌, Bool, true, false, cond, List, [], ◌∷◌, ◌++◌, Ok, Err, length, refl, sym, ap, subst, ◌∙◌, arith}
 use Rattle.std.specs.Bool.{MatchBool}
 use Rattle.std.specs.List.{filter, range_with_len, slice_index_or, slice_set}
 use Rattle.std.proofs.lemmas.List.{append-nil, get_or-set_other, get_or-set_same}
@@ -11,10 +11,9 @@ use Rattle.hp_model.specs.declared.event.SlotEvent.TheVariants.{ExitMaps, ForkMa
 use Rattle.hp_model.specs.declared.event.TableEvent.{TableEvent}
 use Rattle.hp_model.specs.declared.event.TableEvent.TheVariants.{FindAndAdd, Remove}
 use Rattle.hp_model.specs.declared.refusal.Refusal.{Refusal}
-use Rattle.hp_model.specs.declared.refusal.Refusal.TheVariants.{TaskExists, TooMany, TraceFull}
+use Rattle.hp_model.specs.declared.refusal.Refusal.TheVariants.{TraceFull}
 use Rattle.hp_model.specs.machine.Plan.{Reply}
 use Rattle.hp_model.specs.machine.Step.{Answer_with, Do, Script, exit_slot, exit_slots, fork_slots, or_undone, undone, when_done}
-use Rattle.hp_model.specs.machine.Table.{Table, added, home_of, is_crowded, is_known, or_refused, table_event, when_known}
 use Rattle.hp_events.specs.Replies.{is_trace_full, table_reply}
 use Rattle.hp_events.specs.declared.table_told.TableTold.{TableTold}
 use Rattle.hp_events.specs.declared.table_told.TableTold.TheVariants as told
