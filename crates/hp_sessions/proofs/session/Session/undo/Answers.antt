@@ -1,6 +1,5 @@
-use Rattle.std.proofs.Common.{◌≡◌, ◌+◌, ℕ, sym, subst, ◌∙◌, arith}
+use Rattle.std.proofs.Common.{◌≡◌, ℕ, sym, subst, ◌∙◌, arith}
 use Rattle.hp_events.specs.Replies.{table_reply}
-use Rattle.hp_sessions.specs.Calls.{Grows, SessionView}
 use Rattle.hp_sessions.specs.Forks.{marked_below}
 use Rattle.hp_sessions.proofs.Carrying.{grows_more, grows_then}
 use Rattle.hp_sessions.proofs.Forking.{Exited, undo_ends, undo_next, undo_other}
@@ -15,16 +14,14 @@ loop-at-preserved g c =
     let done = c.args.done.now in
     let at = c.loop-at.at in
     elim c.if-is_done.branch [
-      | then-is_done w ↦ record {
-        gone = subst (λ (v : SessionView). Exited g.P.Parts.keeps size s (marked_below done (at + 1)) c.args.child v) (sym w.self-is)
-            (undo_next g.P.Parts.keeps size s c.loop-at.self w.make_exit.new.self done at c.args.child (sym c.is_done.ensures ∙ w.if-is_done.true) was.gone w.make_exit.ensures.leads);
-        grows = subst (λ (v : SessionView). Grows (at + 1) s v) (sym w.self-is) (grows_then at 1 s c.loop-at.self w.make_exit.new.self was.grows w.make_exit.ensures.grows);
-      }
-      | else-is_done w ↦ record {
-        gone = subst (λ (v : SessionView). Exited g.P.Parts.keeps size s (marked_below done (at + 1)) c.args.child v) (sym w.self-is)
-            (undo_other g.P.Parts.keeps size s c.loop-at.self done at c.args.child (sym c.is_done.ensures ∙ w.if-is_done.false) was.gone);
-        grows = subst (λ (v : SessionView). Grows (at + 1) s v) (sym w.self-is) (grows_more at s c.loop-at.self was.grows);
-      }
+      | then-is_done w ↦ rw w.self-is (record {
+        gone = undo_next g.P.Parts.keeps size s c.loop-at.self w.make_exit.new.self done at c.args.child (sym c.is_done.ensures ∙ w.if-is_done.true) was.gone w.make_exit.ensures.leads;
+        grows = grows_then at 1 s c.loop-at.self w.make_exit.new.self was.grows w.make_exit.ensures.grows;
+      })
+      | else-is_done w ↦ rw w.self-is (record {
+        gone = undo_other g.P.Parts.keeps size s c.loop-at.self done at c.args.child (sym c.is_done.ensures ∙ w.if-is_done.false) was.gone;
+        grows = grows_more at s c.loop-at.self was.grows;
+      })
     ]
 
 pub returns : goal.returns
