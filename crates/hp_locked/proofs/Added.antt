@@ -18,11 +18,9 @@ use Rattle.std.specs.List.{sum}
 use Rattle.std.specs.Prelude.{IfSome, IfNone, is_some, ◌+◌, ◌*◌, ◌<◌, ◌≤◌}
 use Rattle.hp_model.specs.declared.entry.Asked.{Asked}
 use Rattle.hp_model.specs.declared.section.Section.TheVariants.{GiveBack}
-use Rattle.hp_model.specs.pool.Pool.{granted_at, no_pages}
-use Rattle.hp_subpool.specs.Subpool.{Subpool}
-use Rattle.std.specs.Bool.{MatchBool}
+use Rattle.hp_model.specs.pool.Pool.{granted_at}
 use Rattle.hp_trail.specs.Keeping.{has_room, one_less, with_entry}
-use Rattle.hp_locked.specs.Views.{IsNewTrail, HasAsked, HasPlaces, IsAnswered, CoreView, IsCore, IsGiven, IsPlace, IsPoolTrail, IsSeated, IsTrailOf}
+use Rattle.hp_locked.specs.Views.{IsNewTrail, HasPlaces, CoreView, IsCore, IsGiven, IsPlace, IsPoolTrail, IsSeated, IsTrailOf}
 use Rattle.atomic_table.specs.Seated.{TableId}
 use Rattle.hp_history.specs.declared.held.Held.{Held}
 use Rattle.hp_history.specs.declared.held.Held.TheVariants.{Pool as PoolPart}
@@ -32,7 +30,6 @@ use Rattle.hp_laws.proofs.settled.Closing.{most_return, step_frames}
 use Rattle.hp_laws.proofs.sections.Lengths.{long_event}
 use Rattle.hp_model.specs.declared.event.PoolEvent.{PoolEvent}
 use Rattle.hp_model.specs.machine.Plan.{Reply}
-use Rattle.hp_model.specs.pool.Grant.{granted}
 use Rattle.hp_model.specs.pool.Resize.{pool_event, set_nr}
 use Rattle.hp_model.specs.declared.answer.Answer.TheVariants.{Number}
 use Rattle.hp_model.specs.declared.event.PoolEvent.TheVariants.{Nr}
@@ -107,12 +104,6 @@ module _ (start : Pool) (o o2 : Option (List PoolEntry)) (left left2 : Option �
   pub given_back : to_return q < to_return p → IsCore start o2 left2 extra2 q
   given_back less = as_noted (closed left (to_return p) (to_return q) core.places less)
 
-pub section_noted : (start : Pool) (o o2 : Option (List PoolEntry)) (left left2 : Option ℕ) (extra extra2 : ℕ) (p : Pool) (s : Section) (a : PoolAnswer) (q : Pool) → IsCore start o left extra p
-    → o2 ≡ with_entry o (OfSlot s a) → left2 ≡ one_less left → extra2 ≡ extra → section p s ≡ (a, q) → IsReady q → (IsSettled q → IsSettledPool q) →
-    has_room false left extra ≡ true → IsCore start o2 left2 extra2 q
-section_noted start o o2 left left2 extra extra2 p s a q core noted lessens stays step ready law room =
-    entry_noted start o o2 left left2 extra extra2 p (OfSlot s a) q core noted lessens stays step ready law room
-
 -- the pool's seat, once it has an entry more
 pub seated_more : (history : TableId) (start : Pool) (id id2 : TableId) (views views2 : List (List Held)) (o o2 : Option (List PoolEntry)) (p : Pool) (e : PoolEntry) (q : Pool) →
     IsSeated history start id views o p → o2 ≡ with_entry o e → id2 ≡ history → views2 ≡ (PoolPart (pool_in views ++ e ∷ []) ∷ []) ∷ [] → IsPoolStep p e q
@@ -127,6 +118,26 @@ seated_more history start id id2 views views2 o o2 p e q was noted named now ste
     more : (o : Option (List PoolEntry)) → IsTrailOf (pool_in views) o → IsTrailOf (pool_in views ++ e ∷ []) (with_entry o e)
     more None kept = tt
     more (Some es) kept = ap (λ (xs : List PoolEntry). xs ++ e ∷ []) kept
+
+-- the pool and its seat, once an entry was noted
+pub entry_kept : {history : TableId} {start : Pool} {o o2 : Option (List PoolEntry)} {left left2 : Option ℕ} {extra extra2 : ℕ} {p q : Pool}
+    {id id2 : TableId} {views views2 : List (List Held)} (e : PoolEntry)
+    → IsCore start o left extra p × IsSeated history start id views o p → o2 ≡ with_entry o e → left2 ≡ one_less left → extra2 ≡ extra → id2 ≡ history
+    → views2 ≡ (PoolPart (pool_in views ++ e ∷ []) ∷ []) ∷ [] → IsPoolStep p e q → IsReady q → (IsSettled q → IsSettledPool q) → has_room false left extra ≡ true
+    → IsCore start o2 left2 extra2 q × IsSeated history start id2 views2 o2 q
+entry_kept {history} {start} {o} {o2} {left} {left2} {extra} {extra2} {p} {q} {id} {id2} {views} {views2} e was noted lessens stays named now step ready law room = (
+  entry_noted start o o2 left left2 extra extra2 p e q was.0 noted lessens stays step ready law room,
+  seated_more history start id id2 views views2 o o2 p e q was.1 noted named now step,
+)
+
+-- once a section was
+pub section_kept : {history : TableId} {start : Pool} {o o2 : Option (List PoolEntry)} {left left2 : Option ℕ} {extra extra2 : ℕ} {p q : Pool}
+    {id id2 : TableId} {views views2 : List (List Held)} {s : Section} {a : PoolAnswer} (asked : Asked)
+    → IsCore start o left extra p × IsSeated history start id views o p → asked.section ≡ s → asked.answer ≡ a
+    → o2 ≡ with_entry o (OfSlot s a) → left2 ≡ one_less left → extra2 ≡ extra → id2 ≡ history → views2 ≡ (pool_next asked (pool_in views) ∷ []) ∷ [] → section p s ≡ (a, q)
+    → IsReady q → (IsSettled q → IsSettledPool q) → has_room false left extra ≡ true → IsCore start o2 left2 extra2 q × IsSeated history start id2 views2 o2 q
+section_kept {views = views} {s} {a} asked was is answers noted lessens stays named now step ready law room =
+    entry_kept (OfSlot s a) was noted lessens stays named (now ∙ ap (λ (x : PoolEntry). (PoolPart (pool_in views ++ x ∷ []) ∷ []) ∷ []) (λ i. OfSlot (is i) (answers i))) step ready law room
 
 -- the same seat
 pub seated_stays : (history : TableId) (start : Pool) (id id2 : TableId) (views views2 : List (List Held)) (o o2 : Option (List PoolEntry)) (p q : Pool) →
@@ -183,12 +194,13 @@ module _ {X : Type 0} (E : X → Option (List PoolEntry)) (L : X → Option ℕ)
   module _ (counts : List ℕ) (m : ℕ) (same : counts ≡ puts) (falls : m ≡ k) (moved : q ≡ trimmed (released k (puts_from 0 puts p)))
       (stays : sum puts + k ≡ 0 → q ≡ p) (t : Option Asked) (n : IfSome t (λ a. Noted counts m a))
       (none : IfNone t (Unnoted (sum counts + m))) where
-    pub given_noted : (start : Pool) → IsCore start (E old) (L old) (R old) p → IsReady q → (IsSettled q → IsSettledPool q) →
-        (0 < sum puts + k → to_return q < to_return p) → IsCore start (E new) (L new) (R new) q
-    given_noted start core ready law less = keeps start t core moved stays ready law less (noted_as counts m t same falls n) (none_as counts m t same falls none)
-
-    pub given_seated : (history : TableId) (start : Pool) (id id2 : TableId) → IsSeated history start id before (E old) p → id2 ≡ history → IsSeated history start id2 after (E new) q
-    given_seated history start id id2 was named = seats history start id id2 t was named moved stays (noted_as counts m t same falls n) (none_as counts m t same falls none)
+    pub given_kept : {history : TableId} {start : Pool} {id id2 : TableId} → IsCore start (E old) (L old) (R old) p × IsSeated history start id before (E old) p → IsReady q
+        → (IsSettled q → IsSettledPool q) → (0 < sum puts + k → to_return q < to_return p) → id2 ≡ history
+        → IsCore start (E new) (L new) (R new) q × IsSeated history start id2 after (E new) q
+    given_kept {history} {start} {id} {id2} was ready law less named =
+        let some = noted_as counts m t same falls n in
+        let no = none_as counts m t same falls none in
+        (keeps start t was.0 moved stays ready law less some no, seats history start id id2 t was.1 named moved stays some no)
 
     pub given_is : IsGiven puts k (view p old before) (view q new after) t
     given_is = is_given t moved stays (noted_as counts m t same falls n) (none_as counts m t same falls none)

@@ -1,5 +1,5 @@
 -- What a door has once a section was entered.
-use Rattle.std.proofs.Common.{◌≡◌, ◌∷◌, ◌||◌, [], ℕ, Bool, true, false, Option, None, Some, List, refl, ap, arith, subst, sym, ◌∙◌}
+use Rattle.std.proofs.Common.{◌≡◌, ◌∷◌, [], ℕ, Bool, true, false, Option, None, Some, List, refl, ap, arith, subst, sym, ◌∙◌}
 use Rattle.std.specs.Prelude.{is_some}
 use Rattle.std.specs.List.{sum}
 use Rattle.atomic_table.specs.Seated.{TableId}
@@ -12,7 +12,7 @@ use Rattle.hp_model.specs.declared.section.Section.TheVariants.{GiveBack}
 use Rattle.hp_model.specs.files.Page.{Page}
 use Rattle.hp_model.specs.pool.Pool.{granted_at}
 use Rattle.hp_mount_door.specs.Door.{GivesBack, by_node}
-use Rattle.hp_locked.specs.Doors.{IsDoor, NotedView, later}
+use Rattle.hp_locked.specs.Doors.{IsDoor, NotedView}
 use Rattle.hp_locked.specs.Views.{HasAsked, CoreView, DoorView, IsGiven}
 
 -- a seat that is free entered nothing

@@ -1,5 +1,5 @@
 -- What the pool under its lock is to a contract.
-use Rattle.std.specs.Prelude.{[], ◌∷◌, ◌++◌, ◌≡◌, ℕ, ◌+◌, ◌*◌, ◌<◌, ◌≤◌, Option, None, Some, List, length, nat_lt}
+use Rattle.std.specs.Prelude.{[], ◌∷◌, ◌++◌, ◌≡◌, ℕ, ◌+◌, ◌*◌, ◌<◌, ◌≤◌, Bool, true, false, Option, None, Some, List, length, nat_lt}
 use Rattle.std.specs.Bool.{MatchBool}
 use Rattle.std.specs.List.{filter, sum}
 use Rattle.hp_model.specs.declared.entry.Asked.{Asked}
@@ -18,8 +18,8 @@ use Rattle.hp_mount_door.specs.Door.{IsReady}
 use Rattle.hp_subpool.specs.Subpool.{Subpool, rise, with_reserves}
 use Rattle.atomic_table.specs.Seated.{TableId}
 use Rattle.hp_history.specs.declared.held.Held.{Held}
-use Rattle.hp_history.specs.Sections.{pool_in, pool_view}
-use Rattle.hp_trail.specs.Keeping.{with_entry}
+use Rattle.hp_history.specs.Sections.{IsFree, pool_in, pool_view}
+use Rattle.hp_trail.specs.Keeping.{has_room, with_entry}
 
 -- the frames of each node that a machine has: of its four names of nodes those with some
 abbrev pub frames_list : (ℕ → ℕ) → List ℕ
@@ -64,6 +64,23 @@ pub record IsSeated (history : TableId) (start : Pool) (id : TableId) (views : L
   pub run : IsPoolRun start (pool_in views) p
   pub kept : IsTrailOf (pool_in views) entries
 
+-- the pool's seat in the history has its trail
+pub record IsPoolSeat (history : TableId) (id : TableId) (views : List (List Held)) (entries : Option (List PoolEntry)) : Type 0 where
+  pub named : id ≡ history
+  pub one : views ≡ pool_view views ∷ []
+  pub kept : IsTrailOf (pool_in views) entries
+
+-- a session's seat, which waits for nothing
+pub record IsSeat (history : TableId) (id : TableId) (me : List Held × List (ℕ × Unit {0})) : Type 0 where
+  pub named : id ≡ history
+  pub alone : me.1 ≡ []
+
+-- one that entered no section either
+pub record IsFreeSeat (history : TableId) (id : TableId) (me : List Held × List (ℕ × Unit {0})) : Type 0 where
+  pub named : id ≡ history
+  pub free : IsFree me.0
+  pub alone : me.1 ≡ []
+
 -- what is told of the place of an entry
 abbrev pub IsPlace : {E : Type 0} → Option (List E) → ℕ → Type 0
 IsPlace None n = n ≡ 0
@@ -75,6 +92,13 @@ pub record IsSection (old new : CoreView) (asked : Asked) : Type 0 where
   pub run : new.run ≡ old.run ++ OfSlot asked.section asked.answer ∷ []
   pub entries : new.entries ≡ with_entry old.entries (OfSlot asked.section asked.answer)
   pub place : IsPlace old.entries asked.place
+
+-- the trail is full: nothing changed, and the session's seat has entered nothing
+pub record IsFull (keeps : Bool) (old new : CoreView) (me left : List Held × List (ℕ × Unit {0})) : Type 0 where
+  pub full : has_room false old.left old.extra ≡ false
+  pub kept : keeps ≡ true
+  pub same : new ≡ old
+  pub unheard : left ≡ me
 
 -- reservations that the minimum covers: no section
 pub record IsUnasked (k : ℕ) (old new : CoreView) (share left : Subpool) : Type 0 where

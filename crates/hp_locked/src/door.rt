@@ -141,31 +141,24 @@ impl<'a, N: Naming + Places, R: Wait, G: Gate, S: Notes, const K: usize> PoolDoo
     fn get_page(&mut self, share: &mut Subpool<N>, home: usize) -> Result<Page<N>, Refusal> {
         let mine = &mut self.mine;
         let got = hold(self.core, self.rt).get_page(self.history, mine, share, home);
-        match got {
-            Err(_full) => Err(Refusal::TraceFull),
-            Ok((claim, asked)) => match claim {
-                None => {
-                    self.noted.note(Some(asked));
-                    Err(Refusal::NoPages)
-                }
-                Some(claim) => {
-                    self.noted.note(Some(asked));
-                    Ok(self.nodes.redeem(self.rt, self.gate, claim))
-                }
-            },
+        let Ok((claim, asked)) = got else {
+            return Err(Refusal::TraceFull);
+        };
+        self.noted.note(Some(asked));
+        match claim {
+            Some(claim) => Ok(self.nodes.redeem(self.rt, self.gate, claim)),
+            None => Err(Refusal::NoPages),
         }
     }
 
     fn take_page(&mut self, share: &mut Subpool<N>, home: usize) -> Result<Page<N>, Refusal> {
         let mine = &mut self.mine;
         let got = hold(self.core, self.rt).take_page(self.history, mine, share, home);
-        match got {
-            Err(_full) => Err(Refusal::TraceFull),
-            Ok((claim, asked)) => {
-                self.noted.note(Some(asked));
-                Ok(self.nodes.redeem(self.rt, self.gate, claim))
-            }
-        }
+        let Ok((claim, asked)) = got else {
+            return Err(Refusal::TraceFull);
+        };
+        self.noted.note(Some(asked));
+        Ok(self.nodes.redeem(self.rt, self.gate, claim))
     }
 
     fn fill(
@@ -177,19 +170,16 @@ impl<'a, N: Naming + Places, R: Wait, G: Gate, S: Notes, const K: usize> PoolDoo
     ) -> Result<(), Refusal> {
         let mine = &mut self.mine;
         let got = hold(self.core, self.rt).fill(self.history, mine, share, k, count);
-        match got {
-            Err(_full) => Err(Refusal::TraceFull),
-            Ok((parcel, asked)) => match parcel {
-                None => {
-                    self.noted.note(Some(asked));
-                    Err(Refusal::NoPages)
-                }
-                Some(parcel) => {
-                    self.noted.note(Some(asked));
-                    self.nodes.add_pages(self.rt, self.gate, parcel, batch);
-                    Ok(())
-                }
-            },
+        let Ok((parcel, asked)) = got else {
+            return Err(Refusal::TraceFull);
+        };
+        self.noted.note(Some(asked));
+        match parcel {
+            Some(parcel) => {
+                self.nodes.add_pages(self.rt, self.gate, parcel, batch);
+                Ok(())
+            }
+            None => Err(Refusal::NoPages),
         }
     }
 

@@ -1,11 +1,11 @@
 //! Entries of the pool's trail.
 ghost use Rattle.std.specs.Prelude.{◌≡◌, ◌∷◌, [], length, true, Some};
 ghost use Rattle.hp_history.specs.History.{IsSession};
-ghost use Rattle.hp_history.specs.Sections.{IsEntered, IsFree, pool_in, pool_next, pool_receipt, pool_view, pool_with, told_more};
+ghost use Rattle.hp_history.specs.Sections.{IsEntered, pool_in, pool_next, pool_receipt, pool_with, told_more};
 ghost use Rattle.hp_model.specs.declared.entry.PoolEntry.TheVariants.{OfPool, OfSlot};
 ghost use Rattle.hp_trail.specs.Keeping.{has_room, one_less, with_entry};
 ghost use Rattle.hp_locked.specs.Told.{pool_reply};
-ghost use Rattle.hp_locked.specs.Views.{IsPlace, IsTrailOf};
+ghost use Rattle.hp_locked.specs.Views.{IsFreeSeat, IsPlace, IsPoolSeat, IsSeat};
 
 use crate::pool_told::PoolTold;
 use atomic_table::Badge;
@@ -27,12 +27,8 @@ pub(crate) fn note<N: Places, T: Trail<PoolEntry>>(
     answer: PoolAnswer,
 ) -> Asked
     requires room { has_room true (T.left trail.old) (T.extra trail.old) ≡ true }
-    requires pool { seat.old.table_id ≡ N.history }
-    requires one { seat.old.views ≡ pool_view seat.old.views ∷ [] }
-    requires kept { IsTrailOf (pool_in seat.old.views) (T.entries trail.old) }
-    requires named { mine.old.table_id ≡ N.history }
-    requires free { IsFree mine.old.me.0 }
-    requires alone { mine.old.me.1 ≡ [] }
+    requires pool { IsPoolSeat N.history seat.old.table_id seat.old.views (T.entries trail.old) }
+    requires mine { IsFreeSeat N.history mine.old.table_id mine.old.me }
     ensures entries { T.entries trail.new
         ≡ with_entry (T.entries trail.old) (OfSlot section answer) }
     ensures left { T.left trail.new ≡ one_less (T.left trail.old) }
@@ -42,9 +38,8 @@ pub(crate) fn note<N: Places, T: Trail<PoolEntry>>(
     ensures answer { result.answer ≡ answer }
     ensures pool { seat.new.table_id ≡ N.history }
     ensures run { seat.new.views ≡ (pool_next result (pool_in seat.old.views) ∷ []) ∷ [] }
-    ensures named { mine.new.table_id ≡ N.history }
+    ensures mine { IsSeat N.history mine.new.table_id mine.new.me }
     ensures entered { IsEntered T.keeps mine.old.me.0 (Some result) mine.new.me.0 }
-    ensures alone { mine.new.me.1 ≡ [] }
 {
     let place = trail.place();
     trail.push(PoolEntry::OfSlot { section, answer });
@@ -68,12 +63,9 @@ pub(crate) fn note_event<N: Places, T: Trail<PoolEntry>>(
     told: PoolTold,
 ) -> u64
     requires room { has_room true (T.left trail.old) (T.extra trail.old) ≡ true }
-    requires pool { seat.old.table_id ≡ N.history }
-    requires one { seat.old.views ≡ pool_view seat.old.views ∷ [] }
-    requires kept { IsTrailOf (pool_in seat.old.views) (T.entries trail.old) }
-    requires named { mine.old.table_id ≡ N.history }
+    requires pool { IsPoolSeat N.history seat.old.table_id seat.old.views (T.entries trail.old) }
+    requires mine { IsSeat N.history mine.old.table_id mine.old.me }
     requires session { IsSession mine.old.me.0 }
-    requires alone { mine.old.me.1 ≡ [] }
     ensures entries { T.entries trail.new ≡ with_entry (T.entries trail.old)
         (OfPool event (pool_reply told)) }
     ensures left { T.left trail.new ≡ one_less (T.left trail.old) }

@@ -161,6 +161,6 @@ changed_next f rows now i y below is y_is =
     ∙ sym (append_assoc pre (f x ∷ []) post)
     ∙ ap (λ l. l ++ post) more
 
--- a list whose elements were all written
-pub written : {X : Type 0} (n : ℕ) (new old : List X) → length new ≡ n → take n (new ++ drop (length new) old) ≡ new
-written n new old e = take-append-le n new (drop (length new) old) (omega arith) ∙ take_all n new (omega arith)
+-- the nodes, once each was changed
+pub each_written : (f : NodeRow → NodeRow) (n : ℕ) (new mid old : List NodeRow) → length new ≡ n → new ≡ map f mid → mid ≡ old → take n (new ++ drop (length new) old) ≡ map f old
+each_written f n new mid old long is same = take-append-le n new (drop (length new) old) (omega arith) ∙ take_all n new (omega arith) ∙ is ∙ ap (map f) same

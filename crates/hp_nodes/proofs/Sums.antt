@@ -1,9 +1,10 @@
 -- How the sums over the nodes change where so many moves are made at one.
 use Rattle.std.proofs.Common.{ℕ, ◌≡◌, ◌+◌, ◌<◌, ◌≤◌, List, [], ◌∷◌, length, arith}
+use Rattle.std.specs.Fn.{iterate}
 use Rattle.std.specs.Prelude.{slice_set}
 use Rattle.std.proofs.lemmas.List.Sums.{sum_by-set, get_or-le-sum_by}
 use Rattle.hp_model.specs.declared.node.NodeRow.{NodeRow}
-use Rattle.hp_model.specs.pool.NodeRows.{row_at, no_row, sum_row, frames_of, total_of, free_of, surp_of}
+use Rattle.hp_model.specs.pool.NodeRows.{NodeRows, row_at, no_row, sum_row, frames_of, total_of, free_of, surp_of}
 use Rattle.hp_nodes.specs.Ledgers.{all_frames}
 use Rattle.hp_nodes.specs.Moves.{take_by, put_by, grow_by, shrink_by, add_surplus_by, give_back_by, promote_by, demote_by}
 
@@ -12,6 +13,15 @@ row a b c d = record { frames = a; total = b; free = c; surp = d }
 
 pub same_row : (a b c d e f g h : ℕ) → a ≡ e → b ≡ f → c ≡ g → d ≡ h → row a b c d ≡ row e f g h
 same_row a b c d e f g h p q r s = cc
+
+-- so many of the moves that were asked for are done, and the sums moved as one row does
+pub record AreDone (step : NodeRows → NodeRows) (by : ℕ → NodeRow → NodeRow) (done count : ℕ) (old new : NodeRows) : Type 0 where
+  pub within : done ≤ count
+  pub moved : new ≡ iterate step done old
+  pub frames : frames_of new.rows ≡ (by done (sum_row old.rows)).frames
+  pub total : total_of new.rows ≡ (by done (sum_row old.rows)).total
+  pub free : free_of new.rows ≡ (by done (sum_row old.rows)).free
+  pub surp : surp_of new.rows ≡ (by done (sum_row old.rows)).surp
 
 -- a row is moved by some numbers, and so are the sums
 sums_as : (rows : List NodeRow) (i : ℕ) (y sums : NodeRow) → i < length rows

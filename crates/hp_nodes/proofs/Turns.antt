@@ -230,10 +230,10 @@ is_shrink = record {
 }
 
 -- so many rounds from behind a node, by an index
-rounds_at : (kind : Kind) (g : NodeRow → NodeRow) (by : ℕ → NodeRow → NodeRow) → IsMany kind g by → (r at : ℕ) (rows : List NodeRow) →
-    at < length rows → 0 < amount kind (row_at rows at) → All (HasMany kind r) rows
-    → iterate (turn kind g) (r * count_by (has kind) rows) (rows, next_node at rows) ≡ (map (where_has kind (by r)) rows, next_node at rows)
-rounds_at kind g by m r at rows below some enough =
+rounds_at : (kind : Kind) (g : NodeRow → NodeRow) (by : ℕ → NodeRow → NodeRow) → IsMany kind g by → (r at : ℕ) (rows : List NodeRow) (c : ℕ) → c ≡ next_node at rows
+    → at < length rows → 0 < amount kind (row_at rows at) → All (HasMany kind r) rows
+    → iterate (turn kind g) (r * count_by (has kind) rows) (rows, c) ≡ (map (where_has kind (by r)) rows, c)
+rounds_at kind g by m r at rows c behind below some enough =
     let pre = take at rows in
     let x = row_at rows at in
     let post = drop (at + 1) rows in
@@ -241,23 +241,17 @@ rounds_at kind g by m r at rows below some enough =
     let size : length pre ≡ at = length-take-le at rows (omega arith) in
     let P : List NodeRow → ℕ → Type 0 = λ l i. All (HasMany kind r) l → iterate (turn kind g) (r * count_by (has kind) l) (l, next_node i l) ≡ (map (where_has kind (by r)) l, next_node i l) in
     let whole : P (pre ++ x ∷ post) (length pre) = rounds kind g by m r pre x post (amount_has kind x some) in
-    subst (P rows) size (subst (λ l. P l (length pre)) split whole) enough
+    rw behind (subst (P rows) size (subst (λ l. P l (length pre)) split whole) enough)
 
 -- so many more at each node that has any, behind whom the cursor stands
 pub rounds_grown : (s : NodeRows) (r at : ℕ) → s.growth ≡ next_node at s.rows → at < length s.rows → 0 < amount Idle (row_at s.rows at) → All (HasMany Idle r) s.rows
     → iterate grown (r * count_by (has Idle) s.rows) s ≡ record s { rows = map (where_has Idle (grow_by r)) s.rows }
 rounds_grown s r at behind below some enough =
-    let n = r * count_by (has Idle) s.rows in
-    let all : iterate (turn Idle grow_row) n (s.rows, s.growth) ≡ (map (where_has Idle (grow_by r)) s.rows, s.growth) =
-    ap (λ c. iterate (turn Idle grow_row) n (s.rows, c)) behind ∙ rounds_at Idle grow_row grow_by is_grow r at s.rows below some enough
-    ∙ ap (λ c. (map (where_has Idle (grow_by r)) s.rows, c)) (sym behind) in
-    grown_are n s ∙ ap (λ t. record s { rows = t.0; growth = t.1 }) all
+    grown_are (r * count_by (has Idle) s.rows) s
+    ∙ ap (λ (t : Turn). record s { rows = t.0; growth = t.1 }) (rounds_at Idle grow_row grow_by is_grow r at s.rows s.growth behind below some enough)
 
 pub rounds_shrunk : (s : NodeRows) (r at : ℕ) → s.release ≡ next_node at s.rows → at < length s.rows → 0 < amount Free (row_at s.rows at) → All (HasMany Free r) s.rows
     → iterate shrunk (r * count_by (has Free) s.rows) s ≡ record s { rows = map (where_has Free (shrink_by r)) s.rows }
 rounds_shrunk s r at behind below some enough =
-    let n = r * count_by (has Free) s.rows in
-    let all : iterate (turn Free shrink_row) n (s.rows, s.release) ≡ (map (where_has Free (shrink_by r)) s.rows, s.release) =
-    ap (λ c. iterate (turn Free shrink_row) n (s.rows, c)) behind ∙ rounds_at Free shrink_row shrink_by is_shrink r at s.rows below some enough
-    ∙ ap (λ c. (map (where_has Free (shrink_by r)) s.rows, c)) (sym behind) in
-    shrunk_are n s ∙ ap (λ t. record s { rows = t.0; release = t.1 }) all
+    shrunk_are (r * count_by (has Free) s.rows) s
+    ∙ ap (λ (t : Turn). record s { rows = t.0; release = t.1 }) (rounds_at Free shrink_row shrink_by is_shrink r at s.rows s.release behind below some enough)

@@ -1,11 +1,10 @@
 -- What is said where something went wrong.
-use Rattle.std.proofs.Common.{◌≡◌, ◌++◌, ℕ, List, codes, refl, sym, ap, append_assoc, ◌∙◌, Option, Some, Result, Ok, Err, OnOk, IfErr, IsOk, true, false, arith}
+use Rattle.std.proofs.Common.{◌≡◌, ◌++◌, ℕ, List, codes, refl, sym, ap, append_assoc, ◌∙◌, Option, Some, Result, Ok, Err, OnOk, arith}
 use Rattle.std.proofs.lemmas.Option.{none-some}
 use Rattle.std.specs.Io.KnownBytes.{Appends}
 use Rattle.clap.specs.Values.{kind_of}
 use Rattle.clap.specs.declared.error.Error.{Error}
 use Rattle.hp_model.specs.run.Ran.{AppendsFront}
-use Rattle.hp_wire.specs.Sent.{IsWriteCut}
 use Rattle.hp_model.specs.run.Served.{text_of_fault}
 use Rattle.hp_model.specs.declared.fault.RunFault.{RunFault}
 use Rattle.hp_model.specs.declared.fault.RunFault.TheVariants as fault

@@ -22,8 +22,8 @@ use Rattle.hp_serving.specs.declared.host.Closed.{Closed}
 use Rattle.hp_serving.specs.declared.sessions.Ended.{Ended}
 use Rattle.hp_closing.specs.Joined.{WasJoined}
 use Rattle.hp_closing.specs.OneRun.{WasOneRun}
-use Rattle.hp_words.specs.Asked.{AsksForScript, AsksToServe, IsRefusedFor, hugetlbd}
-use Rattle.hp_words.specs.Config.{IsMachineWithin, IsServing, MachineChoice, chosen}
+use Rattle.hp_words.specs.Asked.{hugetlbd}
+use Rattle.hp_words.specs.Config.{MachineChoice, chosen}
 use Rattle.hp_words.specs.declared.config.TheConstants.{HELP, VERSION}
 use Rattle.hp_words.specs.declared.settings.Serving.{Serving}
 use Rattle.hp_words.specs.declared.settings.Wrong.{Wrong}

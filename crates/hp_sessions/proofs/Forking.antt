@@ -1,8 +1,9 @@
 -- Forks and exits, slot after slot.
-use Rattle.std.proofs.Common.{◌≡◌, ℕ, zero, suc, ◌+◌, ◌-◌, ◌<◌, ◌≤◌, Bool, true, false, cond, List, [], ◌∷◌, ◌++◌, Ok, Err, Option, None, Some, is_some, length, refl, sym, ap, subst, ◌∙◌, arith}
+use Rattle.std.proofs.Common.{◌≡◌, ℕ, zero, suc, ◌+◌, ◌-◌, ◌<◌, ◌≤◌, Bool, true, false, cond, List, [], ◌∷◌, ◌++◌, Ok, Err, length, refl, sym, ap, subst, ◌∙◌, arith}
 use Rattle.std.specs.Bool.{MatchBool}
 use Rattle.std.specs.List.{filter, range_with_len, slice_index_or, slice_set}
-use Rattle.std.proofs.lemmas.List.{append-nil, get_or-set_other, get_or-set_same}
+use Rattle.std.proofs.lemmas.List.FromFn.{map-range_with_len_more}
+use Rattle.std.proofs.lemmas.List.{append-nil, get_or-set_other, get_or-set_same, map-id}
 use Rattle.std.proofs.lemmas.List.Elements.{filter-append}
 use Rattle.hp_model.specs.declared.answer.Answer.{Answer}
 use Rattle.hp_model.specs.declared.answer.Answer.TheVariants.{Done}
@@ -11,10 +12,9 @@ use Rattle.hp_model.specs.declared.event.SlotEvent.TheVariants.{ExitMaps, ForkMa
 use Rattle.hp_model.specs.declared.event.TableEvent.{TableEvent}
 use Rattle.hp_model.specs.declared.event.TableEvent.TheVariants.{FindAndAdd, Remove}
 use Rattle.hp_model.specs.declared.refusal.Refusal.{Refusal}
-use Rattle.hp_model.specs.declared.refusal.Refusal.TheVariants.{TaskExists, TooMany, TraceFull}
+use Rattle.hp_model.specs.declared.refusal.Refusal.TheVariants.{TraceFull}
 use Rattle.hp_model.specs.machine.Plan.{Reply}
 use Rattle.hp_model.specs.machine.Step.{Answer_with, Do, Script, exit_slot, exit_slots, fork_slots, or_undone, undone, when_done}
-use Rattle.hp_model.specs.machine.Table.{Table, added, home_of, is_crowded, is_known, or_refused, table_event, when_known}
 use Rattle.hp_events.specs.Replies.{is_trace_full, table_reply}
 use Rattle.hp_events.specs.declared.table_told.TableTold.{TableTold}
 use Rattle.hp_events.specs.declared.table_told.TableTold.TheVariants as told
@@ -24,14 +24,8 @@ use Rattle.hp_sessions.specs.Forks.{IsForked, marked_below}
 use Rattle.hp_sessions.proofs.Carrying.{ends, goes_on, is_full, made_by, refused_made, same_as, stops, where_mapped, where_other}
 use Rattle.hp_laws.proofs.keeping.Homes.{child_is_another}
 
-range_more : (a n : ℕ) → range_with_len a (suc n) ≡ range_with_len a n ++ (a + n) ∷ []
-range_more a zero = ap (λ k. k ∷ []) {x = a} {y = a + 0} (omega arith)
-range_more a (suc n) =
-    let next : (a + 1) + n ≡ a + suc n = omega arith in
-    ap (λ ks. a ∷ ks) (range_more (a + 1) n ∙ ap (λ k. range_with_len (a + 1) n ++ k ∷ []) next)
-
 pub first_more : (n : ℕ) → range_with_len 0 (n + 1) ≡ range_with_len 0 n ++ n ∷ []
-first_more n = ap (range_with_len 0) {x = n + 1} {y = suc n} (omega arith) ∙ range_more 0 n ∙ ap (λ k. range_with_len 0 n ++ k ∷ []) {x = 0 + n} {y = n} (omega arith)
+first_more n = simp map-id at (map-range_with_len_more (λ (k : ℕ). k) 0 n n (omega arith))
 
 -- ---- which slots were done
 

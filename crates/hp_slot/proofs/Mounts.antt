@@ -120,10 +120,17 @@ module _ {X : Type 0} (took : X → Section → PoolAnswer → X → Type 0) (fu
         subst (λ n. Gives (mount_outcome choice a (means n)) None (told got) (left_of got)) (sym same) goes.1,
       )
 
-  pub mounted : (k : ℕ) (got : Result (Subpool × Limits) Refusal) → IsOpenedAt took full size text d e got → IsDone took full size k None d (Mounting text) (told got) (left_of got) e
+  mounted : (k : ℕ) (got : Result (Subpool × Limits) Refusal) → IsOpenedAt took full size text d e got → IsDone took full size k None d (Mounting text) (told got) (left_of got) e
   mounted k (Ok got) o = (choice, is_fresh false None, through k (Ok got) o.0 o.1 o.2 o.3 o.4)
   mounted k (Err r.TraceFull) o = (refl, o, (choice, is_fresh false None, tt))
   mounted k (Err other) o = (choice, is_fresh false None, through k (Err other) o.0 o.1 o.2 o.3 o.4)
+
+  -- so on a slot that had none, by what was got
+  pub mounted_on : (k : ℕ) (old new : Slot) (got result : Result (Subpool × Limits) Refusal) → old ≡ None → new ≡ left_of got → result ≡ got → IsOpenedAt took full size text d e result
+      → IsDone took full size k old d (Mounting text) (told got) new e
+  mounted_on k old new got result none is same o =
+      subst (λ x. IsDone took full size k x d (Mounting text) (told got) new e) (sym none)
+      (subst (λ x. IsDone took full size k None d (Mounting text) (told got) x e) (sym is) (mounted k got (subst (λ r. IsOpenedAt took full size text d e r) same o)))
 
   -- ---- what a door opened
 

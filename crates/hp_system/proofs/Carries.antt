@@ -2,17 +2,17 @@
 use Rattle.std.proofs.Common.{◌≡◌, ℕ, ◌<◌, false, List, Err, Ok, None, length, refl, sym, ◌∙◌, ap, subst, arith, IsTrue}
 use Rattle.std.specs.Prelude.{nat_lt, slice_index_or, slice_set}
 use Rattle.std.proofs.lemmas.Bool.Decides.{nat_tests}
-use Rattle.std.proofs.lemmas.List.{length-map, set-get_or}
+use Rattle.std.proofs.lemmas.List.{set-get_or}
 use Rattle.hp_model.specs.declared.event.Event.TheVariants.{Slot as OnSlot, Pool as OnPool}
 use Rattle.hp_model.specs.declared.event.PoolEvent.{PoolEvent}
 use Rattle.hp_model.specs.declared.event.SlotEvent.{SlotEvent}
 use Rattle.hp_model.specs.declared.refusal.Refusal.TheVariants as refusal
 use Rattle.hp_model.specs.machine.Event.{CanHappen, IsEvent, IsFresh, after, asked_pool, is_slot_event, planned, with_outcome}
 use Rattle.hp_model.specs.threads.LocalRun.{Gives, ThroughDoor}
-use Rattle.hp_model.specs.machine.Machine.{node_of, pool_of, with_pool}
+use Rattle.hp_model.specs.machine.Machine.{pool_of, with_pool}
 use Rattle.hp_model.specs.machine.Plan.{Reply, Slot, Outcome, Refused, Answered, Plan, Finish, Ask, Choice}
 use Rattle.hp_model.specs.pool.Pool.{section}
-use Rattle.hp_model.specs.pool.PoolCounts.{Pool, IsSettled}
+use Rattle.hp_model.specs.pool.PoolCounts.{Pool}
 use Rattle.hp_model.specs.pool.Resize.{pool_event}
 use Rattle.hp_model.specs.machine.Settled.{IsSettledState}
 use Rattle.hp_model.specs.machine.SlotEvent.{slot_event}
@@ -32,6 +32,7 @@ use Rattle.hp_mount_door.specs.Door.{IsReady as IsReadyPool}
 use Rattle.hp_system.specs.Event.{IsCarried, took}
 use Rattle.hp_model.specs.machine.Ready.{machine_of, state_of, IsReadyMachine, Machine}
 use Rattle.hp_system.specs.Sized.{IsSized}
+use Rattle.hp_system.proofs.Ready.{ready_pool}
 
 abbrev pub calm : Choice
 calm = record { stamp = 0; refused = false; after_grant = false }
@@ -151,14 +152,7 @@ module _ (size bytes : ℕ) (t : Table) where
 
   -- the pool is ready for a section
   pub ready : (xs : List Slot) (p : Pool) → IsKept size bytes t xs p → IsReadyPool p
-  ready xs p kept =
-      let it = kept.settled.pool in
-      let total = it.total in
-      let surplus = it.surplus in
-      let nodes = kept.settled.nodes in
-      let same = length-map p.nodes.rows node_of in
-      let here : IsSettled (pool_of (state_of size t xs p)) = omega (arith, total, surplus) in
-      record { settled = subst (λ (x : Pool). IsSettled x) kept.tied here; nodes = omega (arith, nodes, same) }
+  ready xs p kept = ready_pool (machine_of size t xs p) (ready_by kept)
 
 -- ---- what a step asks of a mount
 
@@ -188,9 +182,3 @@ work_happens work.Umount slot plain = refl
 work_happens (work.Fork parent child) slot plain = cc
 work_happens (work.Exit task) slot plain = cc
 work_happens (work.OfMount home e) slot plain = happens home e slot
-
--- the task table is no part of it
-pub kept_with_table : (size bytes : ℕ) (t u : Table) (xs : List Slot) (p : Pool) → IsKept size bytes t xs p → IsKept size bytes u xs p
-kept_with_table size bytes t u xs p kept =
-    let st = kept.settled in
-    record { size = kept.size; some = kept.some; tied = kept.tied; settled = record { pool = st.pool; used = st.used; homed = st.homed; slots = st.slots; nodes = st.nodes } }

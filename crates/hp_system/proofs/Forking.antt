@@ -1,5 +1,5 @@
 -- A fork, slot after slot, and its undoing.
-use Rattle.std.proofs.Common.{◌≡◌, ℕ, zero, suc, ◌+◌, ◌<◌, ◌≤◌, Bool, true, false, cond, List, [], ◌∷◌, ◌++◌, Err, Ok, Some, None, Option, length, refl, sym, ap, subst, ◌∙◌, arith, is_some}
+use Rattle.std.proofs.Common.{◌≡◌, ℕ, zero, suc, ◌+◌, ◌<◌, ◌≤◌, Bool, true, false, cond, List, [], ◌∷◌, ◌++◌, Err, Ok, Some, None, length, refl, sym, ap, subst, ◌∙◌, arith}
 use Rattle.std.specs.Bool.{MatchBool}
 use Rattle.std.specs.List.{filter, range_with_len, slice_index_or, slice_set}
 use Rattle.std.proofs.lemmas.List.{get_or-set_other, get_or-set_same}
@@ -11,7 +11,6 @@ use Rattle.hp_model.specs.declared.event.SlotEvent.{SlotEvent}
 use Rattle.hp_model.specs.declared.event.SlotEvent.TheVariants.{ForkMaps}
 use Rattle.hp_model.specs.declared.event.TableEvent.TheVariants as table
 use Rattle.hp_model.specs.declared.refusal.Refusal.{Refusal}
-use Rattle.hp_model.specs.declared.refusal.Refusal.TheVariants.{TaskExists, TooMany}
 use Rattle.hp_model.specs.declared.step.Step.TheVariants.{Fork}
 use Rattle.hp_model.specs.files.Fork.{forked}
 use Rattle.hp_model.specs.machine.Event.{IsEvent, has_maps_of}
@@ -19,7 +18,6 @@ use Rattle.hp_model.specs.machine.Plan.{Answered, Choice, Finish, Ask, Outcome, 
 use Rattle.hp_model.specs.machine.Settled.{IsSettledState}
 use Rattle.hp_model.specs.machine.SlotEvent.{fork_tests, slot_event}
 use Rattle.hp_model.specs.machine.State.{State, slot_at}
-use Rattle.hp_model.specs.machine.Table.{Table, added, home_of, is_crowded, is_known, or_refused, table_event, when_known}
 use Rattle.hp_model.specs.machine.Step.{Do, IsScript, IsStep, Script, fork_slots, or_undone, undone}
 use Rattle.hp_laws.specs.Balance.{Always, left_by}
 use Rattle.hp_laws.proofs.steps.Outcomes.{event_ends, reply_of}

@@ -1,12 +1,12 @@
 -- Steps of the machine, by what its parts do. The code's values enter as variables with equations.
-use Rattle.std.proofs.Common.{◌≡◌, ℕ, zero, suc, ◌+◌, ◌-◌, ◌<◌, ◌≤◌, take, replicate, true, false, cond, List, [], ◌∷◌, ◌++◌}
+use Rattle.std.proofs.Common.{◌≡◌, ℕ, ◌+◌, ◌<◌, ◌≤◌, true, false, cond, List, [], ◌∷◌, ◌++◌}
 use Rattle.std.proofs.Common.{Option, Ok, Err, None, Some, length, map, not, ◌==◌, Bool, refl, sym, ◌∙◌, ap, subst, arith, IsTrue}
 use Rattle.std.specs.Bool.{MatchBool}
 use Rattle.std.specs.List.{find, range_with_len}
 use Rattle.std.specs.Option.{option_map}
 use Rattle.std.specs.Prelude.{nat_le, nat_lt, slice_index_or, slice_set}
-use Rattle.std.proofs.lemmas.List.{get_or_default, length-map, set-get_or, take-replicate, take_all}
-use Rattle.std.proofs.Math.Seq.{take-append-add}
+use Rattle.std.proofs.lemmas.List.FromFn.{map-range_with_len_more}
+use Rattle.std.proofs.lemmas.List.{get_or_default, set-get_or, map-id}
 use Rattle.std.proofs.lemmas.Bool.Decides.{nat_tests}
 use Rattle.std.proofs.lemmas.Grind.{common_steps}
 use Rattle.hp_model.specs.declared.answer.Answer.{Answer}
@@ -27,9 +27,8 @@ use Rattle.hp_model.specs.machine.Machine.{pool_of, node_of}
 use Rattle.hp_model.specs.machine.Plan.{Reply, Slot}
 use Rattle.hp_model.specs.Profile.{most_overcommit}
 use Rattle.hp_model.specs.pool.PoolCounts.{Pool}
-use Rattle.hp_model.specs.pool.Resize.{no_count, node_count, node_counts, pool_event, set_nr}
+use Rattle.hp_model.specs.pool.Resize.{pool_event, set_nr}
 use Rattle.hp_laws.proofs.sections.PoolTied.{pool_back}
-use Rattle.hp_model.specs.declared.answer.NodeCount.{NodeCount}
 use Rattle.hp_model.specs.machine.State.{State, slot_at}
 use Rattle.hp_model.specs.machine.Step.{Script, Answer_with, Do, exit_slot, exit_slots, on_slot, only, finding, IsScript, IsStep}
 use Rattle.hp_model.specs.machine.Table.{Table, table_event, home_of, removed, when_known}
@@ -37,7 +36,8 @@ use Rattle.hp_model.specs.machine.SlotEvent.{slot_event}
 use Rattle.hp_mount_laws.specs.Done.{IsDone}
 use Rattle.hp_system.specs.Event.{AreExited, IsCarried, took}
 use Rattle.hp_model.specs.machine.Ready.{IsReadyMachine, machine_of, state_of, Machine}
-use Rattle.hp_system.proofs.Carries.{calm, event_done, kept_after, never_full, ready_by, slot_in, IsKept}
+use Rattle.hp_system.specs.Sized.{IsSized}
+use Rattle.hp_system.proofs.Carries.{calm, event_done, kept_after, kept_by, kept_by_pool, never_full, ready_by, slot_in, IsKept}
 
 same_length : (p : Pool) → length (map node_of p.nodes.rows) ≡ length p.nodes.rows
 same_length p = grind (arith, common_steps)
@@ -55,22 +55,14 @@ module _ (size : ℕ) (t : Table) (slots : List Slot) (p : Pool) where
       (calm, tt, subst (λ x. with_pool_reply s (pool_event x e) ≡ (reply, state_of size t slots q)) (sym tie) (ap (λ x. (x.0, state_of size t slots x.1)) h))
 
   -- an event of the pool, which is the whole of its step
-  pub pool_goes : (e : PoolEvent) (reply : Reply) (q : Pool) (s : State) → pool_of (state_of size t slots p) ≡ p → pool_event p e ≡ (reply, q)
+  pool_goes : (e : PoolEvent) (reply : Reply) (q : Pool) (s : State) → pool_of (state_of size t slots p) ≡ p → pool_event p e ≡ (reply, q)
       → state_of size t slots p ≡ s → IsScript s (only (OnPool e)) reply (state_of size t slots q)
   pool_goes e reply q s tie h s_is =
       subst (λ x. IsScript x (only (OnPool e)) reply (state_of size t slots q)) s_is (only_is (state_of size t slots p) (state_of size t slots q) (OnPool e) reply (pool_event_is e reply q tie h))
 
-  pub pool_told : (e : PoolEvent) (reply : Reply) (s : State) → pool_of (state_of size t slots p) ≡ p → pool_event p e ≡ (reply, p)
+  pool_told : (e : PoolEvent) (reply : Reply) (s : State) → pool_of (state_of size t slots p) ≡ p → pool_event p e ≡ (reply, p)
       → state_of size t slots p ≡ s → IsScript s (only (OnPool e)) reply s
   pool_told e reply s tie h s_is = subst (λ x. IsScript s (only (OnPool e)) reply x) s_is (pool_goes e reply p s tie h s_is)
-
-  pub nr_event : (n : ℕ) (q : Pool) (r : ℕ) → q ≡ set_nr n p → r ≡ q.nr → pool_event p (pool.Nr n) ≡ (Ok (Number r), q)
-  nr_event n q r q_is r_is = ap (λ x. (Ok (Number x.nr), x)) (sym q_is) ∙ ap (λ x. (Ok (Number x), q)) (sym r_is)
-
-  pub overcommit_event : (n : ℕ) (q : Pool) → n ≤ most_overcommit → q ≡ record p { overcommit = n } → pool_event p (pool.Overcommit n) ≡ (Ok Done, q)
-  overcommit_event n q few q_is =
-      let within : nat_le n most_overcommit ≡ true = grind (arith, nat_tests, few) in
-      ap (λ b. cond b (Ok Done, record p { overcommit = n }) (Err OutOfRange, p)) within ∙ ap (λ x. (Ok Done, x)) (sym q_is)
 
   -- ---- the task table
 
@@ -80,10 +72,42 @@ module _ (size : ℕ) (t : Table) (slots : List Slot) (p : Pool) where
       (calm, tt, subst (λ n. with_table s (table_event n t e) ≡ (reply, state_of size u slots p)) (sym (same_length p)) (ap (λ x. (x.0, state_of size x.1 slots p)) h))
 
   -- an event of the task table, as a script's first
-  pub table_goes : (e : TableEvent) (reply : Reply) (u : Table) (nodes : ℕ) (s : State) → nodes ≡ length p.nodes.rows → table_event nodes t e ≡ (reply, u)
+  table_goes : (e : TableEvent) (reply : Reply) (u : Table) (nodes : ℕ) (s : State) → nodes ≡ length p.nodes.rows → table_event nodes t e ≡ (reply, u)
       → state_of size t slots p ≡ s → IsEvent s (Tasks e) reply (state_of size u slots p)
   table_goes e reply u nodes s count h s_is =
       subst (λ x. IsEvent x (Tasks e) reply (state_of size u slots p)) s_is (table_event_is e reply u (subst (λ n. table_event n t e ≡ (reply, u)) count h))
+
+pub nr_event : (p : Pool) (n : ℕ) (q : Pool) (r : ℕ) → q ≡ set_nr n p → r ≡ q.nr → pool_event p (pool.Nr n) ≡ (Ok (Number r), q)
+nr_event p n q r q_is r_is = ap (λ x. (Ok (Number x.nr), x)) (sym q_is) ∙ ap (λ x. (Ok (Number x), q)) (sym r_is)
+
+pub overcommit_event : (p : Pool) (n : ℕ) (q : Pool) → n ≤ most_overcommit → q ≡ record p { overcommit = n } → pool_event p (pool.Overcommit n) ≡ (Ok Done, q)
+overcommit_event p n q few q_is =
+    let within : nat_le n most_overcommit ≡ true = grind (arith, nat_tests, few) in
+    ap (λ b. cond b (Ok Done, record p { overcommit = n }) (Err OutOfRange, p)) within ∙ ap (λ x. (Ok Done, x)) (sym q_is)
+
+-- an event of the pool of a machine
+module _ {size : ℕ} {t : Table} {xs : List Slot} {p q : Pool} {m : Machine} {reply : Reply} (e : PoolEvent) (is : machine_of size t xs p ≡ m) (r : IsReadyMachine m)
+    (h : pool_event p e ≡ (reply, q)) where
+  tied : pool_of (state_of size t xs p) ≡ p
+  tied = (subst IsReadyMachine (sym is) r).tied
+
+  s_is : state_of size t xs p ≡ m.state
+  s_is = ap (λ (x : Machine). x.state) is
+
+  pub pool_went : IsScript m.state (only (OnPool e)) reply (state_of size t xs q)
+  pool_went = pool_goes size t xs p e reply q m.state tied h s_is
+
+  -- that leaves it as it was
+  pub pool_saw : q ≡ p → IsScript m.state (only (OnPool e)) reply m.state
+  pool_saw same = pool_told size t xs p e reply m.state tied (h ∙ ap (λ x. (reply, x)) same) s_is
+
+  pub pool_leaves : {bytes : ℕ} → IsSized size bytes → IsReadyMachine (machine_of size t xs q)
+  pool_leaves {bytes} sized = ready_by (kept_by_pool size bytes t xs p q e reply (kept_by m sized is r) h)
+
+-- an event of the task table of a machine
+pub table_went : {size nodes : ℕ} {t u : Table} {xs : List Slot} {p : Pool} {m : Machine} {reply : Reply} (e : TableEvent) → machine_of size t xs p ≡ m
+    → nodes ≡ length p.nodes.rows → table_event nodes t e ≡ (reply, u) → IsEvent m.state (Tasks e) reply (state_of size u xs p)
+table_went {size} {nodes} {t} {u} {xs} {p} {m} {reply} e is count h = table_goes size t xs p e reply u nodes m.state count h (ap (λ (x : Machine). x.state) is)
 
 -- ---- the pool
 
@@ -137,14 +161,8 @@ leaves_there s t k task r some goes next reply u h =
     subst (λ b. MatchBool b (IsScript s (Do (OnSlot k (slot.ExitMaps task)) (λ r. next)) reply u) (IsScript s next reply u)) (sym some) (r, t, goes, h)
 
 -- one number after others
-range_more : (a n : ℕ) → range_with_len a (suc n) ≡ range_with_len a n ++ (a + n) ∷ []
-range_more a zero = ap (λ k. k ∷ []) {x = a} {y = a + 0} (omega arith)
-range_more a (suc n) =
-    let next : a + 1 + n ≡ a + suc n = omega arith in
-    ap (λ ks. a ∷ ks) (range_more (a + 1) n ∙ ap (λ k. range_with_len (a + 1) n ++ k ∷ []) next)
-
 pub first_more : (n : ℕ) → range_with_len 0 (n + 1) ≡ range_with_len 0 n ++ n ∷ []
-first_more n = ap (range_with_len 0) {x = n + 1} {y = suc n} (omega arith) ∙ range_more 0 n ∙ ap (λ k. range_with_len 0 n ++ k ∷ []) {x = 0 + n} {y = n} (omega arith)
+first_more n = simp map-id at (map-range_with_len_more (λ (k : ℕ). k) 0 n n (omega arith))
 
 -- one slot after others
 pub exited_more : (s mid t : State) (ks : List ℕ) (k task : ℕ) → AreExited s ks task mid → AreExited mid (k ∷ []) task t → AreExited s (ks ++ k ∷ []) task t
@@ -213,21 +231,31 @@ module _ (size bytes : ℕ) (t : Table) (xs : List Slot) (p : Pool) (kept : IsKe
       (subst (λ b. IsScript before (cond b (only (OnSlot k e)) (Answer_with (Err NoSuchSlot))) reply after) (sym there)
       (only_is before after (OnSlot k e) reply (event_done size bytes t xs k old new p q e reply kept within here happens h)))
 
--- what went through the pool by itself on a slot that was read, by a door that is never full: the event, the script, and what holds then
-module _ (size bytes : ℕ) (t : Table) (xs : List Slot) (p : Pool) (kept : IsKept size bytes t xs p) (s : State) (s_is : state_of size t xs p ≡ s)
-    (k : ℕ) (within : k < length xs) (x new : Slot) (read : x ≡ slice_index_or xs k x) (q : Pool) (e : SlotEvent) (happens : IsTrue (is_slot_event x e)) (reply : Reply)
-    (done : IsDone took (λ d. ⊥) bytes k x p e reply new q) where
-  carried : IsCarried size k p x e reply new q
-  carried = subst (λ n. IsCarried n k p x e reply new q) (sym kept.size) (never_full (λ c. slot_event bytes k c x e) x new p q reply done)
+-- the machine did an event on a slot, also as a script, and is ready for the next
+pub record IsDoneOn (m : Machine) (k : ℕ) (e : SlotEvent) (reply : Reply) (n : Machine) : Type 0 where
+  pub event : IsEvent m.state (OnSlot k e) reply n.state
+  pub script : IsScript m.state (on_slot (length m.state.slots) k e) reply n.state
+  pub ready : IsReadyMachine n
 
-  here : slot_in xs k ≡ x
-  here = read_slot xs k x x within read refl
+module _ {size : ℕ} {t : Table} {xs : List Slot} {p : Pool} {m : Machine} (is : machine_of size t xs p ≡ m) (k : ℕ) where
+  pub within_of : k < length m.state.slots → k < length xs
+  within_of l = omega (arith, l, ap (λ (x : Machine). length x.state.slots) is)
 
-  pub door_went : IsEvent s (OnSlot k e) reply (state_of size t (slice_set xs k new) q)
-  door_went = slot_went size bytes t xs p kept s s_is k within x here e happens new q reply carried
+  module _ (within : k < length xs) (x : Slot) (read : x ≡ slice_index_or xs k x) where
+    pub slot_there : slot_at m.state k ≡ x
+    slot_there = ap (λ (y : Machine). slot_at y.state k) (sym is) ∙ read_slot xs k x x within read refl
 
-  pub door_done : IsScript s (on_slot (length s.slots) k e) reply (state_of size t (slice_set xs k new) q)
-  door_done = slot_done size bytes t xs p kept s s_is k within x here e happens new q reply carried
-
-  pub door_ready : IsReadyMachine (machine_of size t (slice_set xs k new) q)
-  door_ready = ready_by (kept_after size bytes t xs k x new p q e reply kept within here happens carried)
+    -- what went through the pool by itself on a slot that was read, by a door that is never full
+    pub done_on : {bytes : ℕ} → IsSized size bytes → IsReadyMachine m → (new : Slot) (q : Pool) (e : SlotEvent) (reply : Reply) → IsTrue (is_slot_event x e)
+        → IsDone took (λ d. ⊥) bytes k x p e reply new q → IsDoneOn m k e reply (machine_of size t (slice_set xs k new) q)
+    done_on {bytes} sized r new q e reply happens done =
+        let kept = kept_by m sized is r in
+        let s_is = ap (λ (y : Machine). y.state) is in
+        let here = read_slot xs k x x within read refl in
+        let carried : IsCarried size k p x e reply new q =
+        rw kept.size (never_full (λ c. slot_event bytes k c x e) x new p q reply done) in
+        record {
+          event = slot_went size bytes t xs p kept m.state s_is k within x here e happens new q reply carried;
+          script = slot_done size bytes t xs p kept m.state s_is k within x here e happens new q reply carried;
+          ready = ready_by (kept_after size bytes t xs k x new p q e reply kept within here happens carried);
+        }

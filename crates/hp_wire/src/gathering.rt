@@ -41,34 +41,10 @@ impl Replies {
         ensures lent { W.lent writer.new ≡ W.lent writer.old }
         ensures ready { S.is_ready service.new }
     {
-        if service.takes_several() {
-            return self.answer_together(bytes, queue, service, writer);
+        if !service.takes_several() {
+            return self.answer_lines(bytes, service, writer);
         }
-        self.answer_lines(bytes, service, writer)
-    }
-
-    // The same, where loads, stores and faults wait in the queue for those behind them, and none waits at the end.
-    fn answer_together<W: Sink, S: Service>(
-        &mut self,
-        bytes: &[u8],
-        queue: &mut Queue,
-        service: &mut S,
-        writer: &mut W,
-    ) -> Result<(usize, u64), RunFault>
-        requires ready { S.is_ready service.old }
-        requires none { queue.old ≡ [] }
-        ensures answered { OnOk result (AnswersAll S.may_answer W.contents (ended_lines bytes.now)
-            service.old service.new writer.old writer.new self.old self.new) }
-        ensures cut { IfErr result (AnswersSome S.may_answer W.contents (ended_lines bytes.now)
-            service.old service.new writer.old writer.new self.old) }
-        ensures counts { IfOk result (CountsLines bytes.now) }
-        ensures none { OnOk result (queue.new ≡ []) }
-        ensures page { self.new.page ≡ self.old.page }
-        ensures sure { W.is_sure writer.old → IsOk result }
-        ensures stays { W.is_sure writer.old → W.is_sure writer.new }
-        ensures lent { W.lent writer.new ≡ W.lent writer.old }
-        ensures ready { S.is_ready service.new }
-    {
+        // Loads, stores and faults wait in the queue for those behind them, and none waits at the end.
         let mut room = [0u8; ROOM];
         let mut rest = bytes;
         let mut count = 0u64;

@@ -9,26 +9,24 @@ use hp_model::refusal::Refusal;
 use hp_model::service::Access;
 use hp_model::step::Intent;
 
+// Takes the numbers of an access, one after another.
+macro_rules! access {
+    ($words:ident: $($part:ident),*; offset = $offset:expr) => {{
+        $(let $part = $words.number()?;)*
+        let offset = $offset;
+        Access { $($part,)* offset }
+    }};
+}
+
 /// Reads a load and its count of bytes, or answers `BadLine`.
 #[tactic(auto, unfolding(hp_model::specs::text::Reading::load_of))]
 #[inline(always)]
 pub fn loading(mut words: Words<'_>) -> Result<(Access, u64), Refusal>
     ensures { read_load result ≡ load_of words.entry }
 {
-    let task = words.number()?;
-    let slot = words.number()?;
-    let map = words.number()?;
-    let index = words.number()?;
-    let offset = words.number()?;
+    let access = access!(words: task, slot, map, index; offset = words.number()?);
     let count = words.number()?;
     words.end()?;
-    let access = Access {
-        task,
-        slot,
-        map,
-        index,
-        offset,
-    };
     Ok((access, count))
 }
 
@@ -39,19 +37,8 @@ pub fn storing<'a>(mut words: Words<'_>, room: &'a mut [u8]) -> Result<(Access, 
     requires { length room.old ≡ 512 }
     ensures { read_store result ≡ store_of words.entry }
 {
-    let task = words.number()?;
-    let slot = words.number()?;
-    let map = words.number()?;
-    let index = words.number()?;
-    let offset = words.number()?;
+    let access = access!(words: task, slot, map, index; offset = words.number()?);
     let bytes = last_hex(&words, room)?;
-    let access = Access {
-        task,
-        slot,
-        map,
-        index,
-        offset,
-    };
     Ok((access, bytes))
 }
 
@@ -61,18 +48,8 @@ pub fn storing<'a>(mut words: Words<'_>, room: &'a mut [u8]) -> Result<(Access, 
 pub fn faulting(mut words: Words<'_>) -> Result<(Access, Intent), Refusal>
     ensures { read_fault result ≡ fault_of words.entry }
 {
-    let task = words.number()?;
-    let slot = words.number()?;
-    let map = words.number()?;
-    let index = words.number()?;
+    let access = access!(words: task, slot, map, index; offset = 0);
     let intent = intent(&mut words)?;
     words.end()?;
-    let access = Access {
-        task,
-        slot,
-        map,
-        index,
-        offset: 0,
-    };
     Ok((access, intent))
 }

@@ -1,345 +1,131 @@
-//! The steps of the commands, by what stands after each command's word.
-ghost use Rattle.std.specs.Prelude.{◌≡◌, length};
-ghost use Rattle.hp_model.specs.text.Reading.{anon_of, attach_of, connect_of, create_of, df_of, exit_of, fault_of, fork_of, load_of, ls_of, map_of, meminfo_of, mount_of, nodes_of, nr_of, overcommit_of, preallocate_of, punch_of, read_of, remount_of, stat_of, store_of, truncate_of, umount_of, unlink_of, unmap_of};
+//! The steps of the commands that are no load, store or fault, and of these three.
+ghost use Rattle.std.specs.Prelude.{◌≡◌, false, length};
+ghost use Rattle.hp_model.specs.text.Reading.{fault_of, load_of, pool_command, slot_command, step_of_command, store_of};
+ghost use Rattle.hp_wire_lines.specs.Accesses.{is_access};
 
-use crate::accesses::{faulting, loading, storing};
-use crate::parts::{reserving, sharing, word};
+use crate::known::is_known;
+use crate::parts::{intent, last_hex, reserving, sharing, word};
 use crate::words::Words;
 use hp_model::lent::Lent;
 use hp_model::refusal::Refusal;
-use hp_model::service::Access;
 use hp_model::step::Step;
 
-#[tactic(auto, unfolding(hp_model::specs::text::Reading::connect_of))]
-pub fn connect(words: &mut Words<'_>) -> Result<Step<'static>, Refusal>
-    ensures { result ≡ connect_of words.old }
-{
-    let task = words.number()?;
-    let home = words.number()?;
-    words.end()?;
-    Ok(Step::Connect { task, home })
+// Takes a part of a command. Most are numbers.
+macro_rules! take {
+    ($words:ident, name) => { word($words)? };
+    ($words:ident, options) => { word($words)? };
+    ($words:ident, sharing) => { sharing($words)? };
+    ($words:ident, intent) => { intent($words)? };
+    ($words:ident, $number:ident) => { $words.number()? };
 }
 
-#[tactic(auto, unfolding(hp_model::specs::text::Reading::attach_of))]
-pub fn attach(words: &mut Words<'_>) -> Result<Step<'static>, Refusal>
-    ensures { result ≡ attach_of words.old }
-{
-    let task = words.number()?;
-    words.end()?;
-    Ok(Step::Attach { task })
+// The step of a command, by its parts. The line ends behind them, or with the last.
+macro_rules! step {
+    ($words:ident; $step:ident()) => {{
+        $words.end()?;
+        Ok(Step::$step)
+    }};
+    ($words:ident; $step:ident($($part:ident),*)) => {{
+        $(let $part = take!($words, $part);)*
+        $words.end()?;
+        Ok(Step::$step { $($part),* })
+    }};
+    ($words:ident; $step:ident($($part:ident),*), $last:ident = $value:expr) => {{
+        $(let $part = take!($words, $part);)*
+        let $last = $value;
+        Ok(Step::$step { $($part,)* $last })
+    }};
 }
 
-#[tactic(auto, unfolding(hp_model::specs::text::Reading::fork_of))]
-pub fn fork(words: &mut Words<'_>) -> Result<Step<'static>, Refusal>
-    ensures { result ≡ fork_of words.old }
-{
-    let parent = words.number()?;
-    let child = words.number()?;
-    words.end()?;
-    Ok(Step::Fork { parent, child })
+// The step of a word, where it is one of these, and else what follows.
+macro_rules! step_by {
+    (
+        $word:ident, $words:ident;
+        $($known:literal => $step:ident $parts:tt $(, $last:ident = $value:expr)?;)*
+        _ => $other:expr
+    ) => {{
+        $(if is_known($word, $known) {
+            return step!($words; $step $parts $(, $last = $value)?);
+        })*
+        $other
+    }};
 }
 
-#[tactic(auto, unfolding(hp_model::specs::text::Reading::exit_of))]
-pub fn exit(words: &mut Words<'_>) -> Result<Step<'static>, Refusal>
-    ensures { result ≡ exit_of words.old }
+/// The step of a word that is not that of a load, a store or a fault, and the words after it, or `BadLine`.
+#[tactic(auto, unfolding(crate::specs::Commands::task_commands))]
+#[inline(never)]
+pub fn step_of_command<'a>(word: &[u8], words: &mut Words<'a>) -> Result<Step<'a>, Refusal>
+    requires { is_access word.now ≡ false }
+    ensures { result ≡ step_of_command word.now words.old }
 {
-    let task = words.number()?;
-    words.end()?;
-    Ok(Step::Exit { task })
+    step_by! { word, words;
+        b"connect" => Connect(task, home);
+        b"attach" => Attach(task);
+        b"fork" => Fork(parent, child);
+        b"exit" => Exit(task);
+        b"map" => Map(task, slot, name, from, pages, sharing), reserving = reserving(words)?;
+        b"anon" => Anon(task, pages, sharing), reserving = reserving(words)?;
+        b"unmap" => Unmap(task, slot, map, from, to);
+        _ => slot_command(word, words)
+    }
 }
 
-#[tactic(auto, unfolding(hp_model::specs::text::Reading::map_of))]
-pub fn map<'a>(words: &mut Words<'a>) -> Result<Step<'a>, Refusal>
-    ensures { result ≡ map_of words.old }
+// A command of a slot, without a task, or another.
+#[tactic(auto, unfolding(crate::specs::Commands::slot_commands))]
+#[inline(always)]
+fn slot_command<'a>(word: &[u8], words: &mut Words<'a>) -> Result<Step<'a>, Refusal>
+    ensures { result ≡ slot_command word.now words.old }
 {
-    let task = words.number()?;
-    let slot = words.number()?;
-    let name = word(words)?;
-    let from = words.number()?;
-    let pages = words.number()?;
-    let sharing = sharing(words)?;
-    let reserving = reserving(words)?;
-    Ok(Step::Map {
-        task,
-        slot,
-        name,
-        from,
-        pages,
-        sharing,
-        reserving,
-    })
+    step_by! { word, words;
+        b"mount" => Mount(slot, options);
+        b"remount" => Remount(slot, options);
+        b"umount" => Umount(slot);
+        b"create" => Create(slot, name);
+        b"unlink" => Unlink(slot, name);
+        b"truncate" => Truncate(slot, name, pages);
+        b"punch" => Punch(slot, name, from, to);
+        b"preallocate" => Preallocate(slot, name, from, to);
+        b"read" => Read(slot, name, index, offset, count);
+        b"ls" => Ls(slot);
+        b"stat" => Stat(slot, name);
+        b"df" => Df(slot);
+        _ => pool_command(word, words)
+    }
 }
 
-#[tactic(auto, unfolding(hp_model::specs::text::Reading::anon_of))]
-pub fn anon(words: &mut Words<'_>) -> Result<Step<'static>, Refusal>
-    ensures { result ≡ anon_of words.old }
+// A command of the pool.
+#[tactic(auto, unfolding(crate::specs::Commands::pool_commands))]
+#[inline(always)]
+fn pool_command<'a>(word: &[u8], words: &mut Words<'a>) -> Result<Step<'a>, Refusal>
+    ensures { result ≡ pool_command word.now words.old }
 {
-    let task = words.number()?;
-    let pages = words.number()?;
-    let sharing = sharing(words)?;
-    let reserving = reserving(words)?;
-    Ok(Step::Anon {
-        task,
-        pages,
-        sharing,
-        reserving,
-    })
+    step_by! { word, words;
+        b"nr" => Nr(pages);
+        b"overcommit" => Overcommit(pages);
+        b"meminfo" => Meminfo();
+        b"nodes" => Nodes();
+        _ => Err(Refusal::BadLine)
+    }
 }
 
-#[tactic(auto, unfolding(hp_model::specs::text::Reading::unmap_of))]
-pub fn unmap(words: &mut Words<'_>) -> Result<Step<'static>, Refusal>
-    ensures { result ≡ unmap_of words.old }
+#[tactic(auto, unfolding(hp_model::specs::text::Reading::fault_of))]
+pub fn fault(words: &mut Words<'_>) -> Result<Step<'static>, Refusal>
+    ensures { result ≡ fault_of words.old }
 {
-    let task = words.number()?;
-    let slot = words.number()?;
-    let map = words.number()?;
-    let from = words.number()?;
-    let to = words.number()?;
-    words.end()?;
-    Ok(Step::Unmap {
-        task,
-        slot,
-        map,
-        from,
-        to,
-    })
+    step!(words; Fault(task, slot, map, index, intent))
 }
 
-pub fn fault(words: Words<'_>) -> Result<Step<'static>, Refusal>
-    ensures { result ≡ fault_of words.entry }
+#[tactic(auto, unfolding(hp_model::specs::text::Reading::load_of))]
+pub fn load(words: &mut Words<'_>) -> Result<Step<'static>, Refusal>
+    ensures { result ≡ load_of words.old }
 {
-    let (access, intent) = faulting(words)?;
-    let Access {
-        task,
-        slot,
-        map,
-        index,
-        offset: _,
-    } = access;
-    Ok(Step::Fault {
-        task,
-        slot,
-        map,
-        index,
-        intent,
-    })
+    step!(words; Load(task, slot, map, index, offset, count))
 }
 
-pub fn load(words: Words<'_>) -> Result<Step<'static>, Refusal>
-    ensures { result ≡ load_of words.entry }
-{
-    let (access, count) = loading(words)?;
-    let Access {
-        task,
-        slot,
-        map,
-        index,
-        offset,
-    } = access;
-    Ok(Step::Load {
-        task,
-        slot,
-        map,
-        index,
-        offset,
-        count,
-    })
-}
-
-pub fn store<'a>(words: Words<'_>, room: &'a mut [u8]) -> Result<Step<'a>, Refusal>
+#[tactic(auto, unfolding(hp_model::specs::text::Reading::store_of), using(crate::proofs::LastHex::then_last))]
+pub fn store<'a>(words: &mut Words<'_>, room: &'a mut [u8]) -> Result<Step<'a>, Refusal>
     requires { length room.old ≡ 512 }
-    ensures { result ≡ store_of words.entry }
+    ensures { result ≡ store_of words.old }
 {
-    let (access, bytes) = storing(words, room)?;
-    let bytes = Lent::new(bytes);
-    let Access {
-        task,
-        slot,
-        map,
-        index,
-        offset,
-    } = access;
-    Ok(Step::Store {
-        task,
-        slot,
-        map,
-        index,
-        offset,
-        bytes,
-    })
-}
-
-#[tactic(auto, unfolding(hp_model::specs::text::Reading::mount_of))]
-pub fn mount<'a>(words: &mut Words<'a>) -> Result<Step<'a>, Refusal>
-    ensures { result ≡ mount_of words.old }
-{
-    let slot = words.number()?;
-    let options = word(words)?;
-    words.end()?;
-    Ok(Step::Mount { slot, options })
-}
-
-#[tactic(auto, unfolding(hp_model::specs::text::Reading::remount_of))]
-pub fn remount<'a>(words: &mut Words<'a>) -> Result<Step<'a>, Refusal>
-    ensures { result ≡ remount_of words.old }
-{
-    let slot = words.number()?;
-    let options = word(words)?;
-    words.end()?;
-    Ok(Step::Remount { slot, options })
-}
-
-#[tactic(auto, unfolding(hp_model::specs::text::Reading::umount_of))]
-pub fn umount(words: &mut Words<'_>) -> Result<Step<'static>, Refusal>
-    ensures { result ≡ umount_of words.old }
-{
-    let slot = words.number()?;
-    words.end()?;
-    Ok(Step::Umount { slot })
-}
-
-#[tactic(auto, unfolding(hp_model::specs::text::Reading::create_of))]
-pub fn create<'a>(words: &mut Words<'a>) -> Result<Step<'a>, Refusal>
-    ensures { result ≡ create_of words.old }
-{
-    let slot = words.number()?;
-    let name = word(words)?;
-    words.end()?;
-    Ok(Step::Create { slot, name })
-}
-
-#[tactic(auto, unfolding(hp_model::specs::text::Reading::unlink_of))]
-pub fn unlink<'a>(words: &mut Words<'a>) -> Result<Step<'a>, Refusal>
-    ensures { result ≡ unlink_of words.old }
-{
-    let slot = words.number()?;
-    let name = word(words)?;
-    words.end()?;
-    Ok(Step::Unlink { slot, name })
-}
-
-#[tactic(auto, unfolding(hp_model::specs::text::Reading::truncate_of))]
-pub fn truncate<'a>(words: &mut Words<'a>) -> Result<Step<'a>, Refusal>
-    ensures { result ≡ truncate_of words.old }
-{
-    let slot = words.number()?;
-    let name = word(words)?;
-    let pages = words.number()?;
-    words.end()?;
-    Ok(Step::Truncate { slot, name, pages })
-}
-
-#[tactic(auto, unfolding(hp_model::specs::text::Reading::punch_of))]
-pub fn punch<'a>(words: &mut Words<'a>) -> Result<Step<'a>, Refusal>
-    ensures { result ≡ punch_of words.old }
-{
-    let slot = words.number()?;
-    let name = word(words)?;
-    let from = words.number()?;
-    let to = words.number()?;
-    words.end()?;
-    Ok(Step::Punch {
-        slot,
-        name,
-        from,
-        to,
-    })
-}
-
-#[tactic(auto, unfolding(hp_model::specs::text::Reading::preallocate_of))]
-pub fn preallocate<'a>(words: &mut Words<'a>) -> Result<Step<'a>, Refusal>
-    ensures { result ≡ preallocate_of words.old }
-{
-    let slot = words.number()?;
-    let name = word(words)?;
-    let from = words.number()?;
-    let to = words.number()?;
-    words.end()?;
-    Ok(Step::Preallocate {
-        slot,
-        name,
-        from,
-        to,
-    })
-}
-
-#[tactic(auto, unfolding(hp_model::specs::text::Reading::read_of))]
-pub fn read<'a>(words: &mut Words<'a>) -> Result<Step<'a>, Refusal>
-    ensures { result ≡ read_of words.old }
-{
-    let slot = words.number()?;
-    let name = word(words)?;
-    let index = words.number()?;
-    let offset = words.number()?;
-    let count = words.number()?;
-    words.end()?;
-    Ok(Step::Read {
-        slot,
-        name,
-        index,
-        offset,
-        count,
-    })
-}
-
-#[tactic(auto, unfolding(hp_model::specs::text::Reading::ls_of))]
-pub fn ls(words: &mut Words<'_>) -> Result<Step<'static>, Refusal>
-    ensures { result ≡ ls_of words.old }
-{
-    let slot = words.number()?;
-    words.end()?;
-    Ok(Step::Ls { slot })
-}
-
-#[tactic(auto, unfolding(hp_model::specs::text::Reading::stat_of))]
-pub fn stat<'a>(words: &mut Words<'a>) -> Result<Step<'a>, Refusal>
-    ensures { result ≡ stat_of words.old }
-{
-    let slot = words.number()?;
-    let name = word(words)?;
-    words.end()?;
-    Ok(Step::Stat { slot, name })
-}
-
-#[tactic(auto, unfolding(hp_model::specs::text::Reading::df_of))]
-pub fn df(words: &mut Words<'_>) -> Result<Step<'static>, Refusal>
-    ensures { result ≡ df_of words.old }
-{
-    let slot = words.number()?;
-    words.end()?;
-    Ok(Step::Df { slot })
-}
-
-#[tactic(auto, unfolding(hp_model::specs::text::Reading::nr_of))]
-pub fn nr(words: &mut Words<'_>) -> Result<Step<'static>, Refusal>
-    ensures { result ≡ nr_of words.old }
-{
-    let pages = words.number()?;
-    words.end()?;
-    Ok(Step::Nr { pages })
-}
-
-#[tactic(auto, unfolding(hp_model::specs::text::Reading::overcommit_of))]
-pub fn overcommit(words: &mut Words<'_>) -> Result<Step<'static>, Refusal>
-    ensures { result ≡ overcommit_of words.old }
-{
-    let pages = words.number()?;
-    words.end()?;
-    Ok(Step::Overcommit { pages })
-}
-
-#[tactic(auto, unfolding(hp_model::specs::text::Reading::meminfo_of))]
-pub fn meminfo(words: &Words<'_>) -> Result<Step<'static>, Refusal>
-    ensures { result ≡ meminfo_of words.now }
-{
-    words.end()?;
-    Ok(Step::Meminfo)
-}
-
-#[tactic(auto, unfolding(hp_model::specs::text::Reading::nodes_of))]
-pub fn nodes(words: &Words<'_>) -> Result<Step<'static>, Refusal>
-    ensures { result ≡ nodes_of words.now }
-{
-    words.end()?;
-    Ok(Step::Nodes)
+    step!(words; Store(task, slot, map, index, offset), bytes = Lent::new(last_hex(words, room)?))
 }

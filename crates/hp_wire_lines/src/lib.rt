@@ -2,7 +2,6 @@
 #![tactic(auto)]
 
 pub mod accesses;
-mod command;
 mod commands;
 mod hex_digits;
 mod known;

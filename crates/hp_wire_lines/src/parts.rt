@@ -11,6 +11,17 @@ use hp_model::lent::Lent;
 use hp_model::refusal::Refusal;
 use hp_model::step::{Intent, Reserving, Sharing};
 
+// Takes one of these words, and says which it is.
+macro_rules! one_of {
+    ($words:ident; $($known:literal => $value:expr),*) => {{
+        let piece = $words.piece()?;
+        $(if is_known(piece, $known) {
+            return Ok($value);
+        })*
+        Err(Refusal::BadLine)
+    }};
+}
+
 /// Takes a name or options.
 #[tactic(auto, unfolding(hp_model::specs::text::Words::word_at))]
 pub fn word<'a>(words: &mut Words<'a>) -> Result<Lent<'a>, Refusal>
@@ -26,14 +37,7 @@ pub fn word<'a>(words: &mut Words<'a>) -> Result<Lent<'a>, Refusal>
 pub fn sharing(words: &mut Words<'_>) -> Result<Sharing, Refusal>
     ensures { Takes (λ x. x) result words.new (sharing_at words.old) }
 {
-    let piece = words.piece()?;
-    if is_known(piece, b"shared") {
-        Ok(Sharing::Shared)
-    } else if is_known(piece, b"private") {
-        Ok(Sharing::Private)
-    } else {
-        Err(Refusal::BadLine)
-    }
+    one_of!(words; b"shared" => Sharing::Shared, b"private" => Sharing::Private)
 }
 
 /// Takes `read` or `write`.
@@ -42,14 +46,7 @@ pub fn sharing(words: &mut Words<'_>) -> Result<Sharing, Refusal>
 pub fn intent(words: &mut Words<'_>) -> Result<Intent, Refusal>
     ensures { Takes (λ x. x) result words.new (intent_at words.old) }
 {
-    let piece = words.piece()?;
-    if is_known(piece, b"read") {
-        Ok(Intent::Read)
-    } else if is_known(piece, b"write") {
-        Ok(Intent::Write)
-    } else {
-        Err(Refusal::BadLine)
-    }
+    one_of!(words; b"read" => Intent::Read, b"write" => Intent::Write)
 }
 
 /// Nothing, or `noreserve` as the last word.

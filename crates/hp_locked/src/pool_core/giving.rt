@@ -8,8 +8,8 @@ ghost use Rattle.hp_model.specs.threads.Closing.{to_return};
 ghost use Rattle.hp_mount_door.specs.Door.{IsReady, with_less};
 ghost use Rattle.hp_subpool.specs.Subpool.{committed_of, fall};
 ghost use Rattle.hp_trail.specs.Keeping.{has_room, one_less, with_entry};
-ghost use Rattle.hp_history.specs.Sections.{IsEntered, IsFree, pool_in, pool_next, pool_view};
-ghost use Rattle.hp_locked.specs.Views.{IsGiven, IsPlace, IsTrailOf};
+ghost use Rattle.hp_history.specs.Sections.{IsEntered, pool_in, pool_next};
+ghost use Rattle.hp_locked.specs.Views.{IsFreeSeat, IsGiven, IsPlace, IsPoolSeat, IsSeat};
 
 use super::{Core, committed, granted};
 use crate::noting::note;
@@ -36,15 +36,12 @@ impl<N: Naming + Places, T: Trail<PoolEntry>> Core<N, T> {
     ) -> Option<Asked>
         requires pages { sum parcel ≤ share.old.pages }
         requires held { reserves ≤ share.old.held }
-        requires named { mine.old.table_id ≡ N.history }
-        requires free { IsFree mine.old.me.0 }
-        requires alone { mine.old.me.1 ≡ [] }
+        requires mine { IsFreeSeat N.history mine.old.table_id mine.old.me }
         ensures given { IsGiven parcel (fall share.old (sum parcel + reserves)) self.old
             self.new result }
         ensures share { share.new ≡ with_less (sum parcel) reserves share.old }
         ensures entered { IsEntered T.keeps mine.old.me.0 result mine.new.me.0 }
-        ensures named { mine.new.table_id ≡ N.history }
-        ensures alone { mine.new.me.1 ≡ [] }
+        ensures mine { IsSeat N.history mine.new.table_id mine.new.me }
     {
         let Core { pool, trail, seat } = self;
         let (puts, pages) = returned(pool, share, parcel, reserves);
@@ -61,14 +58,11 @@ impl<N: Naming + Places, T: Trail<PoolEntry>> Core<N, T> {
         parcel: Parcel<N>,
     ) -> Option<Asked>
         requires pages { sum parcel ≡ share.old.pages }
-        requires named { mine.old.table_id ≡ N.history }
-        requires free { IsFree mine.old.me.0 }
-        requires alone { mine.old.me.1 ≡ [] }
+        requires mine { IsFreeSeat N.history mine.old.table_id mine.old.me }
         ensures given { IsGiven parcel (committed_of share.old) self.old self.new result }
         ensures share { committed_of share.new ≡ 0 }
         ensures entered { IsEntered T.keeps mine.old.me.0 result mine.new.me.0 }
-        ensures named { mine.new.table_id ≡ N.history }
-        ensures alone { mine.new.me.1 ≡ [] }
+        ensures mine { IsSeat N.history mine.new.table_id mine.new.me }
     {
         let Core { pool, trail, seat } = self;
         let (puts, pages) = emptied(pool, share, parcel);
@@ -88,12 +82,8 @@ fn given<N: Places, T: Trail<PoolEntry>>(
 ) -> Option<Asked>
     requires room { 0 < sum puts + pages
         → has_room true (T.left trail.old) (T.extra trail.old) ≡ true }
-    requires pool { seat.old.table_id ≡ N.history }
-    requires one { seat.old.views ≡ pool_view seat.old.views ∷ [] }
-    requires kept { IsTrailOf (pool_in seat.old.views) (T.entries trail.old) }
-    requires named { mine.old.table_id ≡ N.history }
-    requires free { IsFree mine.old.me.0 }
-    requires alone { mine.old.me.1 ≡ [] }
+    requires pool { IsPoolSeat N.history seat.old.table_id seat.old.views (T.entries trail.old) }
+    requires mine { IsFreeSeat N.history mine.old.table_id mine.old.me }
     ensures some { IfSome result (λ a. (a.section ≡ GiveBack puts pages) × (a.answer ≡ granted_at 0)
         × IsPlace (T.entries trail.old) a.place
         × (T.entries trail.new ≡ with_entry (T.entries trail.old) (OfSlot a.section a.answer))
@@ -105,8 +95,7 @@ fn given<N: Places, T: Trail<PoolEntry>>(
         × (seat.new.views ≡ seat.old.views)) }
     ensures pool { seat.new.table_id ≡ N.history }
     ensures entered { IsEntered T.keeps mine.old.me.0 result mine.new.me.0 }
-    ensures named { mine.new.table_id ≡ N.history }
-    ensures alone { mine.new.me.1 ≡ [] }
+    ensures mine { IsSeat N.history mine.new.table_id mine.new.me }
 {
     if puts[0] == 0 && puts[1] == 0 && puts[2] == 0 && puts[3] == 0 && pages == 0 {
         return None;

@@ -1,11 +1,11 @@
 //! A mount's share and its limits, under the pool's lock.
-ghost use Rattle.std.specs.Prelude.{[], Some, ◌≡◌, ◌<◌, true, false, IfOk, OnErr};
+ghost use Rattle.std.specs.Prelude.{Some, ◌≡◌, ◌<◌, false, IfOk, OnErr};
 ghost use Rattle.hp_model.specs.files.Options.{limits, wanted_of};
 ghost use Rattle.hp_mount_door.specs.Limits.{IsLimitedBy};
 ghost use Rattle.hp_trail.specs.Keeping.{has_room};
 ghost use Rattle.hp_mount_door.specs.Opened.{IsShareOf};
-ghost use Rattle.hp_history.specs.Sections.{IsEntered, IsFree};
-ghost use Rattle.hp_locked.specs.Views.{IsSection};
+ghost use Rattle.hp_history.specs.Sections.{IsEntered};
+ghost use Rattle.hp_locked.specs.Views.{IsFreeSeat, IsFull, IsSeat, IsSection};
 
 use super::{Core, Full};
 use crate::noting::note;
@@ -31,21 +31,15 @@ impl<N: Naming + Places, T: Trail<PoolEntry>> Core<N, T> {
         options: &[u8],
     ) -> Result<(Result<(Subpool<N>, Limits), Refusal>, Asked), Full>
         requires bytes { 0 < page_bytes }
-        requires named { mine.old.table_id ≡ N.history }
-        requires free { IsFree mine.old.me.0 }
-        requires alone { mine.old.me.1 ≡ [] }
+        requires mine { IsFreeSeat N.history mine.old.table_id mine.old.me }
         ensures section { IfOk result (λ r. IsSection self.old self.new r.1) }
         ensures opens { IfOk result (λ r. IsShareOf (limits self.old.pool.nr page_bytes
             (wanted_of options.now))
             self.old.pool.nr r.0 r.1.section r.1.answer) }
-        ensures full { OnErr result (has_room false self.old.left self.old.extra ≡ false) }
-        ensures keeps { OnErr result (T.keeps ≡ true) }
-        ensures same { OnErr result (self.new ≡ self.old) }
+        ensures full { OnErr result (IsFull T.keeps self.old self.new mine.old.me mine.new.me) }
         ensures entered { IfOk result (λ r.
             IsEntered T.keeps mine.old.me.0 (Some r.1) mine.new.me.0) }
-        ensures unheard { OnErr result (mine.new.me ≡ mine.old.me) }
-        ensures named { mine.new.table_id ≡ N.history }
-        ensures alone { mine.new.me.1 ≡ [] }
+        ensures mine { IsSeat N.history mine.new.table_id mine.new.me }
     {
         let Core { pool, trail, seat } = self;
         if !trail.has_room(false) {
@@ -68,22 +62,16 @@ impl<N: Naming + Places, T: Trail<PoolEntry>> Core<N, T> {
         options: &[u8],
     ) -> Result<(Result<Option<u64>, Refusal>, Asked), Full>
         requires bytes { 0 < page_bytes }
-        requires named { mine.old.table_id ≡ N.history }
-        requires free { IsFree mine.old.me.0 }
-        requires alone { mine.old.me.1 ≡ [] }
+        requires mine { IsFreeSeat N.history mine.old.table_id mine.old.me }
         ensures section { IfOk result (λ r. IsSection self.old self.new r.1) }
         ensures set { IfOk result (λ r. IsLimitedBy (limits self.old.pool.nr page_bytes
             (wanted_of options.now))
             self.old.pool.nr share.old share.new r.0 r.1.section r.1.answer) }
-        ensures full { OnErr result (has_room false self.old.left self.old.extra ≡ false) }
-        ensures keeps { OnErr result (T.keeps ≡ true) }
-        ensures same { OnErr result (self.new ≡ self.old) }
+        ensures full { OnErr result (IsFull T.keeps self.old self.new mine.old.me mine.new.me) }
         ensures unchanged { OnErr result (share.new ≡ share.old) }
         ensures entered { IfOk result (λ r.
             IsEntered T.keeps mine.old.me.0 (Some r.1) mine.new.me.0) }
-        ensures unheard { OnErr result (mine.new.me ≡ mine.old.me) }
-        ensures named { mine.new.table_id ≡ N.history }
-        ensures alone { mine.new.me.1 ≡ [] }
+        ensures mine { IsSeat N.history mine.new.table_id mine.new.me }
     {
         let Core { pool, trail, seat } = self;
         if !trail.has_room(false) {

@@ -1,5 +1,5 @@
 //! Claims of pages and grants of reservations, under the pool's lock.
-ghost use Rattle.std.specs.Prelude.{[], Some, ◌≡◌, ◌+◌, ◌<◌, ◌≤◌, ◌^◌, true, false, IfOk, IfSome, IfNone, OnOk, OnErr};
+ghost use Rattle.std.specs.Prelude.{Some, ◌≡◌, ◌+◌, ◌<◌, ◌≤◌, ◌^◌, true, false, IfOk, IfSome, IfNone, OnOk, OnErr};
 ghost use Rattle.std.specs.List.{sum};
 ghost use Rattle.hp_model.specs.declared.section.Section.TheVariants.{TakePage};
 ghost use Rattle.hp_model.specs.pool.Pool.{filled_by, granted_at, no_pages, section};
@@ -7,8 +7,8 @@ ghost use Rattle.hp_mount_door.specs.Door.{IsReady, grant_for, grant_one, with_g
 ghost use Rattle.hp_mount_door.specs.Filling.{fill_for, with_filled};
 ghost use Rattle.hp_subpool.specs.Subpool.{is_full as ShareIsFull, rise, used};
 ghost use Rattle.hp_trail.specs.Keeping.{has_room};
-ghost use Rattle.hp_history.specs.Sections.{IsEntered, IsFree};
-ghost use Rattle.hp_locked.specs.Views.{IsAnswered, IsSection, IsUnasked};
+ghost use Rattle.hp_history.specs.Sections.{IsEntered};
+ghost use Rattle.hp_locked.specs.Views.{IsAnswered, IsFreeSeat, IsFull, IsSeat, IsSection, IsUnasked};
 
 use super::{Core, Full, committed, granted, refused};
 use crate::noting::note;
@@ -33,24 +33,18 @@ impl<N: Naming + Places, T: Trail<PoolEntry>> Core<N, T> {
         share: &mut Subpool<N>,
         home: usize,
     ) -> Result<(Claim<N>, Asked), Full>
-        requires named { mine.old.table_id ≡ N.history }
-        requires free { IsFree mine.old.me.0 }
-        requires alone { mine.old.me.1 ≡ [] }
+        requires mine { IsFreeSeat N.history mine.old.table_id mine.old.me }
         requires held { 0 < share.old.held }
         ensures section { IfOk result (λ r. IsSection self.old self.new r.1) }
         ensures asks { IfOk result (λ r. r.1.section ≡ TakePage home) }
         ensures answer { IfOk result (λ r. r.1.answer ≡ granted_at r.0.node) }
         ensures one { IfOk result (λ r. r.0.amount ≡ 1) }
         ensures share { OnOk result (share.new ≡ with_page share.old) }
-        ensures full { OnErr result (has_room false self.old.left self.old.extra ≡ false) }
-        ensures keeps { OnErr result (T.keeps ≡ true) }
-        ensures same { OnErr result (self.new ≡ self.old) }
+        ensures full { OnErr result (IsFull T.keeps self.old self.new mine.old.me mine.new.me) }
         ensures unchanged { OnErr result (share.new ≡ share.old) }
         ensures entered { IfOk result (λ r.
             IsEntered T.keeps mine.old.me.0 (Some r.1) mine.new.me.0) }
-        ensures unheard { OnErr result (mine.new.me ≡ mine.old.me) }
-        ensures named { mine.new.table_id ≡ N.history }
-        ensures alone { mine.new.me.1 ≡ [] }
+        ensures mine { IsSeat N.history mine.new.table_id mine.new.me }
     {
         let Core { pool, trail, seat } = self;
         if !trail.has_room(false) {
@@ -73,9 +67,7 @@ impl<N: Naming + Places, T: Trail<PoolEntry>> Core<N, T> {
         home: usize,
         k: u64,
     ) -> Result<Option<Asked>, Full>
-        requires named { mine.old.table_id ≡ N.history }
-        requires free { IsFree mine.old.me.0 }
-        requires alone { mine.old.me.1 ≡ [] }
+        requires mine { IsFreeSeat N.history mine.old.table_id mine.old.me }
         requires within { ShareIsFull share.old k ≡ false }
         requires few { used share.old + k < 2 ^ 64 }
         ensures none { IfOk result (λ t. IfNone t (IsUnasked k self.old self.new share.old
@@ -85,16 +77,12 @@ impl<N: Naming + Places, T: Trail<PoolEntry>> Core<N, T> {
         ensures some { IfOk result (λ t. IfSome t (λ a. 0 < rise share.old k)) }
         ensures share { IfOk result (λ t. IfSome t (λ a.
             IsAnswered a.answer share.old (with_reserves k share.old) share.new)) }
-        ensures full { OnErr result (has_room false self.old.left self.old.extra ≡ false) }
-        ensures keeps { OnErr result (T.keeps ≡ true) }
+        ensures full { OnErr result (IsFull T.keeps self.old self.new mine.old.me mine.new.me) }
         ensures asking { OnErr result (0 < rise share.old k) }
-        ensures same { OnErr result (self.new ≡ self.old) }
         ensures unchanged { OnErr result (share.new ≡ share.old) }
         ensures entered { IfOk result (λ r.
             IsEntered T.keeps mine.old.me.0 r mine.new.me.0) }
-        ensures unheard { OnErr result (mine.new.me ≡ mine.old.me) }
-        ensures named { mine.new.table_id ≡ N.history }
-        ensures alone { mine.new.me.1 ≡ [] }
+        ensures mine { IsSeat N.history mine.new.table_id mine.new.me }
     {
         let Core { pool, trail, seat } = self;
         let pages = asked_for(share, k);
@@ -124,9 +112,7 @@ impl<N: Naming + Places, T: Trail<PoolEntry>> Core<N, T> {
         share: &mut Subpool<N>,
         home: usize,
     ) -> Result<(Option<Claim<N>>, Asked), Full>
-        requires named { mine.old.table_id ≡ N.history }
-        requires free { IsFree mine.old.me.0 }
-        requires alone { mine.old.me.1 ≡ [] }
+        requires mine { IsFreeSeat N.history mine.old.table_id mine.old.me }
         requires within { ShareIsFull share.old 1 ≡ false }
         requires few { used share.old + 1 < 2 ^ 64 }
         ensures section { IfOk result (λ r. IsSection self.old self.new r.1) }
@@ -136,15 +122,11 @@ impl<N: Naming + Places, T: Trail<PoolEntry>> Core<N, T> {
         ensures one { IfOk result (λ r. IfSome r.0 (λ claim. claim.amount ≡ 1)) }
         ensures none { IfOk result (λ r. IfNone r.0
             ((r.1.answer ≡ no_pages) × (share.new ≡ share.old))) }
-        ensures full { OnErr result (has_room false self.old.left self.old.extra ≡ false) }
-        ensures keeps { OnErr result (T.keeps ≡ true) }
-        ensures same { OnErr result (self.new ≡ self.old) }
+        ensures full { OnErr result (IsFull T.keeps self.old self.new mine.old.me mine.new.me) }
         ensures unchanged { OnErr result (share.new ≡ share.old) }
         ensures entered { IfOk result (λ r.
             IsEntered T.keeps mine.old.me.0 (Some r.1) mine.new.me.0) }
-        ensures unheard { OnErr result (mine.new.me ≡ mine.old.me) }
-        ensures named { mine.new.table_id ≡ N.history }
-        ensures alone { mine.new.me.1 ≡ [] }
+        ensures mine { IsSeat N.history mine.new.table_id mine.new.me }
     {
         let Core { pool, trail, seat } = self;
         if !trail.has_room(false) {
@@ -170,9 +152,7 @@ impl<N: Naming + Places, T: Trail<PoolEntry>> Core<N, T> {
         k: u64,
         count: u64,
     ) -> Result<(Option<Parcel<N>>, Asked), Full>
-        requires named { mine.old.table_id ≡ N.history }
-        requires free { IsFree mine.old.me.0 }
-        requires alone { mine.old.me.1 ≡ [] }
+        requires mine { IsFreeSeat N.history mine.old.table_id mine.old.me }
         requires within { ShareIsFull share.old k ≡ false }
         requires few { used share.old + k < 2 ^ 64 }
         requires held { count ≤ share.old.held + k }
@@ -183,15 +163,11 @@ impl<N: Naming + Places, T: Trail<PoolEntry>> Core<N, T> {
         ensures all { IfOk result (λ r. IfSome r.0 (λ parcel. sum parcel ≡ count)) }
         ensures none { IfOk result (λ r. IfNone r.0
             ((r.1.answer ≡ no_pages) × (share.new ≡ share.old))) }
-        ensures full { OnErr result (has_room false self.old.left self.old.extra ≡ false) }
-        ensures keeps { OnErr result (T.keeps ≡ true) }
-        ensures same { OnErr result (self.new ≡ self.old) }
+        ensures full { OnErr result (IsFull T.keeps self.old self.new mine.old.me mine.new.me) }
         ensures unchanged { OnErr result (share.new ≡ share.old) }
         ensures entered { IfOk result (λ r.
             IsEntered T.keeps mine.old.me.0 (Some r.1) mine.new.me.0) }
-        ensures unheard { OnErr result (mine.new.me ≡ mine.old.me) }
-        ensures named { mine.new.table_id ≡ N.history }
-        ensures alone { mine.new.me.1 ≡ [] }
+        ensures mine { IsSeat N.history mine.new.table_id mine.new.me }
     {
         let Core { pool, trail, seat } = self;
         if !trail.has_room(false) {

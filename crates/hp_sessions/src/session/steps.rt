@@ -164,6 +164,7 @@ impl<P: Parts> Session<P> {
     }
 
     // What a step asks of which part.
+    #[tactic(auto, using(crate::proofs::Carrying::only_made))]
     #[inline(never)]
     fn do_work<'b>(&mut self, work: &Work<'_>, room: &'b mut [u8]) -> Result<Told<'b>, Refusal>
         requires room { most_bytes ≤ length room.old }

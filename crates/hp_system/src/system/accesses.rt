@@ -17,6 +17,22 @@ use hp_model::service::Access;
 use hp_model::step::Intent;
 use hp_mount::MapAccess;
 
+// The home of an access's task, and the mount of its slot; or the refusal where one of them is not there.
+macro_rules! reach {
+    ($system:ident, $access:ident, $home:ident, $mount:ident) => {
+        let Some($home) = $system.table.home($access.task) else {
+            return Err(Refusal::NoSuchTask);
+        };
+        let at = $access.slot as usize;
+        if at >= $system.slots.len() {
+            return Err(Refusal::NoSuchSlot);
+        }
+        let Some($mount) = &mut $system.slots[at] else {
+            return Err(Refusal::NoSuchSlot);
+        };
+    };
+}
+
 impl<N: Naming> System<N> {
     /// Does the step of a load of `count` bytes, as `apply` does, and answers them in the front of the room.
     ///
@@ -41,17 +57,8 @@ impl<N: Naming> System<N> {
         ensures few { IfOk result (λ bytes. length bytes.now ≤ most_bytes) }
         ensures ready { IsReadyMachine self.new }
     {
-        let Some(home) = self.table.home(access.task) else {
-            return Err(Refusal::NoSuchTask);
-        };
         let page_bytes = self.page_bytes();
-        let at = access.slot as usize;
-        if at >= self.slots.len() {
-            return Err(Refusal::NoSuchSlot);
-        }
-        let Some(mount) = &mut self.slots[at] else {
-            return Err(Refusal::NoSuchSlot);
-        };
+        reach!(self, access, home, mount);
         mount.load(
             &mut self.pool,
             page_bytes,
@@ -75,17 +82,8 @@ impl<N: Naming> System<N> {
         ensures size { self.new.state.page_size ≡ self.old.state.page_size }
         ensures ready { IsReadyMachine self.new }
     {
-        let Some(home) = self.table.home(access.task) else {
-            return Err(Refusal::NoSuchTask);
-        };
         let page_bytes = self.page_bytes();
-        let at = access.slot as usize;
-        if at >= self.slots.len() {
-            return Err(Refusal::NoSuchSlot);
-        }
-        let Some(mount) = &mut self.slots[at] else {
-            return Err(Refusal::NoSuchSlot);
-        };
+        reach!(self, access, home, mount);
         let place = place_of(access);
         mount.store(
             &mut self.pool,
@@ -113,16 +111,7 @@ impl<N: Naming> System<N> {
         ensures size { self.new.state.page_size ≡ self.old.state.page_size }
         ensures ready { IsReadyMachine self.new }
     {
-        let Some(home) = self.table.home(access.task) else {
-            return Err(Refusal::NoSuchTask);
-        };
-        let at = access.slot as usize;
-        if at >= self.slots.len() {
-            return Err(Refusal::NoSuchSlot);
-        }
-        let Some(mount) = &mut self.slots[at] else {
-            return Err(Refusal::NoSuchSlot);
-        };
+        reach!(self, access, home, mount);
         mount.fault(&mut self.pool, home, &place_of(access), intent)
     }
 }

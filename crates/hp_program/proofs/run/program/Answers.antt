@@ -1,7 +1,6 @@
-use Rattle.std.proofs.Common.{◌∙◌, ap, map, inl, inr, refl, subst, sym, arith}
-use Rattle.hp_words.specs.Asked.{AsksForScript}
-use Rattle.hp_words.specs.Config.{MachineChoice, choice_of, chosen, usual}
-use Rattle.hp_program.proofs.Runs.{answered_well, answered_as, ends_below_2, ran_as, served_not_2}
+use Rattle.std.proofs.Common.{map, inl, inr, refl, arith}
+use Rattle.hp_words.specs.Config.{choice_of, chosen, usual}
+use Rattle.hp_program.proofs.Runs.{answered_well, answered_as, ran_as}
 use Rattle.hp_words.proofs.Usual.{few_serve_not, few_texts, no_words}
 use Rattle.hp_program.proofs.Refused.{few_is_1, few_ask_no_text, not_taken, right_is_1, serves_is_1, told_as_asked}
 use Rattle.hp_program.proofs.run.program.Goals as goal
@@ -18,35 +17,11 @@ returns-in-Ok-Script-clause-alone g c few =
     let same = no_words (map g.S.AsStr.text c.args.words.now) (choice_of c.in-Ok-Script.machine) (few_texts _ _ few) (rw c.in-Ok-Script.field-0-is at c.in-Ok-Script.ensures.asked) in
     inl (c.run_on-ended.result, c.report.ensures.status, ran_as same c.run_on-ended.ensures.run)
 
-pub returns-in-Ok-Script-clause-right : goal.returns-in-Ok-Script-clause-right
-returns-in-Ok-Script-clause-right g c choice asked fits = ends_below_2 c.run_on-ended.result c.report.result c.report.ensures.status
-
-pub returns-in-Ok-Script-clause-serves : goal.returns-in-Ok-Script-clause-serves
-returns-in-Ok-Script-clause-serves g c choice serving asked fits serves = ends_below_2 c.run_on-ended.result c.report.result c.report.ensures.status
-
-pub returns-in-Ok-Script-clause-script : goal.returns-in-Ok-Script-clause-script
-returns-in-Ok-Script-clause-script g c zero =
-    inr (inl (
-      choice_of c.in-Ok-Script.machine,
-      rw c.in-Ok-Script.field-0-is at c.in-Ok-Script.ensures.asked,
-      answered_well _ (g.R.Read.remaining c.args.input.now) (g.W.Write.contents c.args.output.now) (g.W.Write.contents c.run_on-ended.new.output)
-          c.run_on-ended.result c.report.result c.report.ensures.status c.run_on-ended.ensures.script zero,
-    ))
-
 pub returns-in-Ok-Serve-clause-usual : goal.returns-in-Ok-Serve-clause-usual
 returns-in-Ok-Serve-clause-usual g c few zero = absurd (few_serve_not _ _ _ (few_texts g.S.AsStr.text c.args.words.now few) (rw c.in-Ok-Serve.field-0-is at c.in-Ok-Serve.ensures.asked))
 
 pub returns-in-Ok-Serve-clause-alone : goal.returns-in-Ok-Serve-clause-alone
 returns-in-Ok-Serve-clause-alone g c few = absurd (few_serve_not _ _ _ (few_texts g.S.AsStr.text c.args.words.now few) (rw c.in-Ok-Serve.field-0-is at c.in-Ok-Serve.ensures.asked))
-
-pub returns-in-Ok-Serve-clause-right : goal.returns-in-Ok-Serve-clause-right
-returns-in-Ok-Serve-clause-right g c choice asked fits = served_not_2 c.serve.ensures.ended c.serve.result c.serve.ensures.ends
-
-pub returns-in-Ok-Serve-clause-serves : goal.returns-in-Ok-Serve-clause-serves
-returns-in-Ok-Serve-clause-serves g c choice serving asked fits serves = served_not_2 c.serve.ensures.ended c.serve.result c.serve.ensures.ends
-
-pub returns-in-Err-clause-ended : goal.returns-in-Err-clause-ended
-returns-in-Err-clause-ended g c = inr (inr (c.in-Err.wrong, c.in-Err.ensures.refused, refl, c.refuse.ensures))
 
 pub returns-in-Err-clause-right : goal.returns-in-Err-clause-right
 returns-in-Err-clause-right g c choice asked fits two =

@@ -1,6 +1,6 @@
 use Rattle.std.proofs.Common.{◌≡◌, rules}
 use Rattle.std.proofs.lemmas.Result.{err_from_is_err_and, IfErr-weaker}
-use Rattle.hp_program.proofs.Said.{cut_first, cut_second, cut_third, cut_fourth, sent_fourth}
+use Rattle.hp_program.proofs.Said.{cut_first, cut_second, cut_third, cut_fourth}
 use Rattle.hp_program.proofs.run.write_line.Goals as goal
 
 pub returns-in_err-write_whole-clause-cut : goal.returns-in_err-write_whole-clause-cut
@@ -41,45 +41,3 @@ returns-clause-cut g c =
           (g.E.Write.contents c.write_whole-3.new.writer) (g.E.Write.contents c.write_whole-4.new.writer) c.args.what.now c.args.of.now
           c.in_ok-write_whole.ensures.sent (rw what at c.in_ok-write_whole-2.ensures.sent) (rw of at c.in_ok-write_whole-3.ensures.sent) h.1,
     )) c.write_whole-4.ensures.cut
-
-pub returns-in_err-write_whole-clause-sent : goal.returns-in_err-write_whole-clause-sent
-returns-in_err-write_whole-clause-sent g c =
-    let p = err_from_is_err_and c.from_residual.result c.from_residual.ensures.1 in
-    rw p.1 tt
-
-pub returns-in_err-write_whole-clause-sure : goal.returns-in_err-write_whole-clause-sure
-returns-in_err-write_whole-clause-sure g c =
-    let p = err_from_is_err_and c.from_residual.result c.from_residual.ensures.1 in
-    rw p.1 (λ s. c.in_err-write_whole.ensures.sure s)
-
-pub returns-in_err-write_whole-2-clause-sent : goal.returns-in_err-write_whole-2-clause-sent
-returns-in_err-write_whole-2-clause-sent g c =
-    let p = err_from_is_err_and c.from_residual-in_err-write_whole-2.result c.from_residual-in_err-write_whole-2.ensures.1 in
-    rw p.1 tt
-
-pub returns-in_err-write_whole-2-clause-sure : goal.returns-in_err-write_whole-2-clause-sure
-returns-in_err-write_whole-2-clause-sure g c =
-    let p = err_from_is_err_and c.from_residual-in_err-write_whole-2.result c.from_residual-in_err-write_whole-2.ensures.1 in
-    rw p.1 (λ s. c.in_err-write_whole-2.ensures.sure (c.in_ok-write_whole.ensures.stays s))
-
-pub returns-in_err-write_whole-3-clause-sent : goal.returns-in_err-write_whole-3-clause-sent
-returns-in_err-write_whole-3-clause-sent g c =
-    let p = err_from_is_err_and c.from_residual-in_err-write_whole-3.result c.from_residual-in_err-write_whole-3.ensures.1 in
-    rw p.1 tt
-
-pub returns-in_err-write_whole-3-clause-sure : goal.returns-in_err-write_whole-3-clause-sure
-returns-in_err-write_whole-3-clause-sure g c =
-    let p = err_from_is_err_and c.from_residual-in_err-write_whole-3.result c.from_residual-in_err-write_whole-3.ensures.1 in
-    rw p.1 (λ s. c.in_err-write_whole-3.ensures.sure (c.in_ok-write_whole-2.ensures.stays (c.in_ok-write_whole.ensures.stays s)))
-
-pub returns-clause-sent : goal.returns-clause-sent
-returns-clause-sent g c =
-    let what : c.as_bytes.result.now ≡ c.args.what.now = search rules in
-    let of : c.as_bytes-2.result.now ≡ c.args.of.now = search rules in
-    sent_fourth (g.E.Write.contents c.args.faults.now) (g.E.Write.contents c.write_whole.new.writer) (g.E.Write.contents c.write_whole-2.new.writer)
-    (g.E.Write.contents c.write_whole-3.new.writer) (g.E.Write.contents c.write_whole-4.new.writer) c.args.what.now c.args.of.now c.write_whole-4.result
-    c.in_ok-write_whole.ensures.sent (rw what at c.in_ok-write_whole-2.ensures.sent) (rw of at c.in_ok-write_whole-3.ensures.sent) c.write_whole-4.ensures.sent
-
-pub returns-clause-sure : goal.returns-clause-sure
-returns-clause-sure g c = λ s.
-    c.write_whole-4.ensures.sure (c.in_ok-write_whole-3.ensures.stays (c.in_ok-write_whole-2.ensures.stays (c.in_ok-write_whole.ensures.stays s)))

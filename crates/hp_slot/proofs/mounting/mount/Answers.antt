@@ -1,11 +1,9 @@
-use Rattle.std.proofs.Common.{Err, None, Ok, Some, sym, ap, subst, ◌∙◌}
-use Rattle.hp_model.specs.declared.answer.Answer.TheVariants.{Done}
+use Rattle.std.proofs.Common.{Err, Ok, Some, sym, ap, subst, ◌∙◌}
 use Rattle.hp_model.specs.declared.event.SlotEvent.TheVariants.{Mount as Mounting}
 use Rattle.hp_model.specs.declared.refusal.Refusal.TheVariants.{SlotTaken}
 use Rattle.hp_model.specs.machine.Plan.{Slot}
-use Rattle.hp_mount_door.specs.Opened.{IsOpenedAt}
 use Rattle.hp_mount_laws.specs.Done.{IsDone}
-use Rattle.hp_slot.proofs.Mounts.{mounted, never_memory, none_mount, opened_held, opened_pages, some_mount, taken}
+use Rattle.hp_slot.proofs.Mounts.{mounted_on, none_mount, opened_held, opened_pages, some_mount, taken}
 use Rattle.hp_slot.proofs.mounting.mount.Goals as goal
 
 pub returns-then-is_some-clause-done : goal.returns-then-is_some-clause-done
@@ -14,9 +12,6 @@ returns-then-is_some-clause-done g c = λ k.
     let some = some_mount c.args.slot.now (sym c.is_some.ensures ∙ c.if-is_some.true) in
     subst (λ (s : Slot). IsDone g.D.PoolDoor.took g.D.PoolDoor.is_full c.args.page_bytes k s door (Mounting c.args.options.now) (Err SlotTaken) s door) (sym some.1)
     (taken g.D.PoolDoor.took g.D.PoolDoor.is_full c.args.page_bytes k c.args.options.now some.0 door)
-
-pub returns-then-is_some-clause-left : goal.returns-then-is_some-clause-left
-returns-then-is_some-clause-left g c = g.D.PoolDoor.stays c.args.door.now c.requires.ready
 
 pub new-open-requires-clause-pages : goal.new-open-requires-clause-pages
 new-open-requires-clause-pages g c =
@@ -30,30 +25,11 @@ new-open-requires-clause-held g c =
 
 pub returns-in-Err-clause-done : goal.returns-in-Err-clause-done
 returns-in-Err-clause-done g c = λ k.
-    let took = g.D.PoolDoor.took in
-    let full = g.D.PoolDoor.is_full in
-    let size = c.args.page_bytes in
-    let text = c.args.options.now in
-    let door = c.args.door.now in
-    let left = c.open.new.self in
-    subst (λ (s : Slot). IsDone took full size k s door (Mounting text) (Err c.in-Err.refusal) s left) (sym (none_mount c.args.slot.now (sym c.is_some.ensures ∙ c.if-is_some.false)))
-    (mounted took full size text door left k (Err c.in-Err.refusal)
-    (subst (λ got. IsOpenedAt took full size text door left got) c.in-Err.is c.open.ensures.opened))
-
-pub returns-in-Err-clause-memory : goal.returns-in-Err-clause-memory
-returns-in-Err-clause-memory g c =
-    never_memory g.D.PoolDoor.took g.D.PoolDoor.is_full c.args.page_bytes c.args.options.now c.args.door.now c.open.new.self c.in-Err.refusal
-    (subst (λ got. IsOpenedAt g.D.PoolDoor.took g.D.PoolDoor.is_full c.args.page_bytes c.args.options.now c.args.door.now c.open.new.self got) c.in-Err.is c.open.ensures.opened)
+    let none = none_mount c.args.slot.now (sym c.is_some.ensures ∙ c.if-is_some.false) in
+    mounted_on g.D.PoolDoor.took g.D.PoolDoor.is_full c.args.page_bytes c.args.options.now c.args.door.now c.open.new.self k c.args.slot.now c.args.slot.now (Err c.in-Err.refusal)
+    c.open.result none none c.in-Err.is c.open.ensures.opened
 
 pub returns-in-None-clause-done : goal.returns-in-None-clause-done
 returns-in-None-clause-done g c = λ k.
-    let took = g.D.PoolDoor.took in
-    let full = g.D.PoolDoor.is_full in
-    let size = c.args.page_bytes in
-    let text = c.args.options.now in
-    let door = c.args.door.now in
-    let left = c.open.new.self in
-    subst (λ (s : Slot). IsDone took full size k s door (Mounting text) (Ok Done) c.replace.new.dest left) (sym (none_mount c.args.slot.now (sym c.is_some.ensures ∙ c.if-is_some.false)))
-    (subst (λ (s : Slot). IsDone took full size k None door (Mounting text) (Ok Done) s left) (sym (c.replace.ensures.after ∙ ap Some c.new-open.ensures))
-    (mounted took full size text door left k (Ok (c.in-Ok.share, c.in-Ok.limits))
-    (subst (λ got. IsOpenedAt took full size text door left got) c.in-Ok.is c.open.ensures.opened)))
+    mounted_on g.D.PoolDoor.took g.D.PoolDoor.is_full c.args.page_bytes c.args.options.now c.args.door.now c.open.new.self k c.args.slot.now c.replace.new.dest (Ok (c.in-Ok.share, c.in-Ok.limits))
+    c.open.result (none_mount c.args.slot.now (sym c.is_some.ensures ∙ c.if-is_some.false)) (c.replace.ensures.after ∙ ap Some c.new-open.ensures) c.in-Ok.is c.open.ensures.opened

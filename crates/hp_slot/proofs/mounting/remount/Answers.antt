@@ -1,6 +1,5 @@
 use Rattle.std.proofs.Common.{Err, Some, sym, subst, arith}
 use Rattle.std.proofs.lemmas.Bool.Decides.{nat_tests}
-use Rattle.hp_model.specs.beside.Accesses.{done_reply}
 use Rattle.hp_model.specs.declared.event.SlotEvent.TheVariants.{Remount}
 use Rattle.hp_model.specs.declared.refusal.Refusal.TheVariants.{NoSuchSlot, SlotTaken}
 use Rattle.hp_model.specs.machine.Plan.{Slot}
@@ -14,9 +13,6 @@ returns-in-None-clause-done g c =
     subst (λ (s : Slot). IsDone g.D.PoolDoor.took g.D.PoolDoor.is_full c.args.page_bytes c.args.number s door (Remount c.args.options.now) (Err NoSuchSlot) s door) (sym c.in-None.is)
     (limits_none g.D.PoolDoor.took g.D.PoolDoor.is_full c.args.page_bytes c.args.number c.args.options.now door)
 
-pub returns-in-None-clause-left : goal.returns-in-None-clause-left
-returns-in-None-clause-left g c = g.D.PoolDoor.stays c.args.door.now c.requires.ready
-
 pub returns-then-number-eq0-clause-done : goal.returns-then-number-eq0-clause-done
 returns-then-number-eq0-clause-done g c =
     let door = c.args.door.now in
@@ -24,12 +20,3 @@ returns-then-number-eq0-clause-done g c =
     (sym c.in-Some.is)
     (limits_first g.D.PoolDoor.took g.D.PoolDoor.is_full c.args.page_bytes c.args.number c.args.options.now c.in-Some.mount door
     (let zero = c.if-number-eq0.true in grind (arith, nat_tests, zero)))
-
-pub returns-then-number-eq0-clause-left : goal.returns-then-number-eq0-clause-left
-returns-then-number-eq0-clause-left g c = g.D.PoolDoor.stays c.args.door.now c.requires.ready
-
-pub returns-else-number-eq0-clause-done : goal.returns-else-number-eq0-clause-done
-returns-else-number-eq0-clause-done g c =
-    subst (λ (s : Slot). IsDone g.D.PoolDoor.took g.D.PoolDoor.is_full c.args.page_bytes c.args.number s c.args.door.now (Remount c.args.options.now) (done_reply c.remount.result)
-    (Some c.remount.new.self) c.remount.new.door) (sym c.in-Some.is)
-    (c.remount.ensures.done c.args.number (grind (arith, nat_tests, c.if-number-eq0.false)))

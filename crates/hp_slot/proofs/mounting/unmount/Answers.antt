@@ -15,18 +15,12 @@ returns-then-is_none-clause-done g c = λ size.
     subst (λ (s : Slot). IsDone g.D.PoolDoor.took (λ d. ⊥) size c.args.number s door Umount (Err NoSuchSlot) s door) (sym (none_mount c.args.slot.now (c.is_none.ensures ∙ ap not c.if-is_none.true)))
     (unmounted_none g.D.PoolDoor.took (λ d. ⊥) size c.args.number door)
 
-pub returns-then-is_none-clause-left : goal.returns-then-is_none-clause-left
-returns-then-is_none-clause-left g c = g.D.PoolDoor.stays c.args.door.now c.requires.ready
-
 pub returns-then-number-eq0-clause-done : goal.returns-then-number-eq0-clause-done
 returns-then-number-eq0-clause-done g c = λ size.
     let door = c.args.door.now in
     let some = some_mount c.args.slot.now (c.is_none.ensures ∙ ap not c.if-is_none.false) in
     subst (λ (s : Slot). IsDone g.D.PoolDoor.took (λ d. ⊥) size c.args.number s door Umount (Err Busy) s door) (sym some.1)
     (unmounted_busy g.D.PoolDoor.took (λ d. ⊥) size c.args.number some.0 door (λ other. absurd (let zero = c.if-number-eq0.true in grind (arith, nat_tests, zero, other))))
-
-pub returns-then-number-eq0-clause-left : goal.returns-then-number-eq0-clause-left
-returns-then-number-eq0-clause-left g c = g.D.PoolDoor.stays c.args.door.now c.requires.ready
 
 pub returns-in-Ok-clause-done : goal.returns-in-Ok-clause-done
 returns-in-Ok-clause-done g c = λ size.

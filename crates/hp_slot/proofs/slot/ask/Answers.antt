@@ -9,11 +9,6 @@ returns-in-Mount-clause-done g c =
     asked_as g.D.PoolDoor.took g.D.PoolDoor.is_full c.args.number c.args.slot.now c.mount.new.slot c.args.door.now c.mount.new.door
     c.in-Mount.is c.requires.page_bytes c.done.ensures (c.mount.ensures.done c.args.number)
 
-pub returns-in-Remount-clause-done : goal.returns-in-Remount-clause-done
-returns-in-Remount-clause-done g c =
-    asked_as g.D.PoolDoor.took g.D.PoolDoor.is_full c.args.number c.args.slot.now c.remount.new.slot c.args.door.now c.remount.new.door
-    c.in-Remount.is c.requires.page_bytes c.done-in-Remount.ensures c.remount.ensures.done
-
 pub returns-in-Umount-clause-done : goal.returns-in-Umount-clause-done
 returns-in-Umount-clause-done g c =
     asked_as g.D.PoolDoor.took g.D.PoolDoor.is_full c.args.number c.args.slot.now c.unmount.new.slot c.args.door.now c.unmount.new.door

@@ -7,8 +7,3 @@ loop-slot-preserved g c = record {
   empty = free_front _ _ _ c.in-Some.ensures.items c.loop-slot.invariant.empty;
   capacity = c.in-Some.ensures.capacity ∙ c.loop-slot.invariant.capacity;
 }
-
-pub unreachable-requires : goal.unreachable-requires
-unreachable-requires g c =
-    let e : c.in-Some.slot ≡ None = last_free _ _ _ c.in-Some.ensures.items c.loop-slot.invariant.empty in
-    cc

@@ -61,6 +61,3 @@ loop-preserved g c =
       writer = λ s. c.answer_chunk-in-loop.ensures.stays (i.writer s);
       lent = c.answer_chunk-in-loop.ensures.lent ∙ i.lent;
     }
-
-pub returns-clause-served : goal.returns-clause-served
-returns-clause-served g c = absurd (omega (arith, c.loop.invariant.turns, c.loop.invariant.limit))

@@ -7,9 +7,3 @@ returns-then-both-gt255-clause-none c i =
     let h = c.value_of in
     let l = c.value_of-2 in
     pair_bad c.args.high c.args.low (h.result * 16 + l.result) i (omega (arith, h.ensures, l.ensures)) c.if-both-gt255.true
-
-pub returns-clause-some : goal.returns-clause-some
-returns-clause-some c i =
-    let h = c.value_of in
-    let l = c.value_of-2 in
-    pair_good c.args.high c.args.low (h.result * 16 + l.result) i (omega (arith, h.ensures, l.ensures)) c.if-both-gt255.false

@@ -4,11 +4,6 @@ use Rattle.hp_model.specs.text.Words.{is_word_byte}
 use Rattle.hp_wire_lines.proofs.WordEnds.{word_more, word_start}
 use Rattle.hp_wire_lines.proofs.words.end_of_word.Goals as goal
 
-pub loop-n-init : goal.loop-n-init
-loop-n-init c =
-    let one = word_start c.args.line.now c.args.from c.requires.from c.requires.printed in
-    record { some = omega arith; within = omega arith; printed = one.0; front = one.1 }
-
 pub loop-n-preserved : goal.loop-n-preserved
 loop-n-preserved c =
     let l = c.loop-n in

@@ -4,16 +4,10 @@ use Rattle.hp_own_pool.specs.Parcel.{claimed}
 use Rattle.hp_own_pool.proofs.Takings.{all_in_order}
 use Rattle.hp_locked.proofs.nodes.NodeLocks.add_pages.Goals as goal
 
-pub returns-clause-counts : goal.returns-clause-counts
-returns-clause-counts g c =
+pub returns : goal.returns
+returns g c =
     let parts = c.into_claims-zero.result in
-    (all_in_order (claimed parts.0) (claimed parts.1) (claimed parts.2) (claimed parts.3) c.args.parcel c.args.batch.now.pages
+    let all = all_in_order (claimed parts.0) (claimed parts.1) (claimed parts.2) (claimed parts.3) c.args.parcel c.args.batch.now.pages
     c.add_part_at.new.batch.pages c.add_part_at-2.new.batch.pages c.add_part_at-3.new.batch.pages c.add_part_at-4.new.batch.pages (ap (λ (b : Batch). b.pages) c.requires)
-    c.into_claims-zero.ensures.counts c.add_part_at.ensures.pages c.add_part_at-2.ensures.pages c.add_part_at-3.ensures.pages c.add_part_at-4.ensures.pages).0
-
-pub returns-clause-rising : goal.returns-clause-rising
-returns-clause-rising g c =
-    let parts = c.into_claims-zero.result in
-    (all_in_order (claimed parts.0) (claimed parts.1) (claimed parts.2) (claimed parts.3) c.args.parcel c.args.batch.now.pages
-    c.add_part_at.new.batch.pages c.add_part_at-2.new.batch.pages c.add_part_at-3.new.batch.pages c.add_part_at-4.new.batch.pages (ap (λ (b : Batch). b.pages) c.requires)
-    c.into_claims-zero.ensures.counts c.add_part_at.ensures.pages c.add_part_at-2.ensures.pages c.add_part_at-3.ensures.pages c.add_part_at-4.ensures.pages).1
+    c.into_claims-zero.ensures.counts c.add_part_at.ensures.pages c.add_part_at-2.ensures.pages c.add_part_at-3.ensures.pages c.add_part_at-4.ensures.pages in
+    record { counts = all.0; rising = all.1 }

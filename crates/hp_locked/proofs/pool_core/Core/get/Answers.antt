@@ -1,29 +1,9 @@
-use Rattle.std.proofs.Common.{[], ◌∷◌, ◌++◌, ap, ◌∙◌}
-use Rattle.hp_model.specs.declared.entry.PoolEntry.{PoolEntry}
-use Rattle.hp_model.specs.declared.entry.PoolEntry.TheVariants.{OfSlot}
-use Rattle.hp_history.specs.declared.held.Held.TheVariants.{Pool as PoolPart}
-use Rattle.hp_history.specs.Sections.{pool_in}
-use Rattle.hp_locked.specs.Views.{frames_list}
-use Rattle.std.proofs.Common.{sym}
-use Rattle.hp_mount_door.specs.Door.{grant_for}
-use Rattle.hp_pool.specs.Sums.{idle_pool}
-use Rattle.hp_locked.proofs.Added.{seated_more, section_noted}
+use Rattle.std.proofs.Common.{sym, ◌∙◌}
+use Rattle.hp_locked.proofs.Added.{section_kept}
 use Rattle.hp_locked.proofs.pool_core.Core.get.Goals as goal
 
 pub invariant_of-self-2 : goal.invariant_of-self-2
-invariant_of-self-2 g c = (
-  section_noted (idle_pool (frames_list g.N.Naming.frames)) (g.T.Trail.entries c.self.inside.trail) (g.T.Trail.entries c.note.new.trail)
-      (g.T.Trail.left c.self.inside.trail) (g.T.Trail.left c.note.new.trail) (g.T.Trail.extra c.self.inside.trail)
-      (g.T.Trail.extra c.note.new.trail)
-      c.self.inside.pool (grant_for c.args.home c.args.k c.args.share.now) c.reserved-answer.result c.reserved-answer.new.pool
-      c.self.invariant.0 (rw (sym c.asked_for-pages.ensures) c.note.ensures.entries) c.note.ensures.left c.note.ensures.extra
-      c.reserved-answer.ensures.section c.reserved-answer.ensures.ready c.law.ensures.settled
-      (let is = c.has_room.ensures.room in let yes = c.if-not-has_room.false in cc),
-  seated_more g.N.Places.history (idle_pool (frames_list g.N.Naming.frames)) c.self.inside.seat.table_id c.note.new.seat.table_id c.self.inside.seat.views c.note.new.seat.views
-      (g.T.Trail.entries c.self.inside.trail) (g.T.Trail.entries c.note.new.trail)
-      c.self.inside.pool (OfSlot (grant_for c.args.home c.args.k c.args.share.now) (c.reserved-answer.result)) c.reserved-answer.new.pool
-      c.self.invariant.1 (rw (sym c.asked_for-pages.ensures) c.note.ensures.entries) c.note.ensures.pool
-      (rw (sym c.asked_for-pages.ensures) (c.note.ensures.run ∙ ap (λ (x : PoolEntry). (PoolPart (pool_in c.self.inside.seat.views ++ x ∷ []) ∷ []) ∷ [])
-      (λ i. OfSlot (c.note.ensures.section i) (c.note.ensures.answer i))))
-      c.reserved-answer.ensures.section,
-)
+invariant_of-self-2 g c =
+    section_kept c.note.result c.self.invariant c.note.ensures.section c.note.ensures.answer c.note.ensures.entries c.note.ensures.left
+    c.note.ensures.extra c.note.ensures.pool c.note.ensures.run
+    (rw c.asked_for-pages.ensures c.reserved-answer.ensures.section) c.reserved-answer.ensures.ready c.law.ensures.settled (sym c.has_room.ensures.room ∙ c.if-not-has_room.false)

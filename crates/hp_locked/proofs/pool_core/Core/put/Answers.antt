@@ -1,38 +1,15 @@
-use Rattle.std.proofs.Common.{subst}
-use Rattle.std.specs.Prelude.{◌+◌}
-use Rattle.std.specs.List.{sum}
-use Rattle.hp_history.specs.Sections.{pool_in}
-use Rattle.hp_locked.specs.Views.{CoreView, IsGiven, frames_list}
-use Rattle.hp_pool.specs.Sums.{idle_pool}
-use Rattle.hp_subpool.specs.Subpool.{fall}
-use Rattle.hp_locked.proofs.Added.{given_is, given_noted, given_seated}
+use Rattle.hp_locked.proofs.Added.{given_is, given_kept}
 use Rattle.hp_locked.proofs.pool_core.Core.put.Goals as goal
 
 pub invariant_of-self : goal.invariant_of-self
-invariant_of-self g c = (
-  given_noted g.T.Trail.entries g.T.Trail.left g.T.Trail.extra c.self.inside.trail c.given.new.trail c.self.inside.seat.views c.given.new.seat.views c.args.parcel
-      (fall c.args.share.now (sum c.args.parcel + c.args.reserves)) c.self.inside.pool c.returned-pages.new.pool
-      c.returned-pages.result.0 c.returned-pages.result.1 c.returned-pages.ensures.puts c.returned-pages.ensures.fall c.returned-pages.ensures.moved
-      c.returned-pages.ensures.same c.given.result c.given.ensures.some c.given.ensures.none
-      (idle_pool (frames_list g.N.Naming.frames)) c.self.invariant.0 c.returned-pages.ensures.ready c.law.ensures.settled c.returned-pages.ensures.less,
-  given_seated g.T.Trail.entries g.T.Trail.left g.T.Trail.extra c.self.inside.trail c.given.new.trail c.self.inside.seat.views c.given.new.seat.views c.args.parcel
-      (fall c.args.share.now (sum c.args.parcel + c.args.reserves)) c.self.inside.pool c.returned-pages.new.pool
-      c.returned-pages.result.0 c.returned-pages.result.1 c.returned-pages.ensures.puts c.returned-pages.ensures.fall c.returned-pages.ensures.moved
-      c.returned-pages.ensures.same c.given.result c.given.ensures.some c.given.ensures.none
-      g.N.Places.history (idle_pool (frames_list g.N.Naming.frames)) c.self.inside.seat.table_id c.given.new.seat.table_id c.self.invariant.1 c.given.ensures.pool,
-)
+invariant_of-self g c =
+    given_kept g.T.Trail.entries g.T.Trail.left g.T.Trail.extra c.self.inside.trail c.given.new.trail c.self.inside.seat.views c.given.new.seat.views c.args.parcel
+    _ c.self.inside.pool c.returned-pages.new.pool c.returned-pages.result.0 c.returned-pages.result.1 c.returned-pages.ensures.puts c.returned-pages.ensures.fall
+    c.returned-pages.ensures.moved c.returned-pages.ensures.same c.given.result c.given.ensures.some c.given.ensures.none c.self.invariant
+    c.returned-pages.ensures.ready c.law.ensures.settled c.returned-pages.ensures.less c.given.ensures.pool
 
 pub returns-clause-given : goal.returns-clause-given
 returns-clause-given g c =
-    subst (λ (v : CoreView). IsGiven c.args.parcel (fall c.args.share.now (sum c.args.parcel + c.args.reserves)) v
-    (record {
-      pool = c.returned-pages.new.pool;
-      run = pool_in c.given.new.seat.views;
-      entries = g.T.Trail.entries c.given.new.trail;
-      left = g.T.Trail.left c.given.new.trail;
-      extra = g.T.Trail.extra c.given.new.trail;
-    }) c.given.result) c.self.view_is
-    (given_is g.T.Trail.entries g.T.Trail.left g.T.Trail.extra c.self.inside.trail c.given.new.trail c.self.inside.seat.views c.given.new.seat.views c.args.parcel
-    (fall c.args.share.now (sum c.args.parcel + c.args.reserves)) c.self.inside.pool c.returned-pages.new.pool
-    c.returned-pages.result.0 c.returned-pages.result.1 c.returned-pages.ensures.puts c.returned-pages.ensures.fall c.returned-pages.ensures.moved
-    c.returned-pages.ensures.same c.given.result c.given.ensures.some c.given.ensures.none)
+    rw c.self.view_is at (given_is g.T.Trail.entries g.T.Trail.left g.T.Trail.extra c.self.inside.trail c.given.new.trail c.self.inside.seat.views c.given.new.seat.views c.args.parcel
+    _ c.self.inside.pool c.returned-pages.new.pool c.returned-pages.result.0 c.returned-pages.result.1 c.returned-pages.ensures.puts c.returned-pages.ensures.fall
+    c.returned-pages.ensures.moved c.returned-pages.ensures.same c.given.result c.given.ensures.some c.given.ensures.none)

@@ -1,4 +1,4 @@
-use Rattle.std.proofs.Common.{◌≡◌, ◌*◌, ◌<◌, ◌++◌, true, length, map, take, drop, sym, subst, ap, ◌∙◌, rules, tests, arith}
+use Rattle.std.proofs.Common.{◌≡◌, ◌*◌, ◌<◌, ◌++◌, true, length, take, drop, sym, subst, ap, ◌∙◌, rules, tests, arith}
 use Rattle.std.specs.Prelude.{All}
 use Rattle.std.proofs.lemmas.List.{get_or_read}
 use Rattle.std.specs.Fn.{iterate}
@@ -6,7 +6,7 @@ use Rattle.std.specs.List.{count_by}
 use Rattle.hp_model.specs.declared.node.Kind.TheVariants.{Idle}
 use Rattle.hp_model.specs.pool.NodeRows.{NodeRows, row_at, no_row, has, sum_row, next_node, grown}
 use Rattle.hp_nodes.specs.Moves.{amount, HasMany, where_has, grow_by}
-use Rattle.hp_nodes.proofs.Each.{kept_grow_each, grow_each_sums, written}
+use Rattle.hp_nodes.proofs.Each.{each_written, kept_grow_each, grow_each_sums}
 use Rattle.hp_nodes.proofs.Finds.{has_amount}
 use Rattle.hp_nodes.proofs.Turns.{rounds_grown}
 use Rattle.hp_nodes.proofs.lists.NodeLists.grow_rounds.Goals as goal
@@ -17,9 +17,7 @@ invariant_of-self g c =
     let rows = s.nodes.items in
     let r = c.min-rounds.result in
     let new = c.grow_each.new.nodes in
-    let left : take s.nodes.len (new ++ drop (length new) rows) ≡ map (where_has Idle (grow_by r)) rows =
-    written s.nodes.len new rows (omega (arith, c.grow_each.auto.nodes, c.deref_mut.ensures.len)) ∙ c.grow_each.ensures ∙ ap (map (where_has Idle (grow_by r))) c.deref_mut.ensures.value
-    in
+    let left = each_written (where_has Idle (grow_by r)) s.nodes.len new _ rows (omega (arith, c.grow_each.auto.nodes, c.deref_mut.ensures.len)) c.grow_each.ensures c.deref_mut.ensures.value in
     let least : All (HasMany Idle c.least.result) rows = subst (All (HasMany Idle c.least.result)) c.deref-2.ensures.value c.least.ensures in
     let enough : All (HasMany Idle r) rows = λ k d below e. (let h = least k d below e in omega (arith, h, c.min-rounds.ensures)) in
     rw left (kept_grow_each rows s.growth s.release s.claims r c.self.invariant enough)
@@ -30,9 +28,7 @@ returns-clause-moved g c =
     let rows = s.nodes.items in
     let r = c.min-rounds.result in
     let new = c.grow_each.new.nodes in
-    let left : take s.nodes.len (new ++ drop (length new) rows) ≡ map (where_has Idle (grow_by r)) rows =
-    written s.nodes.len new rows (omega (arith, c.grow_each.auto.nodes, c.deref_mut.ensures.len)) ∙ c.grow_each.ensures ∙ ap (map (where_has Idle (grow_by r))) c.deref_mut.ensures.value
-    in
+    let left = each_written (where_has Idle (grow_by r)) s.nodes.len new _ rows (omega (arith, c.grow_each.auto.nodes, c.deref_mut.ensures.len)) c.grow_each.ensures c.deref_mut.ensures.value in
     let least : All (HasMany Idle c.least.result) rows = subst (All (HasMany Idle c.least.result)) c.deref-2.ensures.value c.least.ensures in
     let enough : All (HasMany Idle r) rows = λ k d below e. (let h = least k d below e in omega (arith, h, c.min-rounds.ensures)) in
     let count : c.having-round.result ≡ count_by (has Idle) rows = c.having-round.ensures.count ∙ ap (count_by (has Idle)) c.deref.ensures.value in
@@ -53,9 +49,7 @@ returns-clause-sums g c =
     let rows = s.nodes.items in
     let r = c.min-rounds.result in
     let new = c.grow_each.new.nodes in
-    let left : take s.nodes.len (new ++ drop (length new) rows) ≡ map (where_has Idle (grow_by r)) rows =
-    written s.nodes.len new rows (omega (arith, c.grow_each.auto.nodes, c.deref_mut.ensures.len)) ∙ c.grow_each.ensures ∙ ap (map (where_has Idle (grow_by r))) c.deref_mut.ensures.value
-    in
+    let left = each_written (where_has Idle (grow_by r)) s.nodes.len new _ rows (omega (arith, c.grow_each.auto.nodes, c.deref_mut.ensures.len)) c.grow_each.ensures c.deref_mut.ensures.value in
     let count : c.having-round.result ≡ count_by (has Idle) rows = c.having-round.ensures.count ∙ ap (count_by (has Idle)) c.deref.ensures.value in
     let all : sum_row (take s.nodes.len (new ++ drop (length new) rows)) ≡ grow_by (r * c.having-round.result) (sum_row rows) =
     ap sum_row left ∙ grow_each_sums rows r ∙ ap (λ k. grow_by (r * k) (sum_row rows)) (sym count)

@@ -1,4 +1,4 @@
-use Rattle.std.proofs.Common.{◌≡◌, ◌*◌, ◌<◌, ◌++◌, true, length, map, take, drop, sym, subst, ap, ◌∙◌, rules, tests, arith}
+use Rattle.std.proofs.Common.{◌≡◌, ◌*◌, ◌<◌, ◌++◌, true, length, take, drop, sym, subst, ap, ◌∙◌, rules, tests, arith}
 use Rattle.std.specs.Prelude.{All}
 use Rattle.std.proofs.lemmas.List.{get_or_read}
 use Rattle.std.specs.Fn.{iterate}
@@ -6,7 +6,7 @@ use Rattle.std.specs.List.{count_by}
 use Rattle.hp_model.specs.declared.node.Kind.TheVariants.{Free}
 use Rattle.hp_model.specs.pool.NodeRows.{NodeRows, row_at, no_row, has, sum_row, next_node, shrunk}
 use Rattle.hp_nodes.specs.Moves.{amount, HasMany, where_has, shrink_by}
-use Rattle.hp_nodes.proofs.Each.{kept_shrink_each, shrink_each_sums, written}
+use Rattle.hp_nodes.proofs.Each.{each_written, kept_shrink_each, shrink_each_sums}
 use Rattle.hp_nodes.proofs.Finds.{has_amount}
 use Rattle.hp_nodes.proofs.Turns.{rounds_shrunk}
 use Rattle.hp_nodes.proofs.lists.NodeLists.shrink_rounds.Goals as goal
@@ -17,9 +17,7 @@ invariant_of-self g c =
     let rows = s.nodes.items in
     let r = c.min-rounds.result in
     let new = c.shrink_each.new.nodes in
-    let left : take s.nodes.len (new ++ drop (length new) rows) ≡ map (where_has Free (shrink_by r)) rows =
-    written s.nodes.len new rows (omega (arith, c.shrink_each.auto.nodes, c.deref_mut.ensures.len)) ∙ c.shrink_each.ensures ∙ ap (map (where_has Free (shrink_by r))) c.deref_mut.ensures.value
-    in
+    let left = each_written (where_has Free (shrink_by r)) s.nodes.len new _ rows (omega (arith, c.shrink_each.auto.nodes, c.deref_mut.ensures.len)) c.shrink_each.ensures c.deref_mut.ensures.value in
     let least : All (HasMany Free c.least.result) rows = subst (All (HasMany Free c.least.result)) c.deref-2.ensures.value c.least.ensures in
     let enough : All (HasMany Free r) rows = λ k d below e. (let h = least k d below e in omega (arith, h, c.min-rounds.ensures)) in
     let bare : All (λ x. x.surp ≡ 0) rows = subst (λ v. All (λ x. x.surp ≡ 0) v.rows) (sym c.self.view_is) c.requires.no_surplus in
@@ -31,9 +29,7 @@ returns-clause-moved g c =
     let rows = s.nodes.items in
     let r = c.min-rounds.result in
     let new = c.shrink_each.new.nodes in
-    let left : take s.nodes.len (new ++ drop (length new) rows) ≡ map (where_has Free (shrink_by r)) rows =
-    written s.nodes.len new rows (omega (arith, c.shrink_each.auto.nodes, c.deref_mut.ensures.len)) ∙ c.shrink_each.ensures ∙ ap (map (where_has Free (shrink_by r))) c.deref_mut.ensures.value
-    in
+    let left = each_written (where_has Free (shrink_by r)) s.nodes.len new _ rows (omega (arith, c.shrink_each.auto.nodes, c.deref_mut.ensures.len)) c.shrink_each.ensures c.deref_mut.ensures.value in
     let least : All (HasMany Free c.least.result) rows = subst (All (HasMany Free c.least.result)) c.deref-2.ensures.value c.least.ensures in
     let enough : All (HasMany Free r) rows = λ k d below e. (let h = least k d below e in omega (arith, h, c.min-rounds.ensures)) in
     let count : c.having-round.result ≡ count_by (has Free) rows = c.having-round.ensures.count ∙ ap (count_by (has Free)) c.deref.ensures.value in
@@ -54,9 +50,7 @@ returns-clause-sums g c =
     let rows = s.nodes.items in
     let r = c.min-rounds.result in
     let new = c.shrink_each.new.nodes in
-    let left : take s.nodes.len (new ++ drop (length new) rows) ≡ map (where_has Free (shrink_by r)) rows =
-    written s.nodes.len new rows (omega (arith, c.shrink_each.auto.nodes, c.deref_mut.ensures.len)) ∙ c.shrink_each.ensures ∙ ap (map (where_has Free (shrink_by r))) c.deref_mut.ensures.value
-    in
+    let left = each_written (where_has Free (shrink_by r)) s.nodes.len new _ rows (omega (arith, c.shrink_each.auto.nodes, c.deref_mut.ensures.len)) c.shrink_each.ensures c.deref_mut.ensures.value in
     let least : All (HasMany Free c.least.result) rows = subst (All (HasMany Free c.least.result)) c.deref-2.ensures.value c.least.ensures in
     let enough : All (HasMany Free r) rows = λ k d below e. (let h = least k d below e in omega (arith, h, c.min-rounds.ensures)) in
     let count : c.having-round.result ≡ count_by (has Free) rows = c.having-round.ensures.count ∙ ap (count_by (has Free)) c.deref.ensures.value in

@@ -1,35 +1,24 @@
-use Rattle.std.proofs.Common.{◌<◌, length, arith, ap}
+use Rattle.std.proofs.Common.{◌<◌, length, arith, rules}
+use Rattle.std.proofs.lemmas.Grind.{common_steps}
 use Rattle.hp_model.specs.beside.Told.{told_reply}
-use Rattle.hp_model.specs.machine.Ready.{Machine}
 use Rattle.hp_model.specs.machine.Plan.{Choice}
 use Rattle.hp_model.specs.machine.SlotEvent.{slot_event}
 use Rattle.hp_events.specs.SlotWork.{asked_event}
-use Rattle.hp_system.proofs.Carries.{kept_by, never_full_at, ready, work_happens}
-use Rattle.hp_system.proofs.MachineSteps.{door_done, door_ready}
+use Rattle.hp_system.proofs.Carries.{never_full_at, work_happens}
+use Rattle.hp_system.proofs.Ready.{pool_ready}
+use Rattle.hp_system.proofs.MachineSteps.{done_on}
 use Rattle.hp_system.proofs.system.System.ask_slot.Goals as goal
 
 pub ask-requires-clause-ready : goal.ask-requires-clause-ready
-ask-requires-clause-ready g c = (let s = c.self.inside in ready s.page_bytes g.N.Naming.page_bytes s.table s.slots.items s.pool
-    (kept_by c.args.self.now c.self.invariant c.self.view_is c.requires.ready))
+ask-requires-clause-ready g c = pool_ready c.self.view_is c.requires.ready
 
-pub returns-clause-done : goal.returns-clause-done
-returns-clause-done g c =
+pub returns : goal.returns
+returns g c =
     let s = c.self.inside in
     let within : c.args.slot < length s.slots.items = omega (arith, c.if-at-len.false, c.len.ensures) in
     let x = c.index_mut.result.now in
-    door_done s.page_bytes g.N.Naming.page_bytes s.table s.slots.items s.pool (kept_by c.args.self.now c.self.invariant c.self.view_is c.requires.ready)
-    c.args.self.now.state (ap (λ (x : Machine). x.state) c.self.view_is) c.args.slot within x c.ask.new.slot c.index_mut.ensures.value c.ask.new.door
-    (asked_event c.args.work) (work_happens c.args.work x c.requires.plain) (told_reply c.ask.result)
-    (never_full_at c.args.work (λ (y : Choice). slot_event g.N.Naming.page_bytes c.args.slot y x (asked_event c.args.work)) x c.ask.new.slot s.pool c.ask.new.door
-    (told_reply c.ask.result) c.ask.ensures.done)
-
-pub returns-clause-ready : goal.returns-clause-ready
-returns-clause-ready g c =
-    let s = c.self.inside in
-    let within : c.args.slot < length s.slots.items = omega (arith, c.if-at-len.false, c.len.ensures) in
-    let x = c.index_mut.result.now in
-    door_ready s.page_bytes g.N.Naming.page_bytes s.table s.slots.items s.pool (kept_by c.args.self.now c.self.invariant c.self.view_is c.requires.ready)
-    c.args.self.now.state (ap (λ (x : Machine). x.state) c.self.view_is) c.args.slot within x c.ask.new.slot c.index_mut.ensures.value c.ask.new.door
-    (asked_event c.args.work) (work_happens c.args.work x c.requires.plain) (told_reply c.ask.result)
-    (never_full_at c.args.work (λ (y : Choice). slot_event g.N.Naming.page_bytes c.args.slot y x (asked_event c.args.work)) x c.ask.new.slot s.pool c.ask.new.door
-    (told_reply c.ask.result) c.ask.ensures.done)
+    let e = asked_event c.args.work in
+    let did = done_on c.self.view_is c.args.slot within x c.index_mut.ensures.value c.self.invariant c.requires.ready c.ask.new.slot c.ask.new.door e (told_reply c.ask.result)
+    (work_happens c.args.work x c.requires.plain)
+    (never_full_at c.args.work (λ (y : Choice). slot_event g.N.Naming.page_bytes c.args.slot y x e) x c.ask.new.slot s.pool c.ask.new.door (told_reply c.ask.result) c.ask.ensures.done) in
+    record { done = did.script; memory = grind (arith, common_steps); size = search rules; ready = did.ready }

@@ -1,13 +1,12 @@
 use Rattle.std.proofs.Common.{length, arith, ap}
-use Rattle.hp_system.proofs.Carries.{kept_by, ready}
+use Rattle.hp_system.proofs.Ready.{pool_ready}
 use Rattle.hp_laws.proofs.lists.NodeRows.{padded}
 use Rattle.hp_model.specs.machine.Ready.{Machine}
 use Rattle.hp_system.proofs.system.System.node_counts.Goals as goal
 
 pub returns : goal.returns
 returns g c =
-    let s = c.self.inside in
     let is = ap (λ (x : Machine). length x.pool.nodes.rows) c.self.view_is in
-    let few = (ready s.page_bytes g.N.Naming.page_bytes s.table s.slots.items s.pool (kept_by c.args.self.now c.self.invariant c.self.view_is c.requires)).nodes in
+    let few = (pool_ready c.self.view_is c.requires).nodes in
     padded c.args.self.now.pool c.loop-node.rows c.loop-node.node (omega (arith, is, few))
     (omega (arith, is, c.len-node-end.ensures, c.loop-node-test.false, c.loop-node.auto.node-end)) c.loop-node.invariant

@@ -1,9 +1,6 @@
 use Rattle.std.proofs.lemmas.Result.{err_from_is_err_and}
-use Rattle.hp_wire.proofs.Known.{ran_sent, ran_unsent}
+use Rattle.hp_wire.proofs.Known.{ran_unsent}
 use Rattle.hp_wire.proofs.replies.Replies.answer_chunk.Goals as goal
-
-pub returns-clause-ran : goal.returns-clause-ran
-returns-clause-ran g c = ran_sent c.requires.none c.in_ok-left.ensures.answered c.in_ok-send.ensures.sent
 
 pub returns-in_err-send-clause-cut : goal.returns-in_err-send-clause-cut
 returns-in_err-send-clause-cut g c =

@@ -3,7 +3,7 @@ use Rattle.hp_model.specs.text.Lines.{Line}
 use Rattle.hp_wire.specs.Answered.{Answered}
 use Rattle.hp_wire.specs.Queues.{AreRead}
 use Rattle.hp_wire.proofs.LineCuts.{CutOff}
-use Rattle.hp_wire.proofs.replies.Replies.answer_together.Given as goal
+use Rattle.hp_wire.proofs.replies.Replies.answer_ended.Given as goal
 
 abbrev pub invariant-loop-after : goal.invariant-loop-after
 invariant-loop-after g l = (done : List Line) × (waiting : List Line) × record {

@@ -6,7 +6,7 @@ use Rattle.hp_wire.specs.Queues.{AreRead}
 use Rattle.hp_wire.proofs.Known.{answered_none, answered_then}
 use Rattle.hp_wire.proofs.LineCuts.{none_off, one_off}
 use Rattle.hp_wire.proofs.Together.{all_together, part_later, part_longer}
-use Rattle.hp_wire.proofs.replies.Replies.answer_together.Goals as goal
+use Rattle.hp_wire.proofs.replies.Replies.answer_ended.Goals as goal
 
 pub loop-after-init : goal.loop-after-init
 loop-after-init g c = (
