@@ -1,20 +1,10 @@
 -- Where trails were joined, the pool's numbers are the sums over files and maps.
-use Rattle.std.proofs.Common.{◌≡◌, ℕ, ◌+◌, None, List, [], ◌∷◌, length, map, refl, sym, ap, subst, ◌∙◌, arith}
+use Rattle.std.proofs.Common.{◌≡◌, ℕ, ◌+◌, None, List, [], ◌∷◌, length, map, refl, sym, ap, subst, ◌∙◌, arith, MatchResult, OnOk, Result, Ok, Err}
 use Rattle.std.proofs.lemmas.List.{ext_get_or}
-use Rattle.hp_model.specs.declared.entry.Receipt.{Receipt}
-use Rattle.hp_model.specs.declared.event.Event.{Event}
-use Rattle.hp_model.specs.machine.Machine.{node_of, pool_of, rows_of}
-use Rattle.hp_model.specs.machine.Plan.{Slot}
-use Rattle.hp_model.specs.machine.Settled.{IsSettledState}
-use Rattle.hp_model.specs.machine.State.{Node, State, slot_at}
-use Rattle.hp_model.specs.machine.Table.{Table}
-use Rattle.hp_model.specs.pool.PoolCounts.{Pool}
-use Rattle.hp_model.specs.threads.JointRun.{HasParts, Trails}
-use Rattle.hp_model.specs.machine.Ready.{IsReadyMachine, Machine, state_of}
-use Rattle.hp_model.specs.declared.refusal.Refusal.{Refusal}
+use Rattle.hp_laws.proofs.Variants.{Event, Receipt, Refusal}
+use Rattle.hp_model.proofs.Words.{HasParts, IsReadyMachine, IsSettledState, Machine, Node, Pool, Slot, State, Table, Trails, node_of, pool_of, rows_of, slot_at, state_of}
 use Rattle.hp_trail.specs.Audit.{IsJointList, IsUnjoined}
 use Rattle.std.specs.Global.{Vec}
-use Rattle.std.specs.Prelude.{MatchResult, OnOk, Result, Ok, Err}
 use Rattle.hp_shared.specs.Sharing.{EndsRuns}
 
 nodes_back : (s : State) (k : ℕ) (ns : List Node) → map node_of (rows_of s k ns) ≡ ns

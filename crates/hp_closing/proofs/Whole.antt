@@ -1,17 +1,13 @@
 -- What all sessions were told, behind what the history's seat has of the parts.
-use Rattle.std.proofs.Common.{◌≡◌, ℕ, ◌+◌, Bool, true, not, Option, List, [], ◌∷◌, ◌++◌, length, map, refl, sym, ap, subst, ◌∙◌, arith, append_assoc}
+use Rattle.std.proofs.Common.{◌≡◌, ℕ, ◌+◌, Bool, true, not, Option, List, [], ◌∷◌, ◌++◌, length, map, refl, sym, ap, subst, ◌∙◌, arith, append_assoc, IfSome}
 use Rattle.std.proofs.lemmas.List.{append-nil, length-append, length-map, map-append}
-use Rattle.std.specs.Prelude.{IfSome}
 use Rattle.hp_history.specs.Ending.{HistoriesAgree, HistoriesAreOne, all_of, sessions_from}
 use Rattle.hp_history.specs.declared.held.Held.{Held}
 use Rattle.hp_history.specs.declared.held.Held.TheVariants.{Tasks, Pool, Opener, Session}
 use Rattle.hp_history.specs.declared.law.Shape.{Shape}
 use Rattle.hp_history.specs.History.{Ends, held_from}
-use Rattle.hp_model.specs.declared.entry.Receipt.{Receipt}
-use Rattle.hp_model.specs.machine.Machine.{idle_node, start}
-use Rattle.hp_model.specs.machine.Ready.{IsReadyMachine, Machine}
-use Rattle.hp_model.specs.machine.Settled.{IsSettledState}
-use Rattle.hp_model.specs.machine.State.{slot_at}
+use Rattle.hp_laws.proofs.Variants.{Receipt}
+use Rattle.hp_model.proofs.Words.{IsReadyMachine, IsSettledState, Machine, idle_node, slot_at, start}
 use Rattle.hp_shared.specs.Ended.{FinishedView, HasEnded, IsExactly}
 use Rattle.hp_shared.specs.Sharing.{entries_of}
 use Rattle.hp_shared.specs.declared.shared.Trails.{Trails}

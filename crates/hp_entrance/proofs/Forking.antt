@@ -1,14 +1,7 @@
 -- A fork of maps that is not refused is answered Done.
 use Rattle.std.proofs.Common.{◌≡◌, ℕ, Bool, List, None, Some, Ok, refl, subst}
-use Rattle.hp_model.specs.declared.answer.Answer.{Answer}
-use Rattle.hp_model.specs.declared.answer.Answer.TheVariants.{Done}
-use Rattle.hp_model.specs.declared.entry.Receipt.{Receipt}
-use Rattle.hp_model.specs.declared.event.Event.TheVariants.{Slot as OnSlot}
-use Rattle.hp_model.specs.declared.event.SlotEvent.TheVariants.{ForkMaps}
-use Rattle.hp_model.specs.files.Fork.{forked}
-use Rattle.hp_model.specs.machine.Plan.{Answered, Choice, Outcome, Refused, Slot, gives}
-use Rattle.hp_model.specs.machine.SlotEvent.{fork_tests, slot_event}
-use Rattle.hp_model.specs.threads.LocalRun.{Gives}
+use Rattle.hp_laws.proofs.Variants.{Answer, Done, ForkMaps, Receipt, Slot as OnSlot}
+use Rattle.hp_model.proofs.Words.{Answered, Choice, Gives, Outcome, Refused, Slot, fork_tests, forked, gives, slot_event}
 use Rattle.hp_laws.specs.Balance.{Always}
 use Rattle.hp_laws.proofs.accesses.SlotShows.{always_gives, always_unless}
 use Rattle.hp_events.specs.Answered.{CanAnswer, IsHanded}

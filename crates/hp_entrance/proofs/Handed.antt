@@ -1,19 +1,11 @@
 -- What a member is told of an event, by what its seat has then.
-use Rattle.std.proofs.Common.{◌≡◌, ◌==◌, ℕ, Bool, true, false, List, [], ◌∷◌, Option, None, Some, Ok, refl, sym, ap, subst, ◌∙◌, if◌then◌else◌}
-use Rattle.std.specs.Bool.{MatchBool}
-use Rattle.std.specs.Prelude.{option_map}
+use Rattle.std.proofs.Common.{◌≡◌, ◌==◌, ℕ, Bool, true, false, List, [], ◌∷◌, Option, None, Some, Ok, refl, sym, ap, subst, ◌∙◌, if◌then◌else◌, MatchBool, option_map}
 use Rattle.std.proofs.lemmas.Bool.{eq-eqb, false≢true}
 use Rattle.hp_entrance.specs.Members.{MemberView, told_at}
 use Rattle.hp_history.specs.declared.held.Held.{Held}
 use Rattle.hp_history.specs.History.{looked, receipts_in}
-use Rattle.hp_model.specs.declared.answer.Answer.TheVariants.{Done, Home}
-use Rattle.hp_model.specs.declared.entry.Receipt.{Receipt}
-use Rattle.hp_model.specs.declared.event.Event.{Event}
-use Rattle.hp_model.specs.declared.event.Event.TheVariants.{Tasks as OnTasks, Slot as OnSlot}
-use Rattle.hp_model.specs.declared.event.TableEvent.TheVariants.{Find}
-use Rattle.hp_model.specs.machine.Plan.{Reply}
-use Rattle.hp_model.specs.machine.Table.{table_event, when_known}
-use Rattle.hp_model.specs.threads.Telling.{has_place}
+use Rattle.hp_laws.proofs.Variants.{Done, Event, Find, Home, Receipt, Slot as OnSlot, Tasks as OnTasks}
+use Rattle.hp_model.proofs.Words.{Reply, has_place, table_event, when_known}
 use Rattle.hp_events.specs.Answered.{CanAnswer, IsHanded, IsToldOf}
 use Rattle.hp_events.specs.Replies.{is_trace_full}
 use Rattle.hp_events.specs.SlotWork.{asked_event, is_exit}

@@ -2,14 +2,8 @@
 use Rattle.std.proofs.Common.{◌≡◌, ℕ, ◌+◌, ◌<◌, List, [], ◌∷◌, length, take, drop, slice_set, Bool, false, Ok, subst, sym}
 use lib.ListN.{get_or}
 use Rattle.hp_model.proofs.Queues.{does_next}
-use Rattle.hp_model.specs.beside.Queue.{DoesAll, QueuedView}
-use Rattle.hp_model.specs.declared.answer.Answer.TheVariants.{Home}
-use Rattle.hp_model.specs.declared.entry.Receipt.{Receipt}
-use Rattle.hp_model.specs.declared.event.Event.TheVariants.{Tasks as OnTasks, Slot as OnSlot}
-use Rattle.hp_model.specs.declared.event.SlotEvent.{SlotEvent}
-use Rattle.hp_model.specs.declared.event.TableEvent.TheVariants.{Find}
-use Rattle.hp_model.specs.declared.step.Step.{Step}
-use Rattle.hp_model.specs.machine.Plan.{Reply}
+use Rattle.hp_model.proofs.Words.{DoesAll, QueuedView, Reply}
+use Rattle.hp_laws.proofs.Variants.{Find, Home, Receipt, Slot as OnSlot, SlotEvent, Step, Tasks as OnTasks}
 use Rattle.hp_events.specs.Answered.{IsHanded}
 use Rattle.hp_events.specs.Queues.{AreAccessesHanded, IsAccessHanded, IsFoundAndHanded}
 

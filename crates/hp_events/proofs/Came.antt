@@ -1,8 +1,7 @@
 -- What a plan always comes to, an event that went came to.
 use Rattle.std.proofs.Common.{Option, None, Some}
-use Rattle.hp_model.specs.declared.entry.Asked.{Asked}
-use Rattle.hp_model.specs.machine.Plan.{Ask, Finish, Outcome, Plan, Reply, Slot}
-use Rattle.hp_model.specs.threads.LocalRun.{Gives, Goes}
+use Rattle.hp_laws.proofs.Variants.{Asked}
+use Rattle.hp_model.proofs.Words.{Ask, Finish, Gives, Goes, Outcome, Plan, Reply, Slot}
 use Rattle.hp_laws.specs.Balance.{Always}
 
 -- the outcome that an event came to

@@ -1,25 +1,9 @@
 -- What a load, a store and a fault are answered.
-use Rattle.std.proofs.Common.{◌≡◌, ℕ, Bool, List, None, Some, Ok, Err, refl, sym, subst, length}
-use Rattle.std.specs.Prelude.{IfOk, Result}
-use Rattle.hp_model.specs.declared.answer.Answer.{Answer}
-use Rattle.hp_model.specs.declared.answer.Answer.TheVariants.{Done}
-use Rattle.hp_model.specs.declared.entry.Receipt.{Receipt}
-use Rattle.hp_model.specs.declared.event.Event.TheVariants.{Slot as OnSlot}
-use Rattle.hp_model.specs.declared.event.SlotEvent.{SlotEvent}
+use Rattle.std.proofs.Common.{◌≡◌, ℕ, Bool, List, None, Some, Ok, Err, refl, sym, subst, length, IfOk, Result}
+use Rattle.hp_laws.proofs.Variants.{Answer, Done, Intent, NoSuchMap, Read, Receipt, Refusal, Slot as OnSlot, SlotEvent, Told, Write}
 use Rattle.hp_model.specs.declared.event.SlotEvent.TheVariants as slot
-use Rattle.hp_model.specs.declared.refusal.Refusal.{Refusal}
-use Rattle.hp_model.specs.declared.refusal.Refusal.TheVariants.{NoSuchMap}
-use Rattle.hp_model.specs.files.File.{Mount}
-use Rattle.hp_model.specs.files.Mapping.{is_map}
-use Rattle.hp_model.specs.files.Spot.{Spot, again, spot, written}
-use Rattle.hp_model.specs.files.Value.{value}
-use Rattle.hp_model.specs.declared.step.Intent.{Intent}
-use Rattle.hp_model.specs.declared.step.Intent.TheVariants.{Read, Write}
-use Rattle.hp_model.specs.machine.Plan.{Answered, Choice, Outcome, Refused, Reply, Slot, continued}
-use Rattle.hp_model.specs.machine.SlotEvent.{byte_access, bytes_answer, fault, load, slot_event, store}
-use Rattle.hp_model.specs.declared.told.Told.{Told}
-use Rattle.hp_model.specs.beside.Told.{told_answer, told_reply}
-use Rattle.hp_model.specs.threads.LocalRun.{Gives}
+use Rattle.hp_model.proofs.Words.{Answered, Choice, Gives, Mount, Outcome, Refused, Reply, Slot, Spot, again, byte_access, bytes_answer, continued, fault, is_map, load, slot_event, spot, store}
+use Rattle.hp_model.proofs.Words.{told_answer, told_reply, value, written}
 use Rattle.hp_laws.specs.Balance.{Always}
 use Rattle.hp_laws.proofs.names.Accessed.{bytes_on}
 use Rattle.hp_laws.proofs.counts.MountMoves.{spot_is}

@@ -1,25 +1,18 @@
 use Rattle.std.proofs.lemmas.Grind.{common_steps}
 -- A private copy, as its page is put in under a number that was free.
-use Rattle.std.proofs.Common.{◌≡◌, ◌≢◌, ℕ, ◌+◌, ◌<◌, ◌≤◌, ◌==◌, ⊎_elim, Bool, true, false, None, Some, List, [], ◌∷◌, length, map, refl, sym, ap, ◌∙◌, arith}
-use Rattle.std.specs.Prelude.{slice_set, slice_index_or, ◌||◌}
-use Rattle.std.specs.List.{sum_by, list_any, flat_map}
+use Rattle.std.proofs.Common.{◌≡◌, ◌≢◌, ℕ, ◌+◌, ◌<◌, ◌≤◌, ◌==◌, ⊎_elim, Bool, true, false, None, Some, List, [], ◌∷◌, length, map, refl, sym, ap, ◌∙◌, arith, slice_set, slice_index_or, ◌||◌, sum_by}
+use Rattle.std.proofs.Common.{flat_map}
+use Rattle.std.specs.List.{list_any}
 use Rattle.std.proofs.lemmas.Bool.Decides.{eqb_tells}
 use Rattle.std.proofs.lemmas.List.Sums.{sum_by-cons}
 use Rattle.std.proofs.lemmas.List.{map-set}
-use Rattle.hp_model.specs.declared.place.Place.{Place}
-use Rattle.hp_model.specs.declared.place.Place.TheVariants.{Gone, Live}
-use Rattle.hp_model.specs.files.File.{with_map}
-use Rattle.hp_model.specs.Lists.{is_among}
-use Rattle.hp_model.specs.files.Mapping.{Mapping, Map}
-use Rattle.hp_model.specs.files.MountCounts.{stamps_of}
-use Rattle.hp_model.specs.files.Page.{Page, Copy}
-use Rattle.hp_model.specs.machine.Sound.{place_has, map_has, is_stamp}
+use Rattle.hp_laws.proofs.Variants.{Gone, Live, Place}
+use Rattle.hp_model.proofs.Words.{Copy, Map, Mapping, Page, is_among, is_stamp, map_has, place_has, stamps_of, with_map}
 use Rattle.hp_model.proofs.Distinct.{is_among-append}
 use Rattle.hp_laws.proofs.counts.CopiesHeld.{stamps_are}
 use Rattle.hp_store.specs.Store.{Store, page_at, holders_of, first_held}
-use Rattle.hp_lookup.specs.Files.{file_at}
-use Rattle.hp_lookup.specs.Numbered.{NumberedFile, mapping_at, no_mapping, numbered_at, page_in, place_shown, map_shown, file_shown, files_shown}
-use Rattle.hp_lookup.specs.Held.{IsHeld, in_place, in_map, in_file, in_files, in_cells, more_in}
+use Rattle.hp_lookup.proofs.Words.{IsHeld, NumberedFile, file_at, file_shown, files_shown, in_cells, in_file, in_files, in_map, in_place, map_shown, mapping_at, more_in, no_mapping, numbered_at}
+use Rattle.hp_lookup.proofs.Words.{page_in, place_shown}
 use Rattle.hp_lookup.proofs.Lifting.{at_most, Agree, is_it, is_other, not_it, map_shows_same, file_same, files_same}
 use Rattle.hp_lookup.proofs.Cells.{file_is, none_in, some_put}
 use Rattle.hp_lookup.proofs.GivingBack.{in_all}

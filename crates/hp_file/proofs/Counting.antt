@@ -2,7 +2,7 @@ use Rattle.std.proofs.lemmas.Grind.{common_steps}
 -- Holders that go and come, with those beyond the first counted.
 use Rattle.std.proofs.Common.{◌≡◌, ℕ, ◌+◌, ◌<◌, ◌≤◌, arith}
 use Rattle.hp_store.specs.Store.{dropped, holders_of, page_at}
-use Rattle.hp_lookup.specs.Held.{more_in}
+use Rattle.hp_lookup.proofs.Words.{more_in}
 use Rattle.hp_file.specs.HeldPages.{AreDropped, AreHeld, AreShared}
 use Rattle.hp_file.specs.declared.held_pages.HeldPages.{HeldPages}
 use Rattle.hp_file.proofs.Drops.{drop_as, drop_next, drop_start, drop_then, one_at, still_held}

@@ -1,24 +1,15 @@
 use Rattle.std.proofs.lemmas.Grind.{common_steps}
 -- A file that is cut to a length, and one that ends.
 use Rattle.std.proofs.Common.{◌≡◌, ℕ, zero, suc, ◌+◌, ◌-◌, ◌<◌, ◌≤◌, min, Bool, true, false, cond, List, [], ◌∷◌, ◌++◌, length, take, drop, map, replicate, if◌then◌else◌, refl, ap, ◌∙◌, arith}
-use Rattle.std.specs.Prelude.{slice_index_or}
-use Rattle.std.specs.List.{All, count_by, sum_by}
+use Rattle.std.proofs.Common.{slice_index_or, All, count_by, sum_by}
 use Rattle.std.proofs.lemmas.List.{get_or-drop, get_or-take, get_or_default, length-drop, length-take, nil_from_length, same_lists}
 use Rattle.std.proofs.lemmas.List.Sums.{sum_by-append, sum_by-cons}
-use Rattle.hp_model.specs.declared.cell.Cell.{Cell}
-use Rattle.hp_model.specs.declared.cell.Cell.TheVariants.{Hole, Entered, Present}
-use Rattle.hp_model.specs.declared.place.Place.{Place}
-use Rattle.hp_model.specs.declared.place.Place.TheVariants.{Gone, Live}
-use Rattle.hp_model.specs.files.File.{cell_punched, cells_to, has_page, is_entered}
-use Rattle.hp_model.specs.files.Mapping.{Mapping, map_punched, without_copy}
-use Rattle.hp_model.specs.files.MountCounts.{is_waiting}
-use Rattle.hp_model.specs.Lists.{edit_range, part}
-use Rattle.hp_model.specs.machine.Promises.{is_in}
+use Rattle.hp_laws.proofs.Variants.{Cell, Entered, Gone, Hole, Live, Place, Present}
+use Rattle.hp_model.proofs.Words.{Mapping, cell_punched, cells_to, edit_range, has_page, is_entered, is_in, is_waiting, map_punched, part, without_copy}
 use Rattle.hp_model.proofs.Counting.{count_cons}
 use Rattle.hp_model.proofs.Editing.{length-edit_range, sum_by-edit_range}
 use Rattle.hp_laws.proofs.ending.Cuts.{ranged}
-use Rattle.hp_lookup.specs.Held.{in_cell, in_map, in_place}
-use Rattle.hp_lookup.specs.Numbered.{NumberedFile, with_punched, with_truncated}
+use Rattle.hp_lookup.proofs.Words.{NumberedFile, in_cell, in_map, in_place, with_punched, with_truncated}
 use Rattle.hp_file.proofs.Drops.{part_at}
 use Rattle.hp_file.proofs.Punched.{in_from, in_parts}
 

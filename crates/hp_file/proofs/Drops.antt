@@ -1,30 +1,19 @@
 use Rattle.std.proofs.lemmas.Grind.{common_steps}
 -- Holders that go, one by one.
-use Rattle.std.proofs.Common.{◌≡◌, ◌≢◌, ℕ, zero, suc, ◌+◌, ◌-◌, ◌<◌, ◌≤◌, ◌==◌, ⊎_elim, ◌⊎◌, inl, inr, Bool, true, false}
-use Rattle.std.proofs.Common.{cond, nat_lt, Option, Some, None, List, [], ◌∷◌, ◌++◌, length, drop, refl, sym, ap, subst, ◌∙◌, arith}
-use Rattle.std.specs.Prelude.{IsSome, MatchOption, slice_index_or, slice_set}
-use Rattle.std.specs.List.{All, count_by, sum_by}
+use Rattle.std.proofs.Common.{◌≡◌, ◌≢◌, ℕ, zero, suc, ◌+◌, ◌-◌, ◌<◌, ◌≤◌, ◌==◌, ⊎_elim, ◌⊎◌, inl, inr, Bool, true, false, cond, nat_lt, Option, Some, None, List, [], ◌∷◌, ◌++◌, length, drop, refl}
+use Rattle.std.proofs.Common.{sym, ap, subst, ◌∙◌, arith, IsSome, MatchOption, slice_index_or, slice_set, All, count_by, sum_by}
 use Rattle.std.proofs.lemmas.Bool.Decides.{eqb_tells, nat_tests}
 use Rattle.std.proofs.lemmas.Bool.{cases_lt, eqb-false, eqb-true, ltb-false}
 use Rattle.std.proofs.lemmas.List.{get_or-drop, get_or-set_same, get_or-set_other, get_or-take, get_or_past, length-append, length-drop, length-take}
 use Rattle.std.proofs.lemmas.List.Sums.{sum_by-cons, sum_by-set, sum_by_push}
 use Rattle.hp_mapping.specs.Mapped.{IsClear, TakesLowest, at_place, has_copy}
-use Rattle.hp_model.specs.declared.cell.Cell.{Cell}
-use Rattle.hp_model.specs.declared.cell.Cell.TheVariants.{Hole, Entered, Present}
-use Rattle.hp_model.specs.declared.place.Place.{Place}
-use Rattle.hp_model.specs.declared.place.Place.TheVariants.{Gone, Live}
-use Rattle.hp_model.specs.files.File.{cell_punched, has_page, page_of}
-use Rattle.hp_model.specs.Lists.{edit_range, found, part}
-use Rattle.hp_model.specs.files.Mapping.{Mapping, copy_of, map_punched, place_at, without_copy}
-use Rattle.hp_model.specs.files.Page.{Page}
+use Rattle.hp_laws.proofs.Variants.{Cell, Entered, Gone, Hole, Live, Place, Present}
+use Rattle.hp_model.proofs.Words.{Mapping, Page, cell_punched, copy_of, edit_range, found, has_page, is_in, map_punched, page_of, part, place_at, without_copy}
 use Rattle.hp_store.specs.Store as store
 use Rattle.hp_store.specs.Store.{Holding, Store, held_count, held_once_less, holders_of, one_if_held, page_at}
-use Rattle.hp_model.specs.machine.Promises.{is_in}
 use Rattle.hp_laws.proofs.lists.Places.{found_place}
 use Rattle.hp_mapping.proofs.Ranges.{at_start}
-use Rattle.hp_lookup.specs.Numbered.{page_in}
-use Rattle.hp_lookup.specs.Dropping.{HasHolders, IsDropping, at_node, count_at}
-use Rattle.hp_lookup.specs.Held.{in_cell, in_map, in_place, more_in, more_of}
+use Rattle.hp_lookup.proofs.Words.{HasHolders, IsDropping, at_node, count_at, in_cell, in_map, in_place, more_in, more_of, page_in}
 use Rattle.hp_lookup.proofs.Lifting.{is_it}
 use Rattle.hp_file.proofs.Punched.{edited_done, edited_set, in_from, in_parts}
 use Rattle.hp_lookup.proofs.Views.{some_within}

@@ -1,16 +1,12 @@
 use Rattle.std.proofs.lemmas.Grind.{common_steps}
 -- A map that has no index left, and a file without it.
-use Rattle.std.proofs.Common.{◌≡◌, ℕ, zero, suc, ◌+◌, ◌<◌, ◌≤◌, Bool, true, false, cond, List, [], ◌∷◌, ◌++◌, length, map, take, drop, refl, sym, ap, ◌∙◌, arith}
-use Rattle.std.specs.Prelude.{slice_set}
-use Rattle.std.specs.List.{count_by, list_any, remove, sum_by}
+use Rattle.std.proofs.Common.{◌≡◌, ℕ, zero, suc, ◌+◌, ◌<◌, ◌≤◌, Bool, true, false, cond, List, [], ◌∷◌, ◌++◌, length, map, take, drop, refl, sym, ap, ◌∙◌, arith, slice_set, count_by, remove, sum_by}
+use Rattle.std.specs.List.{list_any}
 use Rattle.std.proofs.lemmas.List.{get_or-set_same, length-set}
 use Rattle.std.proofs.lemmas.List.Sums.{sum_by-cons, sum_by-remove}
-use Rattle.hp_model.specs.declared.place.Place.{Place}
-use Rattle.hp_model.specs.declared.place.Place.TheVariants.{Gone, Live}
-use Rattle.hp_model.specs.files.Mapping.{Mapping, is_live, is_mapped, is_unconsumed, without_range}
-use Rattle.hp_lookup.specs.Held.{in_file, in_map, in_place}
-use Rattle.hp_lookup.specs.Leaving.{cut_at, file_owed, left_at, owed}
-use Rattle.hp_lookup.specs.Numbered.{NumberedFile, mapping_at}
+use Rattle.hp_laws.proofs.Variants.{Gone, Live, Place}
+use Rattle.hp_model.proofs.Words.{Mapping, is_live, is_mapped, is_unconsumed, without_range}
+use Rattle.hp_lookup.proofs.Words.{NumberedFile, cut_at, file_owed, in_file, in_map, in_place, left_at, mapping_at, owed}
 
 -- ---- all its indices leave
 

@@ -1,18 +1,13 @@
 use Rattle.std.proofs.lemmas.Grind.{common_steps}
 -- An index is entered, or left, and room is made.
-use Rattle.std.proofs.Common.{◌≡◌, ℕ, zero, suc, ◌+◌, ◌-◌, ◌<◌, max, Option, None, List, [], ◌∷◌, ◌++◌, length, map, replicate, take, drop, refl, sym, ap, subst, ◌∙◌, arith}
-use Rattle.std.specs.Prelude.{slice_set, slice_index_or}
-use Rattle.std.specs.List.{sum_by}
+use Rattle.std.proofs.Common.{◌≡◌, ℕ, zero, suc, ◌+◌, ◌-◌, ◌<◌, max, Option, None, List, [], ◌∷◌, ◌++◌, length, map, replicate, take, drop, refl, sym, ap, subst, ◌∙◌, arith, slice_set, slice_index_or}
+use Rattle.std.proofs.Common.{sum_by}
 use Rattle.std.proofs.lemmas.List.{map-set}
 use Rattle.std.proofs.lemmas.List.Sums.{sum_by-set, sum_by-append, sum_by-cons}
-use Rattle.hp_model.specs.declared.cell.Cell.{Cell}
-use Rattle.hp_model.specs.declared.cell.Cell.TheVariants.{Hole, Entered, Present}
-use Rattle.hp_model.specs.files.File.{with_cell, cell_at, cell_in, entered}
-use Rattle.hp_model.specs.Lists.{edit_range}
+use Rattle.hp_laws.proofs.Variants.{Cell, Entered, Hole, Present}
+use Rattle.hp_model.proofs.Words.{cell_at, cell_in, edit_range, entered, with_cell}
 use Rattle.hp_store.specs.Store.{Store, Holding, page_at}
-use Rattle.hp_lookup.specs.Files.{file_at, with_cell_at}
-use Rattle.hp_lookup.specs.Numbered.{NumberedFile, numbered_at, cell_shown, files_shown}
-use Rattle.hp_lookup.specs.Held.{IsHeld, in_cell, in_file, more_in, more_of}
+use Rattle.hp_lookup.proofs.Words.{IsHeld, NumberedFile, cell_shown, file_at, files_shown, in_cell, in_file, more_in, more_of, numbered_at, with_cell_at}
 use Rattle.hp_lookup.proofs.Alike.{alike_held}
 use Rattle.hp_lookup.proofs.Lifting.{files_same}
 use Rattle.hp_lookup.proofs.Cells.{file_is, free_is_fresh}

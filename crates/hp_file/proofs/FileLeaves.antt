@@ -1,23 +1,14 @@
 use Rattle.std.proofs.lemmas.Grind.{common_steps}
 -- The maps of a task that leave a file, as code takes them.
-use Rattle.std.proofs.Common.{◌≡◌, ℕ, ◌+◌, ◌-◌, ◌||◌, Bool, true, false, not, cond, nat_lt, List, [], ◌∷◌, length, take, drop, ◌++◌, map, replicate, refl, sym, ap, ◌∙◌, arith}
-use Rattle.std.specs.Prelude.{is_some, Option}
-use Rattle.std.specs.List.{count_by, filter, sum_by}
+use Rattle.std.proofs.Common.{◌≡◌, ℕ, ◌+◌, ◌-◌, ◌||◌, Bool, true, false, not, cond, nat_lt, List, [], ◌∷◌, length, take, drop, ◌++◌, map, replicate, refl, sym, ap, ◌∙◌, arith, is_some, Option}
+use Rattle.std.proofs.Common.{count_by, filter, sum_by}
 use Rattle.std.proofs.Math.Seq.{take-append_seam}
 use Rattle.std.proofs.lemmas.Bool.{ltb-false}
 use Rattle.std.proofs.lemmas.List.{length-map}
 use Rattle.std.proofs.lemmas.List.Sums.{sum_by-cons}
-use Rattle.hp_model.specs.declared.cell.Cell.{Cell}
-use Rattle.hp_model.specs.declared.cell.Cell.TheVariants.{Hole}
-use Rattle.hp_model.specs.declared.place.Place.{Place}
-use Rattle.hp_model.specs.declared.place.Place.TheVariants.{Gone}
-use Rattle.hp_model.specs.files.File.{cells_to}
-use Rattle.hp_model.specs.files.Mapping.{Mapping, is_of, is_unconsumed, map_punched, without_range}
-use Rattle.hp_model.specs.files.MountCounts.{is_waiting}
-use Rattle.hp_model.specs.Lists.{edit_range}
-use Rattle.hp_lookup.specs.Held.{in_cell, in_file, in_map}
-use Rattle.hp_lookup.specs.Leaving.{emptied, ended_for, file_owed, is_used, left_by, owed}
-use Rattle.hp_lookup.specs.Numbered.{NumberedFile, with_truncated}
+use Rattle.hp_laws.proofs.Variants.{Cell, Gone, Hole, Place}
+use Rattle.hp_model.proofs.Words.{Mapping, cells_to, edit_range, is_of, is_unconsumed, is_waiting, map_punched, without_range}
+use Rattle.hp_lookup.proofs.Words.{NumberedFile, emptied, ended_for, file_owed, in_cell, in_file, in_map, is_used, left_by, owed, with_truncated}
 use Rattle.hp_file.specs.HeldPages.{AreDropped}
 use Rattle.hp_file.specs.declared.held_pages.HeldPages.{HeldPages}
 use Rattle.hp_file.proofs.Cutting.{no_copies, none_all}

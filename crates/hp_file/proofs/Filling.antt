@@ -1,29 +1,22 @@
 use Rattle.std.proofs.lemmas.Grind.{common_steps}
 -- Indices of a file get entries, and those without a page pages of zeros.
-use Rattle.std.proofs.Common.{◌≡◌, ℕ, zero, suc, ◌+◌, ◌-◌, ◌<◌, ◌≤◌, true, cond, Option, None, List, [], ◌∷◌, ◌++◌, length, map, take, drop, replicate, refl, sym, ap, ◌∙◌, arith}
-use Rattle.std.proofs.Common.{false, not}
-use Rattle.std.specs.Prelude.{is_some, slice_index_or, slice_set}
-use Rattle.std.specs.List.{count_by, sum_by}
+use Rattle.std.proofs.Common.{◌≡◌, ℕ, zero, suc, ◌+◌, ◌-◌, ◌<◌, ◌≤◌, true, cond, Option, None, List, [], ◌∷◌, ◌++◌, length, map, take, drop, replicate, refl, sym, ap, ◌∙◌, arith, false, not, is_some}
+use Rattle.std.proofs.Common.{slice_index_or, slice_set, count_by, sum_by}
 use Rattle.std.proofs.lemmas.List.{get_or-drop, get_or-take, get_or-set_same, length-append, length-drop, length-map, length-replicate, length-take, map-append, map-set, set-set, take_more}
 use Rattle.std.proofs.lemmas.Simd.{map-map}
 use Rattle.std.proofs.lemmas.List.Sums.{sum_by-append, sum_by-cons}
 use Rattle.std.proofs.Math.Seq.{drop-append_seam, take-append_seam}
-use Rattle.hp_model.specs.declared.cell.Cell.{Cell}
-use Rattle.hp_model.specs.declared.cell.Cell.TheVariants.{Hole, Entered, Present}
-use Rattle.hp_model.specs.files.File.{File, at_least, cell_at, cell_in, entered, has_page, is_entered, new_file, page_of}
-use Rattle.hp_model.specs.files.Fill.{lacking, lacks_page, range_filled, rising_nodes, zero_page}
-use Rattle.hp_model.specs.files.Page.{Page}
-use Rattle.hp_model.specs.Lists.{edit_range, part}
+use Rattle.hp_laws.proofs.Variants.{Cell, Entered, Hole, Present}
+use Rattle.hp_model.proofs.Words.{File, Page, at_least, cell_at, cell_in, edit_range, entered, has_page, is_entered, lacking, lacks_page, new_file, page_of, part, range_filled, rising_nodes}
+use Rattle.hp_model.proofs.Words.{zero_page}
 use Rattle.hp_model.proofs.Counting.{count_alike, count_cons, count_map}
 use Rattle.hp_model.proofs.Editing.{get_or-edit_within}
 use Rattle.hp_laws.proofs.lists.NodesOf.{length-nodes_of}
 use Rattle.hp_mount_door.specs.Door.{by_node}
 use Rattle.hp_mount_door.specs.Filling.{AreRising}
 use Rattle.hp_store.specs.Store.{Store}
-use Rattle.hp_lookup.specs.Files.{Files, file_at}
+use Rattle.hp_lookup.proofs.Words.{Files, IsHeld, NumberedFile, cell_shown, file_at, file_shown, files_shown, in_cell, in_file, numbered_at}
 use Rattle.hp_file.specs.Filling.{entered_at, pages_put, with_entries, with_zeros, zeros_at}
-use Rattle.hp_lookup.specs.Held.{IsHeld, in_cell, in_file}
-use Rattle.hp_lookup.specs.Numbered.{NumberedFile, cell_shown, file_shown, files_shown, numbered_at}
 use Rattle.hp_lookup.proofs.Alike.{alike_held}
 use Rattle.hp_lookup.proofs.Cells.{file_is}
 use Rattle.hp_lookup.proofs.Mapped.{map_drop, map_edited, map_replicate, map_take, sum_edited}

@@ -1,13 +1,11 @@
 use Rattle.std.proofs.lemmas.Grind.{common_steps}
 -- The first copy of a place: an owner's reservation is consumed.
-use Rattle.std.proofs.Common.{◌≡◌, ℕ, zero, suc, ◌-◌, ◌<◌, ◌≤◌, Bool, true, false, cond, nat_lt, List, [], ◌∷◌, length, refl, ap, arith}
-use Rattle.std.specs.Prelude.{slice_index_or, slice_set}
+use Rattle.std.proofs.Common.{◌≡◌, ℕ, zero, suc, ◌-◌, ◌<◌, ◌≤◌, Bool, true, false, cond, nat_lt, List, [], ◌∷◌, length, refl, ap, arith, slice_index_or, slice_set}
 use Rattle.std.proofs.lemmas.Bool.{ltb-false}
 use Rattle.std.proofs.lemmas.List.{get_or-set_same, set-set}
 use Rattle.hp_mapping.specs.Mapped.{at_place, consumed, with_copy}
-use Rattle.hp_model.specs.declared.place.Place.{Place}
-use Rattle.hp_model.specs.declared.place.Place.TheVariants.{Gone, Live}
-use Rattle.hp_model.specs.files.Mapping.{Mapping, is_live, place_at, with_place}
+use Rattle.hp_laws.proofs.Variants.{Gone, Live, Place}
+use Rattle.hp_model.proofs.Words.{Mapping, is_live, place_at, with_place}
 use Rattle.hp_file.specs.Taking.{first_copy}
 
 live_within : (ps : List (Place ℕ)) (o : ℕ) → is_live (slice_index_or ps o Gone) ≡ true → o < length ps

@@ -1,20 +1,15 @@
 use Rattle.std.proofs.lemmas.Grind.{common_steps}
 -- The least task that has a map.
-use Rattle.std.proofs.Common.{◌≡◌, ℕ, suc, ◌+◌, ◌<◌, ◌≤◌, ◌==◌, ◌||◌, min, ⊎_elim, ◌⊎◌, inl, inr, true, Option, None, Some, List, [], ◌∷◌, length, map, take, refl, sym, ap, subst, ◌∙◌, arith}
-use Rattle.std.specs.List.{All, flat_map, list_any}
-use Rattle.std.specs.Prelude.{IfNone, IfSome, slice_index_or}
+use Rattle.std.proofs.Common.{◌≡◌, ℕ, suc, ◌+◌, ◌<◌, ◌≤◌, ◌==◌, ◌||◌, min, ⊎_elim, ◌⊎◌, inl, inr, true, Option, None, Some, List, [], ◌∷◌, length, map, take, refl, sym, ap, subst, ◌∙◌, arith, All}
+use Rattle.std.proofs.Common.{flat_map, IfNone, IfSome, slice_index_or}
+use Rattle.std.specs.List.{list_any}
 use Rattle.std.proofs.lemmas.Bool.{cases_lt, eq-eqb, or_left, or_right}
 use Rattle.std.proofs.lemmas.List.{map-append, take_all, take_more}
 use Rattle.std.proofs.lemmas.List.Elements.{All-cons, All-nil}
 use Rattle.std.proofs.lemmas.List.Sums.{fold_push}
-use Rattle.hp_model.specs.files.File.{File}
-use Rattle.hp_model.specs.files.Mapping.{Map, Mapping, is_of}
-use Rattle.hp_model.specs.Lists.{is_among}
+use Rattle.hp_model.proofs.Words.{File, Map, Mapping, is_among, is_of}
 use Rattle.hp_store.specs.Store.{Store}
-use Rattle.hp_lookup.specs.Keyed.{labels_of, tasks_in}
-use Rattle.hp_lookup.specs.Leaving.{least_among, lesser_task}
-use Rattle.hp_lookup.specs.Numbered.{NumberedFile, files_shown}
-use Rattle.hp_lookup.specs.Places.{IsFirstTask, all_maps}
+use Rattle.hp_lookup.proofs.Words.{IsFirstTask, NumberedFile, all_maps, files_shown, labels_of, least_among, lesser_task, tasks_in}
 use Rattle.hp_lookup.proofs.Unique.{tasks_counted}
 
 -- ---- the least of some numbers

@@ -1,15 +1,12 @@
 use Rattle.std.proofs.lemmas.Grind.{common_steps}
 -- Lists of maps that come behind those of files.
-use Rattle.std.proofs.Common.{◌≡◌, ⊎_elim, ℕ, zero, suc, ◌+◌, ◌<◌, ◌≤◌, ◌++◌, cond, List, [], ◌∷◌, drop, length, take, refl, sym, ap, subst, ◌∙◌, arith}
+use Rattle.std.proofs.Common.{◌≡◌, ⊎_elim, ℕ, zero, suc, ◌+◌, ◌<◌, ◌≤◌, ◌++◌, cond, List, [], ◌∷◌, drop, length, take, refl, sym, ap, subst, ◌∙◌, arith, slice_index_or, slice_set, filter, sum_by}
 use Rattle.std.specs.Global.{Vec}
-use Rattle.std.specs.Prelude.{slice_index_or, slice_set}
-use Rattle.std.specs.List.{filter, sum_by}
 use Rattle.std.proofs.lemmas.Bool.{cases_lt}
 use Rattle.std.proofs.lemmas.List.{length-append, length-map, nil_from_length, take-set}
 use Rattle.std.proofs.lemmas.List.Sums.{length-filter, sum_by-append, sum_by-cons, sum_by-drop_more, sum_by-set, sum_by_more}
-use Rattle.hp_model.specs.files.Mapping.{Mapping, is_of, map_for}
-use Rattle.hp_lookup.specs.Forking.{AreFilled, AreReady, children_of, HasRoom, HaveRoom, IsReady, joined, joined_at, list_length, maps_by, with_list}
-use Rattle.hp_lookup.specs.Numbered.{NumberedFile, numbered_at}
+use Rattle.hp_model.proofs.Words.{Mapping, is_of, map_for}
+use Rattle.hp_lookup.proofs.Words.{AreFilled, AreReady, HasRoom, HaveRoom, IsReady, NumberedFile, children_of, joined, joined_at, list_length, maps_by, numbered_at, with_list}
 use Rattle.hp_lookup.proofs.Cells.{no_file}
 use Rattle.hp_file.proofs.Sharing.{sum_end}
 

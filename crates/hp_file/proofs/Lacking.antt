@@ -1,15 +1,11 @@
 use Rattle.std.proofs.lemmas.Grind.{common_steps}
 -- How many indices of a range have no page, by those that have one.
-use Rattle.std.proofs.Common.{◌≡◌, ℕ, zero, suc, ◌+◌, ◌-◌, ◌≤◌, min, List, [], ◌∷◌, ◌++◌, length, take, drop, replicate, refl, ap, ◌∙◌, arith}
-use Rattle.std.specs.List.{count_by}
+use Rattle.std.proofs.Common.{◌≡◌, ℕ, zero, suc, ◌+◌, ◌-◌, ◌≤◌, min, List, [], ◌∷◌, ◌++◌, length, take, drop, replicate, refl, ap, ◌∙◌, arith, count_by}
 use Rattle.std.proofs.lemmas.Bool.{cases_lt}
 use Rattle.std.proofs.lemmas.List.{drop-take, length-append, length-drop, length-replicate, length-take, take_all}
 use Rattle.std.proofs.lemmas.List.Sums.{sum_by-take-drop}
-use Rattle.hp_model.specs.declared.cell.Cell.{Cell}
-use Rattle.hp_model.specs.declared.cell.Cell.TheVariants.{Hole}
-use Rattle.hp_model.specs.files.File.{at_least, has_page}
-use Rattle.hp_model.specs.files.Fill.{lacks_page}
-use Rattle.hp_model.specs.Lists.{part}
+use Rattle.hp_laws.proofs.Variants.{Cell, Hole}
+use Rattle.hp_model.proofs.Words.{at_least, has_page, lacks_page, part}
 use Rattle.hp_model.proofs.Counting.{count_cons, count_not}
 
 -- how many of the first n have a page

@@ -1,25 +1,18 @@
 use Rattle.std.proofs.lemmas.Grind.{common_steps}
 -- Indices that leave a map, and what it holds of them.
-use Rattle.std.proofs.Common.{◌≡◌, ℕ, ◌+◌, ◌-◌, ◌≤◌, ◌==◌, ◌&&◌, Bool, true, false, cond, None, take, drop, refl, ap, ◌∙◌, arith}
-use Rattle.std.specs.Prelude.{slice_index_or}
-use Rattle.std.specs.List.{count_by}
+use Rattle.std.proofs.Common.{◌≡◌, ℕ, ◌+◌, ◌-◌, ◌≤◌, ◌==◌, ◌&&◌, Bool, true, false, cond, None, take, drop, refl, ap, ◌∙◌, arith, slice_index_or, count_by, nat_lt}
 use Rattle.std.proofs.lemmas.Bool.{cases_lt, ltb-false}
-use Rattle.std.specs.Prelude.{nat_lt}
 use Rattle.hp_model.proofs.Editing.{sum_by-edit_range}
 use Rattle.std.proofs.lemmas.List.Sums.{sum_by-take-drop}
 use Rattle.hp_mapping.proofs.Ranges.{freed_range}
 use Rattle.hp_file.proofs.Cutting.{none_mapped, punched_place}
 use Rattle.hp_lookup.proofs.Mapped.{sum_edited}
 use Rattle.hp_mapping.specs.Mapped.{IsClear, reserves_in}
-use Rattle.hp_model.specs.declared.place.Place.{Place}
-use Rattle.hp_model.specs.declared.place.Place.TheVariants.{Gone, Live}
-use Rattle.hp_model.specs.files.Mapping.{Mapping, copy_of, is_of, is_unconsumed, map_punched, without_copy, without_range}
-use Rattle.hp_model.specs.Lists.{edit_range, part}
+use Rattle.hp_laws.proofs.Variants.{Gone, Live, Place}
+use Rattle.hp_model.proofs.Words.{Mapping, copy_of, edit_range, is_of, is_unconsumed, map_punched, part, without_copy, without_range}
 use Rattle.hp_model.proofs.Editing.{length-edit_range}
 use Rattle.hp_laws.proofs.ending.Cuts.{ranged}
-use Rattle.hp_lookup.specs.Held.{in_map, in_place}
-use Rattle.hp_lookup.specs.Hints.{Noted}
-use Rattle.hp_lookup.specs.Leaving.{IsMoreButTask, one_if_named, owed}
+use Rattle.hp_lookup.proofs.Words.{IsMoreButTask, Noted, in_map, in_place, one_if_named, owed}
 use Rattle.hp_file.proofs.Punched.{edited_alike, in_from}
 
 -- ---- copies go first

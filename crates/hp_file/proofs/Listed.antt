@@ -1,14 +1,12 @@
 use Rattle.std.proofs.lemmas.Grind.{common_steps}
 -- A list of files under keys that they keep, where a file comes, goes or is another.
-use Rattle.std.proofs.Common.{arith, ◌≡◌, ◌≢◌, ℕ, ◌<◌, ◌++◌, ◌∷◌, [], IsSome, List, None, Option, Some, ap, get_or, length, subst, sym, true≢false, ◌∙◌}
-use Rattle.std.specs.Prelude.{slice_index_or, slice_set}
-use Rattle.std.specs.List.{All, remove}
+use Rattle.std.proofs.Common.{arith, ◌≡◌, ◌≢◌, ℕ, ◌<◌, ◌++◌, ◌∷◌, [], IsSome, List, None, Option, Some, ap, get_or, length, subst, sym, true≢false, ◌∙◌, slice_index_or, slice_set, All, remove}
 use Rattle.std.proofs.lemmas.List.Quantifiers.{all_pairs_remove}
 use Rattle.std.proofs.lemmas.List.Sums.{sum_by-set}
 use Rattle.slab.specs.Slab.{ContainsKey, Slab, Updates, get, with_value}
 use Rattle.slab.proofs.SlabLemmas.{ContainsKey-within, Updates-with_value}
 use Rattle.hp_file.specs.FileList.{IsFileOrder, filed, files_in, room_in}
-use Rattle.hp_lookup.specs.Numbered.{NumberedFile}
+use Rattle.hp_lookup.proofs.Words.{NumberedFile}
 use Rattle.hp_file.proofs.Ordered.{all_remove, others, push_map, remove_map, set_map}
 
 module _ (s : Slab NumberedFile) (order : List ℕ) (is : IsFileOrder s order) where

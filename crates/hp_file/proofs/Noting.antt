@@ -1,15 +1,11 @@
 use Rattle.std.proofs.lemmas.Grind.{common_steps}
 -- A task's maps are noted, one after another.
-use Rattle.std.proofs.Common.{◌≡◌, ◌≢◌, ℕ, ◌+◌, ◌<◌, ◌≤◌, ◌==◌, ◌&&◌, Bool, true, false, cond, List, length, refl, sym, ap, ◌∙◌, arith}
-use Rattle.std.specs.Prelude.{slice_set}
-use Rattle.std.specs.List.{sum_by}
+use Rattle.std.proofs.Common.{◌≡◌, ◌≢◌, ℕ, ◌+◌, ◌<◌, ◌≤◌, ◌==◌, ◌&&◌, Bool, true, false, cond, List, length, refl, sym, ap, ◌∙◌, arith, slice_set, sum_by}
 use Rattle.std.proofs.lemmas.Bool.{eqb-true}
 use Rattle.std.proofs.lemmas.Bool.Decides.{nat_tests}
 use Rattle.std.proofs.lemmas.List.Sums.{sum_by-le-sum_by, sum_by-set}
-use Rattle.hp_model.specs.files.Mapping.{Mapping, is_map, is_of}
-use Rattle.hp_lookup.specs.Forking.{HasNoted, HaveNoted, IsNoted, maps_named, maps_by}
-use Rattle.hp_lookup.specs.Hints.{IsMoreByMap, Noted, has_key, is_pair}
-use Rattle.hp_lookup.specs.Numbered.{NumberedFile, numbered_at}
+use Rattle.hp_model.proofs.Words.{Mapping, is_map, is_of}
+use Rattle.hp_lookup.proofs.Words.{HasNoted, HaveNoted, IsMoreByMap, IsNoted, Noted, NumberedFile, has_key, is_pair, maps_by, maps_named, numbered_at}
 use Rattle.hp_lookup.proofs.Cells.{no_file}
 
 module _ (task : ℕ) where

@@ -1,18 +1,13 @@
 use Rattle.std.proofs.lemmas.Grind.{common_steps}
 -- One place of a map gets another number, or none: at how many places each number stands then.
-use Rattle.std.proofs.Common.{◌≡◌, ◌≢◌, ℕ, zero, suc, ◌+◌, ◌<◌, ◌≤◌, ◌⊎◌, inl, inr, List, length, refl, ap, arith}
-use Rattle.std.specs.Prelude.{slice_index_or, slice_set}
-use Rattle.std.specs.List.{sum_by}
+use Rattle.std.proofs.Common.{◌≡◌, ◌≢◌, ℕ, zero, suc, ◌+◌, ◌<◌, ◌≤◌, ◌⊎◌, inl, inr, List, length, refl, ap, arith, slice_index_or, slice_set, sum_by}
 use Rattle.std.proofs.lemmas.Bool.Decides.{eqb_tells}
 use Rattle.std.proofs.lemmas.List.{get_or-set_other, get_or-set_same, length-set}
 use Rattle.std.proofs.lemmas.List.Sums.{sum_by-set}
-use Rattle.hp_model.specs.declared.place.Place.{Place}
-use Rattle.hp_model.specs.declared.place.Place.TheVariants.{Gone}
-use Rattle.hp_model.specs.files.Mapping.{Mapping}
+use Rattle.hp_laws.proofs.Variants.{Gone, Place}
+use Rattle.hp_model.proofs.Words.{Mapping}
 use Rattle.hp_store.specs.Store.{Store, holders_of, page_at}
-use Rattle.hp_lookup.specs.Dropping.{HasHolders}
-use Rattle.hp_lookup.specs.Held.{IsHeld, in_cell, in_cells, in_file, in_files, in_place, more_in}
-use Rattle.hp_lookup.specs.Numbered.{NumberedFile, mapping_at, numbered_at}
+use Rattle.hp_lookup.proofs.Words.{HasHolders, IsHeld, NumberedFile, in_cell, in_cells, in_file, in_files, in_place, mapping_at, more_in, numbered_at}
 use Rattle.hp_lookup.proofs.Cells.{no_file}
 use Rattle.hp_lookup.proofs.GivingBack.{in_all}
 use Rattle.hp_lookup.proofs.Lifting.{at_most}

@@ -1,12 +1,11 @@
 use Rattle.std.proofs.lemmas.Grind.{common_steps}
 -- A range of a list that is edited place by place.
 use Rattle.std.proofs.Common.{◌≡◌, ◌≢◌, ℕ, zero, suc, ◌+◌, ◌<◌, ◌≤◌, ◌==◌, ⊎_elim, Bool, true, false, cond, nat_le, nat_lt, List, [], ◌∷◌, ◌++◌, length, take, drop, map, refl, sym, ap, ◌∙◌, arith}
-use Rattle.std.specs.Prelude.{slice_index_or, slice_set}
+use Rattle.std.proofs.Common.{slice_index_or, slice_set}
 use Rattle.std.proofs.lemmas.Bool.{and_parts, leb-true, ltb-true}
 use Rattle.std.proofs.lemmas.Bool.Decides.{eqb_tells, nat_tests}
 use Rattle.std.proofs.lemmas.List.{get_or_default, get_or-set_other, get_or-set_same, length-set, same_lists, set-set, set_comm}
-use Rattle.hp_model.specs.Lists.{edit_range}
-use Rattle.hp_model.specs.machine.Promises.{is_in}
+use Rattle.hp_model.proofs.Words.{edit_range, is_in}
 use Rattle.hp_model.proofs.Editing.{length-edit_range}
 use Rattle.hp_laws.proofs.ending.Cuts.{ranged}
 

@@ -1,24 +1,12 @@
 use Rattle.std.proofs.lemmas.Grind.{common_steps}
 -- A private copy, as code puts it in.
-use Rattle.std.proofs.Common.{◌≡◌, ℕ, ◌-◌, ◌<◌, ◌||◌, Bool, true, false, None, Some, List, length, refl, sym, ap, ◌∙◌, arith}
-use Rattle.std.specs.Prelude.{slice_set, slice_index_or}
-use Rattle.std.specs.Bool.{IsTrue}
-use Rattle.std.specs.List.{flat_map, sum_by}
+use Rattle.std.proofs.Common.{◌≡◌, ℕ, ◌-◌, ◌<◌, ◌||◌, Bool, true, false, None, Some, List, length, refl, sym, ap, ◌∙◌, arith, slice_set, slice_index_or, IsTrue, flat_map, sum_by}
 use Rattle.std.proofs.lemmas.List.{get_or_default, get_or-set_same, length-map, length-set}
 use Rattle.hp_mapping.specs.Mapped.{at_place}
-use Rattle.hp_model.specs.declared.place.Place.{Place}
-use Rattle.hp_model.specs.declared.place.Place.TheVariants.{Gone, Live}
-use Rattle.hp_model.specs.files.File.{File, with_map}
-use Rattle.hp_model.specs.Lists.{is_among}
-use Rattle.hp_model.specs.files.Mapping.{Mapping, Map, place_at, with_place, is_live, copy_of}
-use Rattle.hp_model.specs.files.MountCounts.{stamps_of}
-use Rattle.hp_model.specs.files.Page.{Page, Copy}
+use Rattle.hp_laws.proofs.Variants.{Gone, Live, Place}
+use Rattle.hp_model.proofs.Words.{Copy, File, Map, Mapping, Page, copy_of, is_among, is_live, place_at, stamps_of, with_map, with_place}
 use Rattle.hp_store.specs.Store.{Store, page_at, inserted}
-use Rattle.hp_lookup.specs.Files.{copied_at, file_at}
-use Rattle.hp_lookup.specs.Numbered.{NumberedFile, numbered_at, mapping_at, place_shown, map_shown, files_shown, no_mapping}
-use Rattle.hp_lookup.specs.Held.{IsHeld, in_file, in_files, in_map}
-use Rattle.hp_lookup.specs.Level.{AreLevel}
-use Rattle.hp_lookup.specs.Places.{map_among}
+use Rattle.hp_lookup.proofs.Words.{AreLevel, IsHeld, NumberedFile, copied_at, file_at, files_shown, in_file, in_files, in_map, map_among, map_shown, mapping_at, no_mapping, numbered_at, place_shown}
 use Rattle.hp_file.specs.Taking.{first_copy}
 use Rattle.hp_lookup.proofs.Cells.{inserted_agrees, inserted_is, inserted_more, free_is_fresh, file_is, no_file}
 use Rattle.hp_file.proofs.Copies.{with_copy_at, copy_shows, copy_held, number_is_fresh}

@@ -1,17 +1,13 @@
 -- A copy is put in: which copies its map has then.
 use Rattle.std.proofs.Common.{◌≡◌, ◌≢◌, ℕ, zero, suc, ◌-◌, ◌<◌, ◌≤◌, ◌==◌, ⊎_elim, ◌⊎◌, inl, inr, Bool, true, false, cond, nat_lt, Some, List, [], ◌∷◌, length, refl, sym, ap, ◌∙◌, arith}
-use Rattle.std.specs.Prelude.{slice_index_or, slice_set}
-use Rattle.std.specs.List.{sum_by}
+use Rattle.std.proofs.Common.{slice_index_or, slice_set, sum_by}
 use Rattle.std.proofs.lemmas.Bool.{ltb-false}
 use Rattle.std.proofs.lemmas.Bool.Decides.{eqb_tells}
 use Rattle.std.proofs.lemmas.List.{get_or-set_same, get_or-set_other}
 use Rattle.std.proofs.lemmas.List.Sums.{sum_by-cons}
-use Rattle.hp_model.specs.declared.place.Place.{Place}
-use Rattle.hp_model.specs.declared.place.Place.TheVariants.{Gone, Live}
-use Rattle.hp_model.specs.files.Mapping.{Mapping, copy_of, is_live, place_at, with_place}
-use Rattle.hp_lookup.specs.Held.{in_map, in_place}
-use Rattle.hp_lookup.specs.Level.{copy_in}
-use Rattle.hp_lookup.specs.Numbered.{no_mapping}
+use Rattle.hp_laws.proofs.Variants.{Gone, Live, Place}
+use Rattle.hp_model.proofs.Words.{Mapping, copy_of, is_live, place_at, with_place}
+use Rattle.hp_lookup.proofs.Words.{copy_in, in_map, in_place, no_mapping}
 use Rattle.hp_file.proofs.Drops.{live_copy, place_inside}
 use Rattle.hp_file.proofs.FirstCopy.{live_inside}
 use Rattle.hp_lookup.proofs.Level.{bare_map, clash}

@@ -1,17 +1,13 @@
 use Rattle.std.proofs.lemmas.Grind.{common_steps}
 -- What is counted of a run of a map's places.
-use Rattle.std.proofs.Common.{◌≡◌, ℕ, ◌+◌, ◌-◌, ◌≤◌, List, ◌++◌, drop, length, slice_index_or, sym, ◌∙◌, ap, arith}
-use Rattle.std.specs.Prelude.{IsSome}
-use Rattle.std.specs.List.{sum_by}
+use Rattle.std.proofs.Common.{◌≡◌, ℕ, ◌+◌, ◌-◌, ◌≤◌, List, ◌++◌, drop, length, slice_index_or, sym, ◌∙◌, ap, arith, IsSome, sum_by}
 use Rattle.std.proofs.lemmas.List.{drop-append-le, drop-drop, get_or-drop, get_or-take, length-drop, length-take, take-append-drop}
 use Rattle.std.proofs.lemmas.List.Sums.{sum_by-append, sum_by-take-drop}
 use Rattle.hp_mapping.specs.Mapped.{IsPlaceRun}
-use Rattle.hp_model.specs.declared.place.Place.{Place}
-use Rattle.hp_model.specs.declared.place.Place.TheVariants.{Gone}
-use Rattle.hp_model.specs.files.Mapping.{copy_of}
+use Rattle.hp_laws.proofs.Variants.{Gone, Place}
+use Rattle.hp_model.proofs.Words.{copy_of}
 use Rattle.hp_store.specs.Store.{Store}
-use Rattle.hp_lookup.specs.Forking.{IsShared}
-use Rattle.hp_lookup.specs.Held.{in_place}
+use Rattle.hp_lookup.proofs.Words.{IsShared, in_place}
 use Rattle.hp_file.proofs.Sharing.{share_none, share_then}
 
 module _ (at : ℕ) (places run : List (Place ℕ)) (is : IsPlaceRun at places run) where

@@ -1,23 +1,17 @@
 use Rattle.std.proofs.lemmas.Grind.{common_steps}
 -- Holders that come, one by one.
-use Rattle.std.proofs.Common.{◌≡◌, ◌≢◌, ℕ, zero, suc, ◌+◌, ◌-◌, ◌<◌, ◌≤◌, ◌==◌, ⊎_elim, true, false, cond, Option, Some, None, List, [], ◌∷◌, length, drop, refl, sym, ap, subst, ◌∙◌, arith}
-use Rattle.std.specs.Prelude.{is_some, slice_index_or, slice_set}
-use Rattle.std.specs.List.{sum_by}
-use Rattle.std.specs.Option.{option_map}
+use Rattle.std.proofs.Common.{◌≡◌, ◌≢◌, ℕ, zero, suc, ◌+◌, ◌-◌, ◌<◌, ◌≤◌, ◌==◌, ⊎_elim, true, false, cond, Option, Some, None, List, [], ◌∷◌, length, drop, refl, sym, ap, subst, ◌∙◌, arith, is_some}
+use Rattle.std.proofs.Common.{slice_index_or, slice_set, sum_by, option_map}
 use Rattle.std.proofs.lemmas.Bool.Decides.{eqb_tells, nat_tests}
 use Rattle.std.proofs.lemmas.List.{at_drop_more, drop_all, get_or-set_same, get_or-set_other}
 use Rattle.std.proofs.lemmas.List.Sums.{sum_by-cons, sum_by-set}
 use Rattle.hp_mapping.specs.Mapped.{IsClear, has_copy}
 use Rattle.hp_mapping.proofs.Ranges.{at_start}
-use Rattle.hp_model.specs.declared.place.Place.{Place}
-use Rattle.hp_model.specs.declared.place.Place.TheVariants.{Gone, Live}
-use Rattle.hp_model.specs.files.Mapping.{Mapping, copy_of, place_at}
+use Rattle.hp_laws.proofs.Variants.{Gone, Live, Place}
+use Rattle.hp_model.proofs.Words.{Mapping, copy_of, place_at}
 use Rattle.hp_store.specs.Store as store
 use Rattle.hp_store.specs.Store.{Holding, Store, held_count, held_once_more, holders_of, one_if_held, page_at}
-use Rattle.hp_lookup.specs.Dropping.{HasHolders, at_node}
-use Rattle.hp_lookup.specs.Forking.{IsShared, IsSharing}
-use Rattle.hp_lookup.specs.Held.{in_place, more_in, more_of}
-use Rattle.hp_lookup.specs.Numbered.{page_in}
+use Rattle.hp_lookup.proofs.Words.{HasHolders, IsShared, IsSharing, at_node, in_place, more_in, more_of, page_in}
 use Rattle.hp_file.proofs.Drops.{one_at}
 use Rattle.hp_lookup.proofs.Lifting.{is_it}
 use Rattle.hp_lookup.proofs.Views.{some_within}

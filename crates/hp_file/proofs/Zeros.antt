@@ -1,24 +1,19 @@
 use Rattle.std.proofs.lemmas.Grind.{common_steps}
 -- Pages put at the lowest indices of a file that have none, by what is left to do.
-use Rattle.std.proofs.Common.{◌≡◌, ◌≢◌, ℕ, zero, suc, ◌+◌, ◌-◌, ◌<◌, ◌≤◌, ⊎_elim, true, false, cond, not, List, [], ◌∷◌, ◌++◌}
-use Rattle.std.proofs.Common.{length, map, take, drop, refl, sym, ap, subst, ◌∙◌, arith}
-use Rattle.std.specs.Prelude.{slice_set}
-use Rattle.std.specs.List.{count_by, position_or_len}
+use Rattle.std.proofs.Common.{◌≡◌, ◌≢◌, ℕ, zero, suc, ◌+◌, ◌-◌, ◌<◌, ◌≤◌, ⊎_elim, true, false, cond, not, List, [], ◌∷◌, ◌++◌, length, map, take, drop, refl, sym, ap, subst, ◌∙◌, arith, slice_set}
+use Rattle.std.proofs.Common.{count_by}
+use Rattle.std.specs.List.{position_or_len}
 use Rattle.std.proofs.lemmas.Bool.{cases_eq, cases_lt}
 use Rattle.std.proofs.lemmas.List.{drop-set-add, drop-set-lt, drop_more, get_or-drop, get_or-set_other, get_or-set_same}
 use Rattle.std.proofs.lemmas.List.{length-drop, length-set, length-take, set-set, take-append-drop, take-set-le}
 use Rattle.std.proofs.lemmas.List.Sums.{position_or_len_is}
 use Rattle.std.proofs.Math.Seq.{drop-append_seam, take-append_seam}
-use Rattle.hp_model.specs.declared.cell.Cell.{Cell}
-use Rattle.hp_model.specs.declared.cell.Cell.TheVariants.{Hole, Entered, Present}
-use Rattle.hp_model.specs.files.File.{cell_in, entered, has_page, is_entered}
-use Rattle.hp_model.specs.files.Fill.{cells_filled, lacks_page, next_bare, zero_page}
-use Rattle.hp_model.specs.files.Page.{Page}
-use Rattle.hp_model.specs.Lists.{edit_range, part}
+use Rattle.hp_laws.proofs.Variants.{Cell, Entered, Hole, Present}
+use Rattle.hp_model.proofs.Words.{Page, cell_in, cells_filled, edit_range, entered, has_page, is_entered, lacks_page, next_bare, part, zero_page}
 use Rattle.hp_model.proofs.Counting.{count_cons}
 use Rattle.hp_file.specs.declared.file.CellState.{CellState}
 use Rattle.hp_file.specs.declared.file.CellState.TheVariants as state
-use Rattle.hp_lookup.specs.Files.{Files, file_at, filled_at}
+use Rattle.hp_lookup.proofs.Words.{Files, file_at, filled_at}
 use Rattle.hp_file.specs.States.{IsState}
 
 abbrev pub zeros_of : (size : ℕ) → List Page → List Page

@@ -3,7 +3,7 @@ use Rattle.std.proofs.Common.{◌≡◌, ℕ, ◌+◌, ◌-◌, ◌≤◌, ◌++
 use Rattle.std.proofs.lemmas.List.{drop-drop, drop-replicate, drop-take, length-append, length-drop, length-replicate, length-take, take-replicate, take-take}
 use Rattle.std.proofs.lemmas.Slice.{drop-put_mid}
 use borrow.Rule.Slice.PartMut.{mid_of, put_mid, put_same}
-use Rattle.hp_model.specs.files.Page.{zeros}
+use Rattle.hp_model.proofs.Words.{zeros}
 use Rattle.hp_frames.specs.Frame.{AreZerosFrom, AreZerosUpTo}
 
 -- and so from each place behind it

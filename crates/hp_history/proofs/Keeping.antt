@@ -1,17 +1,15 @@
 -- Each step of a seat keeps the rule.
 use Rattle.std.proofs.lemmas.Grind.{common_steps}
-use Rattle.std.proofs.Common.{◌≡◌, ◌≢◌, ℕ, zero, suc, ◌+◌, ◌*◌, ◌/◌, ◌%◌, ◌^◌, ◌<◌, ◌≤◌, ◌==◌, replicate, Option, None, Some, Bool}
-use Rattle.std.proofs.Common.{true, List, [], ◌∷◌, ◌++◌, length, set, refl, sym, ap, ◌∙◌, subst, ⊎_elim, arith, eq-eqb, ne_eqb}
+use Rattle.std.proofs.Common.{◌≡◌, ◌≢◌, ℕ, zero, suc, ◌+◌, ◌*◌, ◌/◌, ◌%◌, ◌^◌, ◌<◌, ◌≤◌, ◌==◌, replicate, Option, None, Some, Bool, true, List, [], ◌∷◌, ◌++◌, length, set, refl, sym, ap, ◌∙◌, subst}
+use Rattle.std.proofs.Common.{⊎_elim, arith, eq-eqb, ne_eqb, if◌then◌else◌, slice_index, slice_set}
 use mathlib.Core.Option.{some, some-ne-none, some-injective}
 use prog.Atomic.{either}
 use lib.ListN.{get_elem?}
 use Rattle.atomic_table.specs.Table.{State as TableState, Act, Allows, Splits, Joins, Valid, carried_after, opening, keeps, stepped}
 use Rattle.atomic_table.specs.Seated.{TableId}
 use Rattle.atomic_table.proofs.Lists.{at_set, exchanged}
-use Rattle.std.specs.Prelude.{if◌then◌else◌, slice_index, slice_set}
-use Rattle.hp_model.specs.declared.entry.Receipt.{Receipt}
-use Rattle.hp_model.specs.machine.Table.{Table, added, home_of, removed}
-use Rattle.hp_model.specs.threads.JointRun.{keep, option_cons, receipt_of}
+use Rattle.hp_laws.proofs.Variants.{Receipt}
+use Rattle.hp_model.proofs.Words.{Table, added, home_of, keep, option_cons, receipt_of, removed}
 use Rattle.hp_history.specs.declared.held.Held.{Held}
 use Rattle.hp_history.specs.declared.held.Held.TheVariants.{Opener, Session}
 use Rattle.hp_history.specs.declared.law.Shape.{Shape}

@@ -1,12 +1,10 @@
 use Rattle.std.proofs.lemmas.Grind.{common_steps}
 -- Holes alone: no entries, and no pages.
-use Rattle.std.proofs.Common.{◌≡◌, ℕ, ◌-◌, ◌%◌, ◌<◌, ◌^◌, ◌&&◌, true, false, not, [], None, refl, sym, ap, ◌∙◌, arith}
-use Rattle.std.specs.List.{range_with_len, count_by}
-use Rattle.std.specs.Option.{is_some}
+use Rattle.std.proofs.Common.{◌≡◌, ℕ, ◌-◌, ◌%◌, ◌<◌, ◌^◌, ◌&&◌, true, false, not, [], None, refl, sym, ap, ◌∙◌, arith, count_by, is_some}
+use Rattle.std.specs.List.{range_with_len}
 use Rattle.std.proofs.lemmas.Bool.{false≢true}
 use Rattle.std.proofs.lemmas.List.FromFn.{length-range_with_len}
-use Rattle.hp_model.specs.files.File.{has_page}
-use Rattle.hp_model.specs.beside.Ranges.{within}
+use Rattle.hp_model.proofs.Words.{has_page, within}
 use Rattle.hp_model.proofs.Counting.{count_map, count_not, count_outside}
 use Rattle.hp_inode.specs.declared.form.Form.{Form}
 use Rattle.hp_inode.specs.declared.form.Form.TheVariants.{Holes}

@@ -1,10 +1,8 @@
 use Rattle.std.proofs.lemmas.Grind.{common_steps}
 -- What the cells of an inode say of its parts, and what a change of a part does to the cells.
-use Rattle.std.proofs.Common.{◌≡◌, ℕ, ◌+◌, ◌-◌, ◌<◌, ◌≤◌, ◌^◌, Bool, true, false, not, List, ◌++◌, length, take}
-use Rattle.std.proofs.Common.{drop, map, replicate, get_or, set, Option, None, Some, sym, refl, ap, ◌∙◌, subst, arith, ⊎_elim}
-use Rattle.std.specs.List.{range_with_len, count_by, All}
-use Rattle.std.specs.Prelude.{IsSome}
-use Rattle.std.specs.Option.{is_some}
+use Rattle.std.proofs.Common.{◌≡◌, ℕ, ◌+◌, ◌-◌, ◌<◌, ◌≤◌, ◌^◌, Bool, true, false, not, List, ◌++◌, length, take, drop, map, replicate, get_or, set, Option, None, Some, sym, refl, ap, ◌∙◌, subst}
+use Rattle.std.proofs.Common.{arith, ⊎_elim, count_by, All, IsSome, is_some}
+use Rattle.std.specs.List.{range_with_len}
 use Rattle.std.proofs.lemmas.Bool.{cases_lt, cases_eq, cases_Bool, true≢false, false≢true}
 use Rattle.std.proofs.lemmas.List.{take_all, get_or_past, get_or-set_same, get_or-set_other, length-set, length-take, length-drop, length-append}
 use Rattle.std.proofs.lemmas.List.{length-replicate, get_or-drop, get_or-take, get_or_append_left, get_or-append_right, get_or-replicate, ext_get_or}
@@ -13,8 +11,7 @@ use Rattle.std.proofs.lemmas.List.FromFn.{get_or-map-range_with_len, length-map-
 use Rattle.hp_inode.specs.Blocks.{WordBlocks, entered_count, missing_count, entered_at, RowBlocks, page_at, has_slot_at}
 use Rattle.hp_model.specs.declared.cell.Cell.{Cell}
 use Rattle.hp_model.specs.declared.cell.Cell.TheVariants.{Hole, Entered}
-use Rattle.hp_model.specs.files.File.{is_entered, is_hole, has_page, page_of, cell_in, cells_to}
-use Rattle.hp_model.specs.Lists.{part}
+use Rattle.hp_model.proofs.Words.{cell_in, cells_to, has_page, is_entered, is_hole, page_of, part}
 use Rattle.hp_inode.specs.Kept.{cell_by, kept_cell, cells_of, IsKept}
 
 pub length-cells : (len : ℕ) (s : WordBlocks) (rows : RowBlocks) → length (cells_of len s rows) ≡ len

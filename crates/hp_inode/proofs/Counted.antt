@@ -1,8 +1,7 @@
 use Rattle.std.proofs.lemmas.Grind.{common_steps}
 -- How many indices of one block have a page.
-use Rattle.std.proofs.Common.{◌≡◌, ℕ, Bool, true, not, ◌+◌, ◌/◌, ◌%◌, ◌<◌, ◌≤◌, [], get_or, ap, arith}
-use Rattle.std.specs.List.{count_by, range_with_len}
-use Rattle.std.specs.Option.{is_some}
+use Rattle.std.proofs.Common.{◌≡◌, ℕ, Bool, true, not, ◌+◌, ◌/◌, ◌%◌, ◌<◌, ◌≤◌, [], get_or, ap, arith, count_by, is_some}
+use Rattle.std.specs.List.{range_with_len}
 use Rattle.std.proofs.lemmas.List.FromFn.{length-range_with_len}
 use Rattle.hp_model.proofs.Counting.{count_not, count_outside}
 use Rattle.hp_inode.specs.Blocks.{RowBlocks, page_at}

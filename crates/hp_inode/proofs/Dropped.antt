@@ -1,16 +1,13 @@
 use Rattle.std.proofs.lemmas.Grind.{common_steps}
 -- An inode after the entries of a range were dropped.
-use Rattle.std.proofs.Common.{◌≡◌, ℕ, ◌+◌, ◌-◌, ◌<◌, ◌≤◌, Bool, true, false, not, ◌&&◌, List, drop, get_or, Option, sym, refl, ap, ◌∙◌, arith, ⊎_elim}
-use Rattle.std.specs.List.{range_with_len, count_by, All}
-use Rattle.std.specs.Prelude.{IsSome}
+use Rattle.std.proofs.Common.{◌≡◌, ℕ, ◌+◌, ◌-◌, ◌<◌, ◌≤◌, Bool, true, false, not, ◌&&◌, List, drop, get_or, Option, sym, refl, ap, ◌∙◌, arith, ⊎_elim, count_by, All, IsSome}
+use Rattle.std.specs.List.{range_with_len}
 use Rattle.std.proofs.lemmas.Bool.{cases_lt, and_parts, and_from, not_from_false, false_from_ne_true, true≢false}
 use Rattle.std.proofs.lemmas.List.{get_or-take, get_or-drop, length-take, length-drop}
 use Rattle.std.proofs.lemmas.List.FromFn.{fill_by_all}
 use Rattle.hp_model.specs.declared.cell.Cell.{Cell}
 use Rattle.hp_model.specs.declared.cell.Cell.TheVariants.{Hole}
-use Rattle.hp_model.specs.files.File.{cell_in, has_page}
-use Rattle.hp_model.specs.Lists.{edit_range, part}
-use Rattle.hp_model.specs.beside.Ranges.{within}
+use Rattle.hp_model.proofs.Words.{cell_in, edit_range, has_page, part, within}
 use Rattle.hp_model.proofs.Counting.{count_alike, count_parted, count_within, alike_in}
 use Rattle.hp_model.proofs.Ranges.{within-in, within-true, within-below, within-past}
 use Rattle.hp_model.proofs.Editing.{length-edit_range, get_or-edit_below, get_or-edit_within, get_or-edit_past}

@@ -1,7 +1,6 @@
 use Rattle.std.proofs.lemmas.Grind.{common_steps}
 -- The first page of a table, by the bits of its words.
-use Rattle.std.proofs.Common.{◌≡◌, ℕ, ◌+◌, ◌*◌, ◌/◌, ◌<◌, ◌≤◌, true, false, List, Option, None, Some, sym, refl, ◌∙◌, arith, ⊎_elim}
-use Rattle.std.specs.Option.{is_some}
+use Rattle.std.proofs.Common.{◌≡◌, ℕ, ◌+◌, ◌*◌, ◌/◌, ◌<◌, ◌≤◌, true, false, List, Option, None, Some, sym, refl, ◌∙◌, arith, ⊎_elim, is_some}
 use Rattle.std.proofs.lemmas.Bool.{cases_lt, true≢false}
 use Rattle.hp_marks.specs.Marks.{marked, FindsWithin, IsFirstFrom}
 use Rattle.hp_marks.proofs.Words.{unmarked_past}

@@ -1,6 +1,5 @@
 -- How many indices have a page, through each change of the cells.
-use Rattle.std.proofs.Common.{◌≡◌, ℕ, ◌+◌, ◌-◌, ◌<◌, ◌≤◌, true, false, cond, List, [], ◌∷◌, length, take, drop, map, set, replicate, refl, sym, ap, ◌∙◌, arith, ⊎_elim}
-use Rattle.std.specs.List.{All, count_by}
+use Rattle.std.proofs.Common.{◌≡◌, ℕ, ◌+◌, ◌-◌, ◌<◌, ◌≤◌, true, false, cond, List, [], ◌∷◌, length, take, drop, map, set, replicate, refl, sym, ap, ◌∙◌, arith, ⊎_elim, All, count_by}
 use Rattle.std.proofs.lemmas.Bool.{cases_lt, false≢true}
 use Rattle.std.proofs.lemmas.List.{get_or_past}
 use Rattle.std.proofs.lemmas.List.Elements.{All-head, All-tail}
@@ -10,8 +9,7 @@ use Rattle.hp_model.proofs.Counting.{count_alike, count_cons, count_map}
 use Rattle.hp_model.proofs.Editing.{sum_by-edit_range}
 use Rattle.hp_model.specs.declared.cell.Cell.{Cell}
 use Rattle.hp_model.specs.declared.cell.Cell.TheVariants.{Hole, Entered, Present}
-use Rattle.hp_model.specs.files.File.{at_least, cell_in, cells_to, entered, has_page, is_entered}
-use Rattle.hp_model.specs.Lists.{edit_range, part}
+use Rattle.hp_model.proofs.Words.{at_least, cell_in, cells_to, edit_range, entered, has_page, is_entered, part}
 
 abbrev one : Cell ℕ → ℕ
 one c = cond (has_page c) 1 0

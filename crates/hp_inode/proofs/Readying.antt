@@ -1,10 +1,10 @@
 use Rattle.std.proofs.lemmas.Grind.{common_steps}
 -- An inode with the room to enter a range, and as it enters it.
 use Rattle.hp_model.proofs.Counting.{count_alike}
-use Rattle.hp_model.specs.beside.Ranges.{within}
+use Rattle.hp_model.proofs.Words.{at_least, cell_in, cells_to, edit_range, entered, has_page, part, within}
 use Rattle.std.proofs.Common.{◌≡◌, ℕ, ◌+◌, ◌-◌, ◌<◌, ◌≤◌, ◌^◌, ◌++◌, not, cond, List, [], length, drop, replicate, max, refl, sym, ap, subst, ◌∙◌, arith, ◌||◌, ◌&&◌, true, false, rules, IsSome}
-use Rattle.std.proofs.Common.{Option, None, Some}
-use Rattle.std.specs.List.{All, range_with_len, count_by}
+use Rattle.std.proofs.Common.{Option, None, Some, All, count_by}
+use Rattle.std.specs.List.{range_with_len}
 use Rattle.std.proofs.lemmas.Bool.{false≢true}
 use Rattle.std.proofs.lemmas.List.{append-nil, drop_all, take_all}
 use Rattle.std.proofs.lemmas.List.Elements.{All-nil}
@@ -12,8 +12,6 @@ use Rattle.std.proofs.lemmas.List.FromFn.{length-range_with_len}
 use Rattle.std.proofs.lemmas.List.Sums.{count_by-le-length}
 use Rattle.hp_model.specs.declared.cell.Cell.{Cell}
 use Rattle.hp_model.specs.declared.cell.Cell.TheVariants.{Entered, Hole}
-use Rattle.hp_model.specs.files.File.{at_least, cell_in, cells_to, entered, has_page}
-use Rattle.hp_model.specs.Lists.{edit_range, part}
 use Rattle.hp_inode.specs.Blocks.{WordBlocks, entered_count, missing_count, entered_at, RowBlocks, page_at, has_slot_at}
 use Rattle.hp_inode.specs.Kept.{IsKept, cells_of}
 use Rattle.hp_inode.specs.Ready.{IsReady}

@@ -1,10 +1,9 @@
 use Rattle.std.proofs.lemmas.Grind.{common_steps}
 -- The indices of a range taken out, part by part.
-use Rattle.std.proofs.Common.{◌≡◌, ℕ, ◌+◌, ◌-◌, ◌*◌, ◌/◌, ◌%◌, ◌^◌, ◌<◌, ◌≤◌, min, Bool, true, false, not, ◌&&◌}
-use Rattle.std.proofs.Common.{eqb, List, length, get_or, set, sym, refl, ap, ◌∙◌, arith, ⊎_elim, bit_and, count_ones, Option, None, Some}
+use Rattle.std.proofs.Common.{◌≡◌, ℕ, ◌+◌, ◌-◌, ◌*◌, ◌/◌, ◌%◌, ◌^◌, ◌<◌, ◌≤◌, min, Bool, true, false, not, ◌&&◌, eqb, List, length, get_or, set, sym, refl, ap, ◌∙◌, arith, ⊎_elim, bit_and, count_ones}
+use Rattle.std.proofs.Common.{Option, None, Some, count_by, unwrap_or}
 use Rattle.std.specs.Int.{bit_at, bit_not, w64}
-use Rattle.std.specs.List.{range_with_len, count_by}
-use Rattle.std.specs.Option.{unwrap_or}
+use Rattle.std.specs.List.{range_with_len}
 use Rattle.std.proofs.Math.Bool.{and-false}
 use Rattle.std.proofs.lemmas.Bool.{cases_lt, cases_eq, and_cases, and_parts, not-false, false_from_ne_true}
 use Rattle.std.proofs.lemmas.Bool.Decides.{nat_tests}
@@ -13,7 +12,7 @@ use Rattle.std.proofs.lemmas.List.Sums.{count_by-le-length}
 use Rattle.std.proofs.lemmas.Nat.Bits.{bit_at-zero}
 use Rattle.hp_model.proofs.Counting.{count_split, count_outside, alike_in}
 use Rattle.hp_model.proofs.Ranges.{within-in, within-true, within-below, within-past}
-use Rattle.hp_model.specs.beside.Ranges.{within}
+use Rattle.hp_model.proofs.Words.{within}
 use Rattle.hp_inode.specs.EntryBlock.{count_in, IsBlank, IsEntries, IsRemoved}
 use Rattle.hp_marks.specs.Marks.{marked, FindsWithin}
 use Rattle.hp_marks.proofs.Bits.{word_counted}

@@ -1,18 +1,15 @@
 use Rattle.std.proofs.lemmas.Grind.{common_steps}
 -- An inode after a range was entered.
-use Rattle.std.proofs.Common.{◌≡◌, ℕ, ◌+◌, ◌-◌, ◌<◌, ◌≤◌, Bool, true, false, not, ◌&&◌, ◌||◌, Option, None, Some, sym, refl, ap, ◌∙◌, subst, arith, ⊎_elim}
-use Rattle.std.specs.List.{range_with_len, count_by}
-use Rattle.std.specs.Prelude.{IsSome}
+use Rattle.std.proofs.Common.{◌≡◌, ℕ, ◌+◌, ◌-◌, ◌<◌, ◌≤◌, Bool, true, false, not, ◌&&◌, ◌||◌, Option, None, Some, sym, refl, ap, ◌∙◌, subst, arith, ⊎_elim, count_by, IsSome}
+use Rattle.std.specs.List.{range_with_len}
 use Rattle.std.proofs.lemmas.Bool.{cases_lt, or_cases, or_left, and_parts, and_right}
 use Rattle.std.proofs.lemmas.List.FromFn.{fill_by_all}
 use Rattle.hp_inode.specs.Blocks.{WordBlocks, entered_count, missing_count, entered_at, RowBlocks, page_at, has_slot_at}
-use Rattle.hp_model.specs.beside.Ranges.{within}
+use Rattle.hp_model.proofs.Words.{cell_in, edit_range, entered, within}
 use Rattle.hp_model.proofs.Counting.{count_alike, count_or, count_within, alike_in}
 use Rattle.hp_model.proofs.Ranges.{within-in, within-true, within-below, within-past}
 use Rattle.hp_model.proofs.Editing.{length-edit_range, get_or-edit_below, get_or-edit_within, get_or-edit_past}
 use Rattle.hp_model.specs.declared.cell.Cell.TheVariants.{Hole}
-use Rattle.hp_model.specs.files.File.{entered, cell_in}
-use Rattle.hp_model.specs.Lists.{edit_range}
 use Rattle.hp_inode.specs.Kept.{cell_by, kept_cell, cells_of, IsKept}
 use Rattle.hp_inode.proofs.CellFacts.{length-cells, cell_in-cells}
 

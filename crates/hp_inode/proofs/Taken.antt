@@ -1,13 +1,9 @@
 -- The lowest page of a range.
-use Rattle.std.proofs.Common.{◌≡◌, ℕ, zero, suc, [], ◌∷◌, subst, ◌+◌, ◌-◌, ◌<◌, ◌≤◌, false, List, length, drop, get_or, None, Some, sym, refl, ap, ◌∙◌, arith}
-use Rattle.std.specs.Prelude.{IsSome}
-use Rattle.std.specs.Option.{is_some}
-use Rattle.std.specs.List.{All}
+use Rattle.std.proofs.Common.{◌≡◌, ℕ, zero, suc, [], ◌∷◌, subst, ◌+◌, ◌-◌, ◌<◌, ◌≤◌, false, List, length, drop, get_or, None, Some, sym, refl, ap, ◌∙◌, arith, IsSome, is_some, All}
 use Rattle.std.proofs.lemmas.List.{length-take, length-drop, get_or_default}
 use Rattle.hp_model.specs.declared.cell.Cell.{Cell}
 use Rattle.hp_model.specs.declared.cell.Cell.TheVariants.{Hole, Entered}
-use Rattle.hp_model.specs.files.File.{cell_in, has_page}
-use Rattle.hp_model.specs.Lists.{part, found}
+use Rattle.hp_model.proofs.Words.{cell_in, found, has_page, part}
 use Rattle.hp_model.proofs.Editing.{part_one}
 use Rattle.hp_model.proofs.Finding.{found_none, found_at}
 use Rattle.hp_inode.specs.Blocks.{WordBlocks, RowBlocks, page_at}

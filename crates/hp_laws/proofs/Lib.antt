@@ -1,3 +1,4 @@
+pub mod Variants
 pub mod lists
 pub mod counts
 pub mod sections

@@ -1,37 +1,19 @@
 -- A trail keeps its fact with one entry more.
-use Rattle.std.proofs.Common.{◌≡◌, length, Bool, true, false, arith, ℕ, List, [], ◌∷◌, ◌++◌, Option, Some, None, Ok, refl, sym, ap, ◌∙◌, subst}
-use Rattle.hp_model.specs.declared.entry.PoolEntry.{PoolEntry}
-use Rattle.hp_model.specs.declared.entry.PoolEntry.TheVariants.{OfSlot}
-use Rattle.hp_model.specs.declared.section.PoolAnswer.{PoolAnswer}
-use Rattle.hp_model.specs.declared.section.Section.{Section}
-use Rattle.hp_model.specs.pool.Pool.{puts_from, released, section, trimmed}
-use Rattle.hp_model.specs.pool.PoolCounts.{Pool}
-use Rattle.hp_model.specs.threads.PoolRun.{IsPoolRun, IsPoolStep}
-use Rattle.hp_model.specs.machine.Settled.{IsSettledPool}
-use Rattle.hp_model.specs.pool.NodeRows.{frames_of}
-use Rattle.hp_model.specs.pool.PoolCounts.{IsSettled}
+use Rattle.std.proofs.Common.{◌≡◌, length, Bool, true, false, arith, ℕ, List, [], ◌∷◌, ◌++◌, Option, Some, None, Ok, refl, sym, ap, ◌∙◌, subst, sum, IfSome, IfNone, is_some, ◌+◌, ◌*◌, ◌<◌, ◌≤◌}
+use Rattle.hp_laws.proofs.Variants.{Asked, GiveBack, Number, OfSlot, PoolAnswer, PoolEntry, PoolEvent, Section}
+use Rattle.hp_model.proofs.Words.{IsPoolRun, IsPoolStep, IsSettled, IsSettledPool, Pool, Reply, frames_of, granted_at, pool_event, puts_from, released, section, set_nr, to_return, trimmed}
 use Rattle.hp_model.proofs.Sums.{idle_total}
 use Rattle.hp_pool.specs.Sums.{idle_pool}
 use Rattle.std.proofs.lemmas.Bool.{lt-ltb, ltb-true}
 use Rattle.hp_mount_door.specs.Door.{IsReady}
-use Rattle.std.specs.List.{sum}
-use Rattle.std.specs.Prelude.{IfSome, IfNone, is_some, ◌+◌, ◌*◌, ◌<◌, ◌≤◌}
-use Rattle.hp_model.specs.declared.entry.Asked.{Asked}
-use Rattle.hp_model.specs.declared.section.Section.TheVariants.{GiveBack}
-use Rattle.hp_model.specs.pool.Pool.{granted_at}
 use Rattle.hp_trail.specs.Keeping.{has_room, one_less, with_entry}
 use Rattle.hp_locked.specs.Views.{IsNewTrail, HasPlaces, CoreView, IsCore, IsGiven, IsPlace, IsPoolTrail, IsSeated, IsTrailOf}
 use Rattle.atomic_table.specs.Seated.{TableId}
 use Rattle.hp_history.specs.declared.held.Held.{Held}
 use Rattle.hp_history.specs.declared.held.Held.TheVariants.{Pool as PoolPart}
 use Rattle.hp_history.specs.Sections.{pool_in, pool_next, pool_view}
-use Rattle.hp_model.specs.threads.Closing.{to_return}
 use Rattle.hp_laws.proofs.settled.Closing.{most_return, step_frames}
 use Rattle.hp_laws.proofs.sections.Lengths.{long_event}
-use Rattle.hp_model.specs.declared.event.PoolEvent.{PoolEvent}
-use Rattle.hp_model.specs.machine.Plan.{Reply}
-use Rattle.hp_model.specs.pool.Resize.{pool_event, set_nr}
-use Rattle.hp_model.specs.declared.answer.Answer.TheVariants.{Number}
 use Rattle.hp_model.specs.declared.event.PoolEvent.TheVariants.{Nr}
 
 pub fresh_core : (fs : List ℕ) (o : Option (List PoolEntry)) (left : Option ℕ) (extra : ℕ) (p : Pool) → p ≡ idle_pool fs → IsReady p →

@@ -1,16 +1,10 @@
 -- What a door has once a section was entered.
-use Rattle.std.proofs.Common.{◌≡◌, ◌∷◌, [], ℕ, Bool, true, false, Option, None, Some, List, refl, ap, arith, subst, sym, ◌∙◌}
-use Rattle.std.specs.Prelude.{is_some}
-use Rattle.std.specs.List.{sum}
+use Rattle.std.proofs.Common.{◌≡◌, ◌∷◌, [], ℕ, Bool, true, false, Option, None, Some, List, refl, ap, arith, subst, sym, ◌∙◌, is_some, sum}
 use Rattle.atomic_table.specs.Seated.{TableId}
 use Rattle.hp_history.specs.declared.held.Held.{Held}
 use Rattle.hp_history.specs.Sections.{IsEntered, IsFree, asked_in, busy, section_at}
-use Rattle.hp_model.specs.declared.entry.Asked.{Asked}
-use Rattle.hp_model.specs.declared.section.PoolAnswer.{PoolAnswer}
-use Rattle.hp_model.specs.declared.section.Section.{Section}
-use Rattle.hp_model.specs.declared.section.Section.TheVariants.{GiveBack}
-use Rattle.hp_model.specs.files.Page.{Page}
-use Rattle.hp_model.specs.pool.Pool.{granted_at}
+use Rattle.hp_laws.proofs.Variants.{Asked, GiveBack, PoolAnswer, Section}
+use Rattle.hp_model.proofs.Words.{Page, granted_at}
 use Rattle.hp_mount_door.specs.Door.{GivesBack, by_node}
 use Rattle.hp_locked.specs.Doors.{IsDoor, NotedView}
 use Rattle.hp_locked.specs.Views.{HasAsked, CoreView, DoorView, IsGiven}

@@ -1,13 +1,10 @@
 -- What gives pages back, as counts of them.
-use Rattle.std.proofs.Common.{◌≡◌, ℕ, zero, suc, ◌+◌, ◌-◌, ◌<◌, ◌≤◌, ◌==◌, false, cond, List, [], ◌∷◌, ◌++◌, length, refl, sym, ap, subst, ◌∙◌, arith}
-use Rattle.std.specs.List.{count_by, sum}
+use Rattle.std.proofs.Common.{◌≡◌, ℕ, zero, suc, ◌+◌, ◌-◌, ◌<◌, ◌≤◌, ◌==◌, false, cond, List, [], ◌∷◌, ◌++◌, length, refl, sym, ap, subst, ◌∙◌, arith, count_by, sum}
 use Rattle.std.proofs.lemmas.Bool.{eq-eqb}
 use Rattle.std.proofs.lemmas.List.{length-append}
 use Rattle.std.proofs.lemmas.List.Sums.{sum_by-append, sum_by-cons}
-use Rattle.hp_model.specs.files.Page.{Page}
-use Rattle.hp_model.specs.pool.Pool.{puts_from, released, trimmed}
-use Rattle.hp_model.specs.pool.PoolCounts.{IsSettled, Pool, used as in_use}
-use Rattle.hp_model.specs.threads.Closing.{to_return}
+use Rattle.hp_model.proofs.Words.{IsSettled, Page, Pool, puts_from, released, to_return, trimmed}
+use Rattle.hp_model.specs.pool.PoolCounts.{used as in_use}
 use Rattle.hp_model.proofs.RowMoves.{puts_are}
 use Rattle.hp_mount_door.specs.Door.{IsReady, by_node}
 use Rattle.hp_own_pool.proofs.Returning.{all_given, both_given, settled_ready, share_given}

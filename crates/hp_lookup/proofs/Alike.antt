@@ -1,14 +1,11 @@
 use Rattle.std.proofs.lemmas.Grind.{common_steps}
 -- A file for another in which each number stands at as many places.
-use Rattle.std.proofs.Common.{◌≡◌, ℕ, ◌<◌, List, length, arith}
-use Rattle.std.specs.Prelude.{slice_set}
-use Rattle.std.specs.List.{sum_by}
+use Rattle.std.proofs.Common.{◌≡◌, ℕ, ◌<◌, List, length, arith, slice_set, sum_by}
 use Rattle.std.proofs.lemmas.Bool.Decides.{eqb_tells}
 use Rattle.std.proofs.lemmas.List.{get_or-set_same, get_or-set_other, length-set}
 use Rattle.std.proofs.lemmas.List.Sums.{sum_by-set}
 use Rattle.hp_store.specs.Store.{Store}
-use Rattle.hp_lookup.specs.Held.{IsHeld, in_cell, in_cells, in_file, in_files}
-use Rattle.hp_lookup.specs.Numbered.{NumberedFile, numbered_at}
+use Rattle.hp_lookup.proofs.Words.{IsHeld, NumberedFile, in_cell, in_cells, in_file, in_files, numbered_at}
 use Rattle.hp_lookup.proofs.Cells.{no_file}
 
 module _ (s : Store) (more : ℕ) (fs : List NumberedFile) (h : IsHeld s more fs) (k : ℕ) (l : k < length fs) (g : NumberedFile)

@@ -1,22 +1,15 @@
 use Rattle.std.proofs.lemmas.Grind.{common_steps}
 -- A page of a file, as it is put in and written.
-use Rattle.std.proofs.Common.{◌≡◌, ◌≢◌, ℕ, ◌+◌, ◌<◌, ◌≤◌, ◌==◌, ⊎_elim, ◌⊎◌, true, false, Option, None, Some, List, [], length, map, refl, sym, ap, ◌∙◌, arith}
-use Rattle.std.specs.Prelude.{slice_set}
-use Rattle.std.specs.Option.{option_map}
+use Rattle.std.proofs.Common.{◌≡◌, ◌≢◌, ℕ, ◌+◌, ◌<◌, ◌≤◌, ◌==◌, ⊎_elim, ◌⊎◌, true, false, Option, None, Some, List, [], length, map, refl, sym, ap, ◌∙◌, arith, slice_set, option_map}
 use Rattle.std.proofs.Math.ListN as listn
 use Rattle.std.proofs.lemmas.Bool.Decides.{eqb_tells}
 use Rattle.std.proofs.lemmas.List.Sums.{sum_by-set}
 use Rattle.std.proofs.lemmas.List.{get_or-set_same, get_or-set_other, map-set, get_or-map, length-set}
-use Rattle.hp_model.specs.declared.cell.Cell.{Cell}
-use Rattle.hp_model.specs.declared.cell.Cell.TheVariants.{Hole, Entered, Present}
-use Rattle.hp_model.specs.files.File.{with_cell, cell_at, cell_in, new_file}
-use Rattle.hp_model.specs.files.Page.{Page}
-use Rattle.hp_model.specs.files.Spot.{cell_written}
+use Rattle.hp_laws.proofs.Variants.{Cell, Entered, Hole, Present}
+use Rattle.hp_model.proofs.Words.{Page, cell_at, cell_in, cell_written, new_file, with_cell}
 use Rattle.hp_store.specs.Store.{Store, Holding, page_at, holders_of, first_held, written_in, inserted}
 use Rattle.hp_store.specs.Store as store
-use Rattle.hp_lookup.specs.Files.{file_at}
-use Rattle.hp_lookup.specs.Numbered.{NumberedFile, numbered_at, page_in, cell_shown, map_shown, file_shown, files_shown}
-use Rattle.hp_lookup.specs.Held.{IsHeld, in_cell, in_map, in_file, in_files, in_cells, more_in}
+use Rattle.hp_lookup.proofs.Words.{IsHeld, NumberedFile, cell_shown, file_at, file_shown, files_shown, in_cell, in_cells, in_file, in_files, in_map, map_shown, more_in, numbered_at, page_in}
 use Rattle.hp_lookup.proofs.Lifting.{map_same, map_but, at_most, Agree, is_it, is_other, cell_same, map_shows_same, file_same, files_same}
 
 -- ---- one file of a list

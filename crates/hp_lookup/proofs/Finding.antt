@@ -1,21 +1,14 @@
 use Rattle.std.proofs.lemmas.Grind.{common_steps}
 -- A map is found by the numbers of its task and its own.
-use Rattle.std.proofs.Common.{◌≡◌, ℕ, ◌+◌, ◌<◌, ◌≤◌, Bool, true, false, not, cond, ltb, List, [], ◌∷◌, length, map, Some, None, refl, sym, ap, ◌∙◌, arith}
-use Rattle.std.specs.Prelude.{unwrap_or, ◌||◌}
-use Rattle.std.specs.List.{list_any, position_or_len, slice_index_or}
-use Rattle.std.specs.Option.{option_map}
+use Rattle.std.proofs.Common.{◌≡◌, ℕ, ◌+◌, ◌<◌, ◌≤◌, Bool, true, false, not, cond, ltb, List, [], ◌∷◌, length, map, Some, None, refl, sym, ap, ◌∙◌, arith, unwrap_or, ◌||◌, slice_index_or, option_map}
+use Rattle.std.specs.List.{list_any, position_or_len}
 use Rattle.std.proofs.lemmas.Bool.Decides.{nat_tests}
 use Rattle.std.proofs.lemmas.List.{get_or-map, length-map}
 use Rattle.std.proofs.lemmas.List.Sums.{prefix_len-le-length, passes_at_first, fails_before_first}
-use Rattle.hp_model.specs.files.File.{File, new_file}
-use Rattle.hp_model.specs.Lists.{found}
-use Rattle.hp_model.specs.files.Mapping.{is_map}
-use Rattle.hp_model.specs.files.Spot.{spot_in}
+use Rattle.hp_model.proofs.Words.{File, found, is_map, new_file, spot_in}
 use Rattle.hp_model.proofs.Finding as finding
 use Rattle.hp_store.specs.Store.{Store}
-use Rattle.hp_lookup.specs.Files.{file_at}
-use Rattle.hp_lookup.specs.Numbered.{NumberedFile, map_shown, file_shown, files_shown}
-use Rattle.hp_lookup.specs.Places.{has_it, IsFound, IsMissing}
+use Rattle.hp_lookup.proofs.Words.{IsFound, IsMissing, NumberedFile, file_at, file_shown, files_shown, has_it, map_shown}
 
 -- ---- searches through what an element shows
 

@@ -1,23 +1,17 @@
 -- How many maps there are after a fork, and of how many tasks.
-use Rattle.std.proofs.Common.{◌≡◌, ℕ, ◌+◌, ◌==◌, ◌||◌, ◌&&◌, nat_lt, Bool, true, false, not, cond, List, [], ◌∷◌, ◌++◌, length, map, refl, sym, ap, ◌∙◌, arith}
-use Rattle.std.specs.Prelude.{is_some}
-use Rattle.std.specs.List.{count_by, filter, list_any, sum_by}
+use Rattle.std.proofs.Common.{◌≡◌, ℕ, ◌+◌, ◌==◌, ◌||◌, ◌&&◌, nat_lt, Bool, true, false, not, cond, List, [], ◌∷◌, ◌++◌, length, map, refl, sym, ap, ◌∙◌, arith, is_some, count_by, filter, sum_by}
+use Rattle.std.specs.List.{list_any}
 use Rattle.std.proofs.lemmas.Bool.{eqb-true}
 use Rattle.std.proofs.lemmas.Bool.Decides.{nat_tests}
 use Rattle.std.proofs.lemmas.List.{length-append}
 use Rattle.std.proofs.lemmas.List.Folds.{list_any-append}
 use Rattle.std.proofs.lemmas.List.Sums.{sum_by-append, sum_by-cons}
 use Rattle.hp_laws.proofs.counts.CopiesHeld.{one_more_member}
-use Rattle.hp_model.specs.files.File.{File}
-use Rattle.hp_model.specs.files.Fork.{file_forked}
-use Rattle.hp_model.specs.files.GiveBack.{is_kept}
-use Rattle.hp_model.specs.files.Mapping.{Map, is_of, map_for}
-use Rattle.hp_model.specs.Lists.{distinct, is_among}
+use Rattle.hp_model.proofs.Words.{File, Map, distinct, file_forked, is_among, is_kept, is_of, map_for}
 use Rattle.hp_model.proofs.Counting.{count_cons, count_map}
 use Rattle.hp_model.proofs.Distinct.{same_members}
 use Rattle.hp_store.specs.Store.{Store}
-use Rattle.hp_lookup.specs.Numbered.{NumberedFile, files_shown, map_shown}
-use Rattle.hp_lookup.specs.Places.{all_maps, all_tasks}
+use Rattle.hp_lookup.proofs.Words.{NumberedFile, all_maps, all_tasks, files_shown, map_shown}
 
 module _ (parent child : ℕ) (apart : (parent == child) ≡ false) where
   abbrev kids : List Map → List Map

@@ -1,32 +1,19 @@
 use Rattle.std.proofs.lemmas.Grind.{common_steps}
 -- A file that gives back: pages that it lost go, and the other files keep theirs.
-use Rattle.std.proofs.Common.{◌≡◌, ℕ, zero, suc, ◌+◌, ◌-◌, ◌<◌, ◌≤◌, ◌||◌, nat_lt, true, false, cond, None}
-use Rattle.std.proofs.Common.{Some, List, [], ◌∷◌, length, drop, map, replicate, refl, sym, ap, subst, ◌∙◌, arith}
-use Rattle.std.specs.Prelude.{is_some, slice_set, slice_index_or}
-use Rattle.std.specs.List.{All, count_by, filter, sum_by}
+use Rattle.std.proofs.Common.{◌≡◌, ℕ, zero, suc, ◌+◌, ◌-◌, ◌<◌, ◌≤◌, ◌||◌, nat_lt, true, false, cond, None, Some, List, [], ◌∷◌, length, drop, map, replicate, refl, sym, ap, subst, ◌∙◌, arith}
+use Rattle.std.proofs.Common.{is_some, slice_set, slice_index_or, All, count_by, filter, sum_by}
 use Rattle.std.proofs.lemmas.Bool.Decides.{eqb_tells}
 use Rattle.std.proofs.lemmas.List.{get_or-set_same, get_or-set_other, length-map, length-set, map-append, map-set}
 use Rattle.std.proofs.lemmas.List.Sums.{sum_by-append, sum_by-cons, sum_by-set, sum_by-take-drop}
-use Rattle.hp_model.specs.declared.cell.Cell.{Cell}
-use Rattle.hp_model.specs.declared.cell.Cell.TheVariants.{Hole, Entered, Present}
-use Rattle.hp_model.specs.declared.place.Place.{Place}
-use Rattle.hp_model.specs.declared.place.Place.TheVariants.{Gone, Live}
-use Rattle.hp_model.specs.files.File.{File, cell_punched, cells_to, new_file}
-use Rattle.hp_model.specs.files.GiveBack.{is_kept, punched, truncated}
-use Rattle.hp_model.specs.files.Mapping.{Map, Mapping, is_unconsumed, map_punched, without_copy}
-use Rattle.hp_model.specs.files.MountCounts.{file_reserves, is_waiting, owner_reserves}
-use Rattle.hp_model.specs.files.Page.{Copy, Page}
+use Rattle.hp_laws.proofs.Variants.{Cell, Entered, Gone, Hole, Live, Place, Present}
+use Rattle.hp_model.proofs.Words.{Copy, File, Map, Mapping, Page, cell_punched, cells_to, file_reserves, is_kept, is_unconsumed, is_waiting, map_punched, new_file, owner_reserves, punched, truncated}
+use Rattle.hp_model.proofs.Words.{without_copy}
 use Rattle.hp_model.proofs.Counting.{count_alike, count_map}
 use Rattle.hp_model.proofs.Editing.{sum_by-edit_range}
 use Rattle.hp_laws.proofs.lists.Places.{sum_by-map_le}
 use Rattle.hp_store.specs.Store.{Store, holders_of, page_at}
-use Rattle.hp_lookup.specs.Dropping.{IsDropping, IsLeft}
-use Rattle.hp_lookup.specs.Files.{edited_at, file_at}
-use Rattle.hp_lookup.specs.Held.{IsHeld, in_cell, in_cells, in_file, in_files, more_in}
-use Rattle.hp_lookup.specs.Hints.{AreNoted, IsFiles, Noted}
-use Rattle.hp_lookup.specs.Keyed.{IsKeyed, Label, is_listed, key_of, label_of, labels_of}
-use Rattle.hp_lookup.specs.Level.{AreLevel}
-use Rattle.hp_lookup.specs.Numbered.{NumberedFile, cell_shown, file_shown, files_shown, map_shown, numbered_at, place_shown, with_punched, with_truncated}
+use Rattle.hp_lookup.proofs.Words.{AreLevel, AreNoted, IsDropping, IsFiles, IsHeld, IsKeyed, IsLeft, Label, Noted, NumberedFile, cell_shown, edited_at, file_at, file_shown, files_shown, in_cell}
+use Rattle.hp_lookup.proofs.Words.{in_cells, in_file, in_files, is_listed, key_of, label_of, labels_of, map_shown, more_in, numbered_at, place_shown, with_punched, with_truncated}
 use Rattle.hp_lookup.proofs.Cells.{file_is, no_file}
 use Rattle.hp_lookup.proofs.Keys.{labels_stay}
 use Rattle.hp_lookup.proofs.Level.{level_set, punched_level, same_level}

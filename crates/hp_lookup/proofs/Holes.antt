@@ -1,23 +1,12 @@
 use Rattle.std.proofs.lemmas.Grind.{common_steps}
 -- How many indices of a range have no entry. Past the end none has.
-use Rattle.std.proofs.Common.{◌≡◌, ℕ, zero, suc, ◌+◌, ◌-◌, ◌<◌, ◌≤◌, cond, Option, List, [], ◌∷◌, ◌++◌, length, map, max, min, take, drop, replicate, refl, sym, ap, ◌∙◌, arith}
-use Rattle.std.specs.List.{count_by}
+use Rattle.std.proofs.Common.{◌≡◌, ℕ, zero, suc, ◌+◌, ◌-◌, ◌<◌, ◌≤◌, cond, Option, List, [], ◌∷◌, ◌++◌, length, map, max, min, take, drop, replicate, refl, sym, ap, ◌∙◌, arith, count_by}
 use Rattle.std.proofs.lemmas.List.{drop-replicate, take-replicate, length-append, length-drop, length-map, length-replicate, length-take, take_min}
-use Rattle.hp_model.specs.declared.cell.Cell.{Cell}
-use Rattle.hp_model.specs.declared.cell.Cell.TheVariants.{Hole, Entered, Present}
-use Rattle.hp_model.specs.declared.step.Reserving.{Reserving}
-use Rattle.hp_model.specs.declared.step.Reserving.TheVariants.{Reserve, NoReserve}
-use Rattle.hp_model.specs.declared.step.Sharing.{Sharing}
-use Rattle.hp_model.specs.declared.step.Sharing.TheVariants.{Private, Shared}
-use Rattle.hp_model.specs.files.File.{new_file, at_least, is_entered, is_hole}
-use Rattle.hp_model.specs.Lists.{part}
-use Rattle.hp_model.specs.files.MakeMap.{asked}
-use Rattle.hp_model.specs.files.Page.{Page}
+use Rattle.hp_laws.proofs.Variants.{Cell, Entered, Hole, NoReserve, Present, Private, Reserve, Reserving, Shared, Sharing}
+use Rattle.hp_model.proofs.Words.{Page, asked, at_least, is_entered, is_hole, new_file, part}
 use Rattle.hp_model.proofs.Counting.{count_cons}
 use Rattle.hp_store.specs.Store.{Store}
-use Rattle.hp_lookup.specs.Asking.{entered_from}
-use Rattle.hp_lookup.specs.Files.{file_at}
-use Rattle.hp_lookup.specs.Numbered.{NumberedFile, cell_shown, files_shown, numbered_at}
+use Rattle.hp_lookup.proofs.Words.{NumberedFile, cell_shown, entered_from, file_at, files_shown, numbered_at}
 use Rattle.hp_lookup.proofs.Cells.{file_is}
 
 none_taken : (P : Type 0) (n k : ℕ) → count_by is_entered (take n (replicate {A = Cell P} k Hole)) ≡ 0

@@ -1,15 +1,11 @@
 use Rattle.std.proofs.lemmas.Grind.{common_steps}
 -- What files and maps are called, through each change.
-use Rattle.std.proofs.Common.{◌≡◌, ℕ, zero, suc, ◌<◌, List, [], ◌∷◌, length, map, refl, sym, ap, subst, ◌∙◌, arith}
-use Rattle.std.specs.Prelude.{slice_set, slice_index_or}
+use Rattle.std.proofs.Common.{◌≡◌, ℕ, zero, suc, ◌<◌, List, [], ◌∷◌, length, map, refl, sym, ap, subst, ◌∙◌, arith, slice_set, slice_index_or}
 use Rattle.std.proofs.lemmas.List.{length-map, map-set, set-get_or}
-use Rattle.hp_model.specs.files.Mapping.{Mapping}
+use Rattle.hp_model.proofs.Words.{Mapping}
 use Rattle.hp_store.specs.Store.{Store}
-use Rattle.hp_lookup.specs.Held.{IsHeld}
-use Rattle.hp_lookup.specs.Hints.{AreNoted, AreSame, IsFiles, IsMoreByMap, Noted}
-use Rattle.hp_lookup.specs.Keyed.{IsKeyed, Label, key_of, label_of, labels_of}
-use Rattle.hp_lookup.specs.Level.{AreLevel}
-use Rattle.hp_lookup.specs.Numbered.{NumberedFile, file_shown, files_shown, mapping_at, no_mapping}
+use Rattle.hp_lookup.proofs.Words.{AreLevel, AreNoted, AreSame, IsFiles, IsHeld, IsKeyed, IsMoreByMap, Label, Noted, NumberedFile, file_shown, files_shown, key_of, label_of, labels_of, mapping_at}
+use Rattle.hp_lookup.proofs.Words.{no_mapping}
 use Rattle.hp_lookup.proofs.Level.{level_set}
 
 pub set_read : {Y : Type 0} (xs : List Y) (j : ℕ) (d : Y) → slice_set xs j (slice_index_or xs j d) ≡ xs

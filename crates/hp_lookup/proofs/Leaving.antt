@@ -1,26 +1,17 @@
 use Rattle.std.proofs.lemmas.Grind.{common_steps}
 -- Files that lose maps, and those that go with their last one.
-use Rattle.std.proofs.Common.{◌≡◌, ℕ, zero, suc, ◌+◌, ◌<◌, ◌≤◌, ◌||◌, nat_lt, Bool, true, false, cond, List, [], ◌∷◌, length, map, refl, sym, ap, subst, ◌∙◌, arith}
-use Rattle.std.specs.Prelude.{is_some, slice_index_or, Option, None, Some}
-use Rattle.std.specs.List.{All, count_by, filter, sum_by}
+use Rattle.std.proofs.Common.{◌≡◌, ℕ, zero, suc, ◌+◌, ◌<◌, ◌≤◌, ◌||◌, nat_lt, Bool, true, false, cond, List, [], ◌∷◌, length, map, refl, sym, ap, subst, ◌∙◌, arith, is_some, slice_index_or, Option}
+use Rattle.std.proofs.Common.{None, Some, All, count_by, filter, sum_by}
 use Rattle.std.proofs.lemmas.List.{length-map}
 use Rattle.std.proofs.lemmas.List.Elements.{All-cons, All-filter, filter_passes}
 use Rattle.std.proofs.lemmas.List.Sums.{sum_by-cons}
-use Rattle.hp_model.specs.declared.place.Place.{Place}
-use Rattle.hp_model.specs.declared.place.Place.TheVariants.{Gone, Live}
-use Rattle.hp_model.specs.files.File.{File}
-use Rattle.hp_model.specs.files.GiveBack.{is_kept}
-use Rattle.hp_model.specs.files.Mapping.{Mapping, is_unconsumed}
-use Rattle.hp_model.specs.files.MountCounts.{file_reserves, owner_reserves}
+use Rattle.hp_laws.proofs.Variants.{Gone, Live, Place}
+use Rattle.hp_model.proofs.Words.{File, Mapping, file_reserves, is_kept, is_unconsumed, owner_reserves}
 use Rattle.hp_model.proofs.Counting.{count_alike, count_map}
 use Rattle.hp_store.specs.Store.{Store, holders_of, page_at}
-use Rattle.hp_lookup.specs.Dropping.{IsDropping, IsLeft}
-use Rattle.hp_lookup.specs.Held.{IsHeld, in_cell, in_cells, in_file, in_files, in_map, more_in}
-use Rattle.hp_lookup.specs.Hints.{AreNoted, IsFiles, IsMore, Noted, has_key, is_noted_as as has_noted}
-use Rattle.hp_lookup.specs.Keyed.{Label, has_label, is_listed, is_name_of, key_of, keys_in, label_of, labels_of, maps_for}
-use Rattle.hp_lookup.specs.Leaving.{file_owed, is_used, owed}
-use Rattle.hp_lookup.specs.Level.{AreLevel}
-use Rattle.hp_lookup.specs.Numbered.{NumberedFile, file_shown, files_shown, map_shown, numbered_at, place_shown}
+use Rattle.hp_lookup.proofs.Words.{AreLevel, AreNoted, IsDropping, IsFiles, IsHeld, IsLeft, IsMore, Label, Noted, NumberedFile, file_owed, file_shown, files_shown, has_key, has_label, in_cell}
+use Rattle.hp_lookup.proofs.Words.{in_cells, in_file, in_files, in_map, is_listed, is_name_of, is_noted_as as has_noted, is_used, key_of, keys_in, label_of, labels_of, map_shown, maps_for, more_in}
+use Rattle.hp_lookup.proofs.Words.{numbered_at, owed, place_shown}
 use Rattle.hp_lookup.proofs.Cells.{no_file}
 use Rattle.hp_lookup.proofs.GivingBack.{in_all, kept_label, waits_shown}
 use Rattle.hp_lookup.proofs.Lifting.{at_most}

@@ -1,20 +1,14 @@
 -- Maps that hold one number hold it at one index, through each change.
-use Rattle.std.proofs.Common.{◌≡◌, ◌≢◌, ℕ, zero, suc, ◌-◌, ◌<◌, ◌==◌, ⊎_elim, ◌⊎◌, inl, Bool, true, false, cond, nat_lt}
-use Rattle.std.proofs.Common.{Option, Some, None, List, [], ◌∷◌, ◌++◌, length, map, replicate, refl, sym, ap, subst, ◌∙◌}
-use Rattle.std.specs.Prelude.{slice_index_or, slice_set}
-use Rattle.std.specs.List.{All, filter}
+use Rattle.std.proofs.Common.{◌≡◌, ◌≢◌, ℕ, zero, suc, ◌-◌, ◌<◌, ◌==◌, ⊎_elim, ◌⊎◌, inl, Bool, true, false, cond, nat_lt, Option, Some, None, List, [], ◌∷◌, ◌++◌, length, map, replicate, refl, sym, ap}
+use Rattle.std.proofs.Common.{subst, ◌∙◌, slice_index_or, slice_set, All, filter}
 use Rattle.std.proofs.lemmas.Bool.{cond_both}
 use Rattle.std.proofs.lemmas.Bool.Decides.{eqb_tells}
 use Rattle.std.proofs.lemmas.List.{get_or-set_same, get_or-set_other}
 use Rattle.std.proofs.lemmas.List.Elements.{All-get_or, All-set}
-use Rattle.hp_model.specs.declared.place.Place.{Place}
-use Rattle.hp_model.specs.declared.place.Place.TheVariants.{Gone, Live}
-use Rattle.hp_model.specs.Lists.{edit_range}
-use Rattle.hp_model.specs.files.Mapping.{Mapping, copy_of, map_punched, place_at, without_copy, without_range}
-use Rattle.hp_model.specs.machine.Promises.{is_in}
+use Rattle.hp_laws.proofs.Variants.{Gone, Live, Place}
+use Rattle.hp_model.proofs.Words.{Mapping, copy_of, edit_range, is_in, map_punched, place_at, without_copy, without_range}
 use Rattle.hp_laws.proofs.ending.Cuts.{ranged}
-use Rattle.hp_lookup.specs.Level.{AreLevel, copy_in}
-use Rattle.hp_lookup.specs.Numbered.{NumberedFile, no_mapping}
+use Rattle.hp_lookup.proofs.Words.{AreLevel, NumberedFile, copy_in, no_mapping}
 
 -- each copy stood there before, in some map
 pub fewer_level : (old new : List (Mapping ℕ)) → ((a i number : ℕ) → copy_in new a i ≡ Some number → (b : ℕ) × (copy_in old b i ≡ Some number)) → AreLevel old → AreLevel new

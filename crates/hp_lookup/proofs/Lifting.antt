@@ -1,19 +1,13 @@
 use Rattle.std.proofs.lemmas.Grind.{common_steps}
 -- What a change of the store under one number shows.
-use Rattle.std.proofs.Common.{◌≡◌, ◌≢◌, ℕ, zero, suc, ◌<◌, ◌≤◌, ◌==◌, ⊎_elim, Bool, cond, None, Some, List, [], ◌∷◌, length, map, refl, sym, ap, ◌∙◌, arith}
-use Rattle.std.specs.Prelude.{slice_set, slice_index_or}
-use Rattle.std.specs.List.{sum_by}
+use Rattle.std.proofs.Common.{◌≡◌, ◌≢◌, ℕ, zero, suc, ◌<◌, ◌≤◌, ◌==◌, ⊎_elim, Bool, cond, None, Some, List, [], ◌∷◌, length, map, refl, sym, ap, ◌∙◌, arith, slice_set, slice_index_or, sum_by}
 use Rattle.std.proofs.lemmas.Bool.{eq-eqb}
 use Rattle.std.proofs.lemmas.Bool.Decides.{eqb_tells}
 use Rattle.std.proofs.lemmas.List.Sums.{sum_by-cons}
-use Rattle.hp_model.specs.declared.cell.Cell.{Cell}
-use Rattle.hp_model.specs.declared.cell.Cell.TheVariants.{Hole, Entered, Present}
-use Rattle.hp_model.specs.declared.place.Place.{Place}
-use Rattle.hp_model.specs.declared.place.Place.TheVariants.{Gone, Live}
-use Rattle.hp_model.specs.files.Mapping.{Mapping}
+use Rattle.hp_laws.proofs.Variants.{Cell, Entered, Gone, Hole, Live, Place, Present}
+use Rattle.hp_model.proofs.Words.{Mapping}
 use Rattle.hp_store.specs.Store.{Store, page_at}
-use Rattle.hp_lookup.specs.Numbered.{NumberedFile, page_in, cell_shown, place_shown, map_shown, file_shown, files_shown}
-use Rattle.hp_lookup.specs.Held.{in_cell, in_place, in_map, in_file, in_files}
+use Rattle.hp_lookup.proofs.Words.{NumberedFile, cell_shown, file_shown, files_shown, in_cell, in_file, in_files, in_map, in_place, map_shown, page_in, place_shown}
 
 -- ---- lists
 

@@ -1,21 +1,18 @@
 -- The numbers of a task's maps, and the next one.
-use Rattle.std.proofs.Common.{◌≡◌, ℕ, zero, suc, ◌+◌, ◌<◌, ◌≤◌, ◌==◌, ◌||◌, ⊎_elim, Bool, true, false, not, cond, List, [], ◌∷◌, ◌++◌, length, map, refl, sym, ap, subst, ◌∙◌, arith}
-use Rattle.std.specs.List.{count_by, filter, flat_map, position_or_len, range_with_len}
+use Rattle.std.proofs.Common.{◌≡◌, ℕ, zero, suc, ◌+◌, ◌<◌, ◌≤◌, ◌==◌, ◌||◌, ⊎_elim, Bool, true, false, not, cond, List, [], ◌∷◌, ◌++◌, length, map, refl, sym, ap, subst, ◌∙◌, arith, count_by, filter}
+use Rattle.std.proofs.Common.{flat_map}
+use Rattle.std.specs.List.{position_or_len, range_with_len}
 use Rattle.std.proofs.lemmas.Bool.{cases_lt}
 use Rattle.std.proofs.lemmas.Bool.Decides.{nat_tests}
 use Rattle.std.proofs.lemmas.List.{map-append}
 use Rattle.std.proofs.lemmas.List.Elements.{filter-append}
 use Rattle.std.proofs.lemmas.List.FromFn.{get_or-range_with_len, length-range_with_len}
 use Rattle.std.proofs.lemmas.List.Sums.{fails_before_first, passes_at_first}
-use Rattle.hp_model.specs.Lists.{distinct, is_among, least_unused}
-use Rattle.hp_model.specs.files.MakeMap.{numbers_of}
-use Rattle.hp_model.specs.files.Mapping.{Map, Mapping, is_of}
+use Rattle.hp_model.proofs.Words.{Map, Mapping, distinct, is_among, is_of, least_unused, numbers_of}
 use Rattle.hp_model.proofs.Counting.{count_cons, count_not, count_outside}
 use Rattle.hp_model.proofs.Finding as finding
 use Rattle.hp_store.specs.Store.{Store}
-use Rattle.hp_lookup.specs.Keyed.{numbers_in}
-use Rattle.hp_lookup.specs.Numbered.{NumberedFile, files_shown, map_shown}
-use Rattle.hp_lookup.specs.Places.{all_maps}
+use Rattle.hp_lookup.proofs.Words.{NumberedFile, all_maps, files_shown, map_shown, numbers_in}
 use Rattle.hp_lookup.proofs.Unique.{none_found}
 
 -- ---- the numbers of a task's maps

@@ -1,33 +1,18 @@
 use Rattle.std.proofs.lemmas.Grind.{common_steps}
 -- A map more. The indices of a shared one that reserves are entered.
-use Rattle.std.proofs.Common.{◌≡◌, ◌==◌, ℕ, zero, suc, ◌+◌, ◌-◌, ◌<◌, Bool, true, false, cond, ◌||◌, List, [], ◌∷◌, ◌++◌, length, map, take, drop, replicate, refl, sym, ap, subst, ◌∙◌, arith}
-use Rattle.std.specs.Prelude.{is_some, nat_lt, slice_index_or, slice_set, None}
-use Rattle.std.specs.List.{All, sum_by}
+use Rattle.std.proofs.Common.{◌≡◌, ◌==◌, ℕ, zero, suc, ◌+◌, ◌-◌, ◌<◌, Bool, true, false, cond, ◌||◌, List, [], ◌∷◌, ◌++◌, length, map, take, drop, replicate, refl, sym, ap, subst, ◌∙◌, arith, is_some}
+use Rattle.std.proofs.Common.{nat_lt, slice_index_or, slice_set, None, All, sum_by}
 use Rattle.std.proofs.lemmas.Bool.Decides.{nat_tests}
 use Rattle.std.proofs.lemmas.List.{append-nil, length-append, length-map, length-replicate, map-append, map-set, take-append-drop}
 use Rattle.std.proofs.lemmas.List.Elements.{All-set}
 use Rattle.std.proofs.lemmas.List.Sums.{sum_by-append, sum_by-cons, sum_by-set, sum_by_push}
-use Rattle.hp_model.specs.declared.cell.Cell.{Cell}
-use Rattle.hp_model.specs.declared.cell.Cell.TheVariants.{Hole, Entered, Present}
-use Rattle.hp_model.specs.declared.place.Place.TheVariants.{Live}
-use Rattle.hp_model.specs.declared.step.Reserving.{Reserving}
-use Rattle.hp_model.specs.declared.step.Reserving.TheVariants.{Reserve, NoReserve}
-use Rattle.hp_model.specs.declared.step.Sharing.{Sharing}
-use Rattle.hp_model.specs.declared.step.Sharing.TheVariants.{Private, Shared}
-use Rattle.hp_model.specs.files.File.{at_least, entered}
-use Rattle.hp_model.specs.Lists.{edit_range, is_among}
-use Rattle.hp_model.specs.files.MakeMap.{cells_mapped, mapped, new_map, numbers_of}
-use Rattle.hp_model.specs.files.Page.{Page}
-use Rattle.hp_model.specs.files.Mapping.{Mapping}
+use Rattle.hp_laws.proofs.Variants.{Cell, Entered, Hole, Live, NoReserve, Present, Private, Reserve, Reserving, Shared, Sharing}
+use Rattle.hp_model.proofs.Words.{Mapping, Page, at_least, cells_mapped, edit_range, entered, is_among, mapped, new_map, numbers_of}
 use Rattle.hp_store.specs.Store.{Store}
-use Rattle.hp_lookup.specs.Asking.{entered_from}
-use Rattle.hp_lookup.specs.Files.{file_at, with_file_at}
-use Rattle.hp_lookup.specs.Held.{IsHeld, in_cell, in_file, in_map, in_place}
-use Rattle.hp_lookup.specs.Hints.{AreNoted, IsFiles, IsMoreByMap, Noted, has_key}
-use Rattle.hp_lookup.specs.Keyed.{IsKeyed, Label, has_label, is_key, is_listed, key_of, keys_in, label_of, labels_of, maps_for}
+use Rattle.hp_lookup.proofs.Words.{AreNoted, IsFiles, IsHeld, IsKeyed, IsMoreByMap, Label, Noted, NumberedFile, all_maps, cell_shown, entered_from, file_at, file_shown, files_shown, has_key}
+use Rattle.hp_lookup.proofs.Words.{has_label, in_cell, in_file, in_map, in_place, is_key, is_listed, key_of, keys_in, label_of, labels_of, map_shown, maps_for, new_mapping, numbered_at, place_shown}
+use Rattle.hp_lookup.proofs.Words.{with_file_at, with_mapping}
 use Rattle.hp_lookup.proofs.Level.{level_set, more_level, same_level}
-use Rattle.hp_lookup.specs.Numbered.{NumberedFile, cell_shown, file_shown, files_shown, map_shown, new_mapping, numbered_at, place_shown, with_mapping}
-use Rattle.hp_lookup.specs.Places.{all_maps}
 use Rattle.hp_lookup.proofs.Alike.{alike_held}
 use Rattle.hp_lookup.proofs.Cells.{file_is, no_file}
 use Rattle.hp_lookup.proofs.NewKey.{keys_few, no_pair, other_key}

@@ -1,20 +1,14 @@
 -- A task and number that no map has.
-use Rattle.std.proofs.Common.{◌≡◌, ℕ, ◌+◌, ◌<◌, ◌≤◌, Bool, true, false, cond, ◌&&◌, ◌||◌, ◌==◌, List, [], ◌∷◌, length, map, refl, sym, ap, subst, ◌∙◌, arith}
+use Rattle.std.proofs.Common.{◌≡◌, ℕ, ◌+◌, ◌<◌, ◌≤◌, Bool, true, false, cond, ◌&&◌, ◌||◌, ◌==◌, List, [], ◌∷◌, length, map, refl, sym, ap, subst, ◌∙◌, arith, count_by, filter, flat_map, sum_by}
 use mir.Val.{bool_byte}
-use Rattle.std.specs.List.{count_by, filter, flat_map, sum_by}
 use Rattle.std.proofs.lemmas.Bool.{and_parts, eqb-true}
 use Rattle.std.proofs.lemmas.Bool.Decides.{nat_tests}
 use Rattle.std.proofs.lemmas.List.Sums.{sum_by-cons}
-use Rattle.hp_model.specs.Lists.{is_among}
-use Rattle.hp_model.specs.files.MakeMap.{numbers_of}
-use Rattle.hp_model.specs.files.Mapping.{Mapping, is_of}
+use Rattle.hp_model.proofs.Words.{Mapping, is_among, is_of, numbers_of}
 use Rattle.hp_model.proofs.Counting.{count_cons}
 use Rattle.hp_model.proofs.Distinct.{is_among-append}
 use Rattle.hp_store.specs.Store.{Store}
-use Rattle.hp_lookup.specs.Hints.{IsFiles, Noted, has_key, is_pair}
-use Rattle.hp_lookup.specs.Keyed.{is_key, key_of, keys_in, label_of, labels_of, numbers_in}
-use Rattle.hp_lookup.specs.Numbered.{NumberedFile, files_shown}
-use Rattle.hp_lookup.specs.Places.{all_maps}
+use Rattle.hp_lookup.proofs.Words.{IsFiles, Noted, NumberedFile, all_maps, files_shown, has_key, is_key, is_pair, key_of, keys_in, label_of, labels_of, numbers_in}
 use Rattle.hp_lookup.proofs.MapNumbers.{numbers_append, numbers_shown}
 use Rattle.hp_lookup.proofs.Unique.{maps_counted}
 

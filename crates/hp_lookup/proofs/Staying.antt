@@ -1,15 +1,10 @@
 -- What files show where each number that stands in them has the page that it had.
-use Rattle.std.proofs.Common.{◌≡◌, ℕ, ◌<◌, None, Some, List, [], ◌∷◌, map, refl, ap, ◌∙◌, arith}
-use Rattle.std.specs.List.{sum_by}
+use Rattle.std.proofs.Common.{◌≡◌, ℕ, ◌<◌, None, Some, List, [], ◌∷◌, map, refl, ap, ◌∙◌, arith, sum_by}
 use Rattle.std.proofs.lemmas.List.Sums.{sum_by-cons}
-use Rattle.hp_model.specs.declared.cell.Cell.{Cell}
-use Rattle.hp_model.specs.declared.cell.Cell.TheVariants.{Hole, Entered, Present}
-use Rattle.hp_model.specs.declared.place.Place.{Place}
-use Rattle.hp_model.specs.declared.place.Place.TheVariants.{Gone, Live}
-use Rattle.hp_model.specs.files.Mapping.{Mapping}
+use Rattle.hp_laws.proofs.Variants.{Cell, Entered, Gone, Hole, Live, Place, Present}
+use Rattle.hp_model.proofs.Words.{Mapping}
 use Rattle.hp_store.specs.Store.{Store, page_at}
-use Rattle.hp_lookup.specs.Numbered.{NumberedFile, page_in, cell_shown, place_shown, map_shown, file_shown, files_shown}
-use Rattle.hp_lookup.specs.Held.{in_cell, in_place, in_map, in_file, in_files}
+use Rattle.hp_lookup.proofs.Words.{NumberedFile, cell_shown, file_shown, files_shown, in_cell, in_file, in_files, in_map, in_place, map_shown, page_in, place_shown}
 use Rattle.hp_lookup.proofs.Lifting.{is_it}
 
 module _ {X Y : Type 0} (f g : X → Y) (c : ℕ → X → ℕ) (P : ℕ → Type 0) (each : (x : X) → ((n : ℕ) → 0 < c n x → P n) → g x ≡ f x) where

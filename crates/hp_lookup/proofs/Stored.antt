@@ -1,30 +1,21 @@
 use Rattle.std.proofs.lemmas.Grind.{common_steps}
 -- The pages of a store are those that the files show, counted once each.
-use Rattle.std.proofs.Common.{◌≡◌, ◌≢◌, ℕ, zero, suc, ◌+◌, ◌<◌, ◌≤◌, ◌==◌, ◌||◌, ◌&&◌, ⊎_elim, Bool, true, false, cond}
-use Rattle.std.proofs.Common.{nat_lt, Option, Some, None, List, [], ◌∷◌, ◌++◌, length, map, refl, sym, ap, subst, ◌∙◌, arith}
+use Rattle.std.proofs.Common.{◌≡◌, ◌≢◌, ℕ, zero, suc, ◌+◌, ◌<◌, ◌≤◌, ◌==◌, ◌||◌, ◌&&◌, ⊎_elim, Bool, true, false, cond, nat_lt, Option, Some, None, List, [], ◌∷◌, ◌++◌, length, map, refl, sym, ap}
+use Rattle.std.proofs.Common.{subst, ◌∙◌, arith, slice_index_or, count_by, filter, filter_map, flat_map, sum_by}
 use Rattle.std.specs.List.{cons_option}
-use Rattle.std.specs.Prelude.{slice_index_or}
-use Rattle.std.specs.List.{count_by, filter, filter_map, flat_map, range_with_len, sum_by}
+use Rattle.std.specs.List.{range_with_len}
 use Rattle.std.proofs.lemmas.Bool.{cases_lt}
 use Rattle.std.proofs.lemmas.Bool.Decides.{eqb_tells, nat_tests}
 use Rattle.std.proofs.lemmas.List.{get_or_past, map-append}
 use Rattle.std.proofs.lemmas.List.FromFn.{fill_by_all}
 use Rattle.std.proofs.lemmas.List.Sums.{sum_by-cons}
-use Rattle.hp_model.specs.declared.cell.Cell.{Cell}
-use Rattle.hp_model.specs.declared.cell.Cell.TheVariants.{Hole, Entered, Present}
-use Rattle.hp_model.specs.declared.place.Place.{Place}
-use Rattle.hp_model.specs.declared.place.Place.TheVariants.{Gone, Live}
-use Rattle.hp_model.specs.files.File.{has_page}
-use Rattle.hp_model.specs.Lists.{distinct, is_among}
-use Rattle.hp_model.specs.files.Mapping.{Map, Mapping, copy_of}
-use Rattle.hp_model.specs.files.MountCounts.{file_pages, file_pages_at, is_page_at, stamp_at}
-use Rattle.hp_model.specs.files.Page.{Copy}
+use Rattle.hp_laws.proofs.Variants.{Cell, Entered, Gone, Hole, Live, Place, Present}
+use Rattle.hp_model.proofs.Words.{Copy, Map, Mapping, copy_of, distinct, file_pages, file_pages_at, has_page, is_among, is_page_at, stamp_at}
 use Rattle.hp_model.proofs.Counting.{count_cons}
 use Rattle.hp_model.proofs.Distinct.{is_among-append}
 use Rattle.hp_store.specs.Store.{Holding, Store, held_count, holders_of, one_if_held, page_at}
-use Rattle.hp_lookup.specs.Dropping.{at_node}
-use Rattle.hp_lookup.specs.Held.{IsHeld, in_cell, in_file, in_files, in_map, in_place}
-use Rattle.hp_lookup.specs.Numbered.{NumberedFile, cell_shown, copy_shown, file_shown, files_shown, map_shown, numbered_at, page_in, place_shown}
+use Rattle.hp_lookup.proofs.Words.{IsHeld, NumberedFile, at_node, cell_shown, copy_shown, file_shown, files_shown, in_cell, in_file, in_files, in_map, in_place, map_shown, numbered_at, page_in}
+use Rattle.hp_lookup.proofs.Words.{place_shown}
 use Rattle.hp_lookup.proofs.Cells.{no_file}
 use Rattle.hp_lookup.proofs.Lifting.{at_most}
 

@@ -1,28 +1,21 @@
 use Rattle.std.proofs.lemmas.Grind.{common_steps}
 -- How many maps each task has, by what files are called, and how many tasks there are.
-use Rattle.std.proofs.Common.{◌≡◌, ◌≢◌, ℕ, zero, suc, ◌+◌, ◌-◌, ◌<◌, ◌==◌, ◌||◌, nat_eq, nat_lt, Bool, true, false, not}
-use Rattle.std.proofs.Common.{cond, List, [], ◌∷◌, length, map, Option, None, Some, is_some, slice_get, refl, sym, ap, ◌∙◌, arith}
-use Rattle.std.specs.List.{All, AllByRecursion, IsDistinct, count_by, filter, flat_map, sum_by}
+use Rattle.std.proofs.Common.{◌≡◌, ◌≢◌, ℕ, zero, suc, ◌+◌, ◌-◌, ◌<◌, ◌==◌, ◌||◌, nat_eq, nat_lt, Bool, true, false, not, cond, List, [], ◌∷◌, length, map, Option, None, Some, is_some, slice_get, refl}
+use Rattle.std.proofs.Common.{sym, ap, ◌∙◌, arith, All, count_by, filter, flat_map, sum_by, unwrap_or}
+use Rattle.std.specs.List.{AllByRecursion, IsDistinct}
 use Rattle.std.specs.Map.{keys_of, lookup, lookup_key}
-use Rattle.std.specs.Option.{unwrap_or}
 use Rattle.std.proofs.lemmas.Bool.{eqb-true}
 use Rattle.std.proofs.lemmas.Bool.Decides.{Decides-eqb, nat_tests}
 use Rattle.std.proofs.lemmas.List.{length-map}
 use Rattle.std.proofs.lemmas.List.Sums.{count_by-le-length, sum_by-append, sum_by-cons}
 use Rattle.std.proofs.lemmas.Map.Made.{lookup_key_same}
 use Rattle.std.proofs.lemmas.Map.Keys.{IsDistinct-head, IsDistinct-tail}
-use Rattle.hp_model.specs.files.Mapping.{Map, Mapping, is_of}
-use Rattle.hp_model.specs.Lists.{distinct, is_among}
+use Rattle.hp_model.proofs.Words.{Map, Mapping, distinct, is_among, is_of}
 use Rattle.hp_model.proofs.Counting.{count_cons, count_map}
 use Rattle.hp_model.proofs.Distinct.{same_members}
 use Rattle.hp_store.specs.Store.{Store}
-use Rattle.hp_lookup.specs.Asking.{is_first_of}
-use Rattle.hp_lookup.specs.Forking.{maps_by}
-use Rattle.hp_lookup.specs.Hints.{IsFiles, Noted}
-use Rattle.hp_lookup.specs.Keyed.{Label, is_listed, key_of, label_of, labels_of, maps_for, tasks_in}
-use Rattle.hp_lookup.specs.Numbered.{NumberedFile, files_shown, with_truncated}
-use Rattle.hp_lookup.specs.Leaving.{emptied, is_used, left_by}
-use Rattle.hp_lookup.specs.Places.{all_maps, all_tasks}
+use Rattle.hp_lookup.proofs.Words.{IsFiles, Label, Noted, NumberedFile, all_maps, all_tasks, emptied, files_shown, is_first_of, is_listed, is_used, key_of, label_of, labels_of, left_by, maps_by}
+use Rattle.hp_lookup.proofs.Words.{maps_for, tasks_in, with_truncated}
 use Rattle.hp_lookup.proofs.ForkCounts.{task_maps}
 use Rattle.hp_lookup.proofs.Leaving.{used_label}
 use Rattle.hp_lookup.proofs.MapNumbers.{among_distinct}

@@ -1,21 +1,16 @@
 use Rattle.std.proofs.lemmas.Grind.{common_steps}
 -- Where names and maps are found, since no two are called the same; and how many maps and tasks there are.
-use Rattle.std.proofs.Common.{◌≡◌, ℕ, zero, suc, ◌+◌, ◌<◌, ◌≤◌, Bool, true, false, not, cond, ◌||◌, List, [], ◌∷◌, ◌++◌, length, map, Option, Some, None, refl, sym, ap, ◌∙◌, arith}
-use Rattle.std.specs.List.{count_by, flat_map, list_any, position_or_len, slice_index_or, sum_by}
-use Rattle.std.specs.Option.{option_map}
+use Rattle.std.proofs.Common.{◌≡◌, ℕ, zero, suc, ◌+◌, ◌<◌, ◌≤◌, Bool, true, false, not, cond, ◌||◌, List, [], ◌∷◌, ◌++◌, length, map, Option, Some, None, refl, sym, ap, ◌∙◌, arith, count_by, flat_map}
+use Rattle.std.proofs.Common.{slice_index_or, sum_by, option_map}
+use Rattle.std.specs.List.{list_any, position_or_len}
 use Rattle.std.specs.Str.{bytes_eq}
 use Rattle.std.proofs.lemmas.List.{length-append, length-map, map-append}
 use Rattle.std.proofs.lemmas.List.Sums.{sum_by-cons}
-use Rattle.hp_model.specs.files.File.{File, new_file}
-use Rattle.hp_model.specs.Lists.{found, one_on}
-use Rattle.hp_model.specs.files.Mapping.{Map, Mapping, is_map}
-use Rattle.hp_model.specs.machine.SlotEvent.{has_name}
+use Rattle.hp_model.proofs.Words.{File, Map, Mapping, found, has_name, is_map, new_file, one_on}
 use Rattle.hp_model.proofs.Counting.{count_alike, count_cons, count_map}
 use Rattle.hp_store.specs.Store.{Store}
-use Rattle.hp_lookup.specs.Files.{file_at}
-use Rattle.hp_lookup.specs.Keyed.{IsKeyed, Label, has_label, is_key, is_name_of, key_of, keys_in, label_of, labels_of, tasks_in}
-use Rattle.hp_lookup.specs.Numbered.{NumberedFile, file_shown, files_shown, map_shown, mapping_at, no_mapping, numbered_at}
-use Rattle.hp_lookup.specs.Places.{all_maps, has_it, IsFound, IsMissing, IsNamed}
+use Rattle.hp_lookup.proofs.Words.{IsFound, IsKeyed, IsMissing, IsNamed, Label, NumberedFile, all_maps, file_at, file_shown, files_shown, has_it, has_label, is_key, is_name_of, key_of, keys_in}
+use Rattle.hp_lookup.proofs.Words.{label_of, labels_of, map_shown, mapping_at, no_mapping, numbered_at, tasks_in}
 use Rattle.hp_lookup.proofs.Cells.{file_is, no_file}
 use Rattle.hp_lookup.proofs.Finding.{any_shown, found_at, found_none, map_found, position_shown}
 use Rattle.hp_lookup.proofs.Lifting.{at_most}

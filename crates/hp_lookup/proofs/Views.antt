@@ -1,29 +1,16 @@
 use Rattle.std.proofs.lemmas.Grind.{common_steps}
 -- What each call shows, by the parts that it changed.
-use Rattle.std.proofs.Common.{◌≡◌, ℕ, zero, suc, ◌-◌, ◌<◌, Option, None, Some, List, [], ◌∷◌, length, map, refl, sym, ap, ◌∙◌, arith}
-use Rattle.std.specs.Prelude.{slice_set, slice_index_or}
-use Rattle.std.specs.Option.{option_map}
+use Rattle.std.proofs.Common.{◌≡◌, ℕ, zero, suc, ◌-◌, ◌<◌, Option, None, Some, List, [], ◌∷◌, length, map, refl, sym, ap, ◌∙◌, arith, slice_set, slice_index_or, option_map, count_by}
 use Rattle.std.proofs.lemmas.List.{get_or_default, get_or-map, length-map}
-use Rattle.hp_model.specs.declared.cell.Cell.{Cell}
-use Rattle.hp_model.specs.declared.cell.Cell.TheVariants.{Hole, Entered, Present}
-use Rattle.hp_model.specs.files.File.{cell_at, cell_in, has_page, is_entered, new_file, page_of}
-use Rattle.hp_model.specs.files.Page.{Page}
-use Rattle.hp_model.specs.declared.place.Place.{Place}
-use Rattle.hp_model.specs.declared.place.Place.TheVariants.{Gone, Live}
-use Rattle.hp_model.specs.files.Mapping.{Mapping, place_at, copy_of}
-use Rattle.hp_model.specs.files.Page.{Copy, zeros}
-use Rattle.hp_model.specs.files.Value.{value, shown}
-use Rattle.hp_lookup.specs.Places.{map_among}
+use Rattle.hp_laws.proofs.Variants.{Cell, Entered, Gone, Hole, Live, Place, Present}
+use Rattle.hp_model.proofs.Words.{Copy, Mapping, Page, cell_at, cell_in, cell_written, copy_of, has_page, is_entered, new_file, page_of, place_at, shown, value, zeros}
+use Rattle.hp_lookup.proofs.Words.{Files, IsHeld, NumberedFile, cell_shown, copy_shown, file_at, file_shown, files_shown, filled_at, in_files, map_among, map_shown, numbered_at, page_in, place_shown}
+use Rattle.hp_lookup.proofs.Words.{with_cell_at}
 use Rattle.std.proofs.Math.ListN as listn
-use Rattle.hp_model.specs.files.Spot.{cell_written}
 use Rattle.hp_store.specs.Store.{Store, Holding, page_at, holders_of, bytes_of, inserted}
 use Rattle.hp_store.specs.Store as store
-use Rattle.hp_lookup.specs.Files.{Files, file_at, filled_at, with_cell_at}
-use Rattle.hp_lookup.specs.Numbered.{NumberedFile, numbered_at, page_in, cell_shown, copy_shown, place_shown, map_shown, file_shown, files_shown}
-use Rattle.hp_lookup.specs.Held.{IsHeld, in_files}
 use Rattle.hp_lookup.proofs.Keys.{set_read}
 use Rattle.hp_lookup.proofs.Lifting.{at_most, is_it}
-use Rattle.std.specs.List.{count_by}
 use Rattle.hp_model.proofs.Counting.{count_alike, count_map}
 use Rattle.hp_lookup.proofs.Cells.{no_file, file_is, cell_is, with_number, fill_shows, fill_held, inserted_agrees, inserted_is, inserted_more, free_is_fresh, write_shows}
 

@@ -1,17 +1,16 @@
 use Rattle.std.proofs.lemmas.Grind.{common_steps}
 -- Places in chunks of which some were never written.
-use Rattle.std.proofs.Common.{◌≡◌, ◌≢◌, ℕ, ◌+◌, ◌-◌, ◌*◌, ◌/◌, ◌%◌, ◌<◌, ◌≤◌, inl, inr, true, nat_lt, is_some, List}
-use Rattle.std.proofs.Common.{◌++◌, length, map, replicate, take, drop, slice_index, slice_index_or, slice_set, cond, refl, sym, ◌∙◌, ap, arith}
+use Rattle.std.proofs.Common.{◌≡◌, ◌≢◌, ℕ, ◌+◌, ◌-◌, ◌*◌, ◌/◌, ◌%◌, ◌<◌, ◌≤◌, inl, inr, true, nat_lt, is_some, List, ◌++◌, length, map, replicate, take, drop, slice_index, slice_index_or, slice_set}
+use Rattle.std.proofs.Common.{cond, refl, sym, ◌∙◌, ap, arith, count_by}
 use Rattle.std.proofs.lemmas.Bool.{cases_eq, cases_lt, lt-ltb}
 use Rattle.std.proofs.lemmas.List.{same_lists, get_or-set_same, get_or-set_other, get_or-replicate, get_or_append_left, get_or-append_right, get_or-drop, get_or-take}
 use Rattle.std.proofs.lemmas.List.{get_or_default, get_or_past, length-append, length-drop, length-map, length-replicate, length-set, length-take}
 use Rattle.std.proofs.lemmas.List.Folds.{sum_by-replicate}
 use Rattle.std.proofs.lemmas.List.FromFn.{fill_by_all, get_or-map-range_with_len, length-map-range_with_len}
 use Rattle.std.proofs.lemmas.List.Sums.{count_by-le-length, sum_by-set}
-use Rattle.std.specs.List.{count_by}
 use Rattle.hp_model.specs.declared.place.Place.{Place}
 use Rattle.hp_model.specs.declared.place.Place.TheVariants.{Gone}
-use Rattle.hp_model.specs.files.Mapping.{copy_of, unconsumed}
+use Rattle.hp_model.proofs.Words.{copy_of, unconsumed}
 use Rattle.hp_mapping.specs.Mapped.{fresh, IsPlaceRun}
 use Rattle.hp_mapping.specs.Chunks.{all_places, slot_of, IsChunked, IsSame}
 use Rattle.hp_mapping.proofs.MarkedPlaces.{forked_at}

@@ -1,16 +1,16 @@
 use Rattle.std.proofs.lemmas.Grind.{common_steps}
 -- Places with their marks, after a change of one place.
 use mir.Val.{bool_byte}
-use Rattle.std.proofs.Common.{refl, zero, suc, [], ◌∷◌, ◌||◌, replicate, map, Option, None, Some, is_some, not, ◌≡◌, ℕ, ◌*◌}
-use Rattle.std.proofs.Common.{◌<◌, ◌≤◌, ◌-◌, Bool, true, false, List, length, slice_index_or, slice_set, sym, ◌∙◌, ap, cond, ◌+◌, arith}
+use Rattle.std.proofs.Common.{refl, zero, suc, [], ◌∷◌, ◌||◌, replicate, map, Option, None, Some, is_some, not, ◌≡◌, ℕ, ◌*◌, ◌<◌, ◌≤◌, ◌-◌, Bool, true, false, List, length, slice_index_or, slice_set}
+use Rattle.std.proofs.Common.{sym, ◌∙◌, ap, cond, ◌+◌, arith, count_by}
 use Rattle.std.proofs.lemmas.Bool.{cases_eq, cases_lt}
 use Rattle.std.proofs.lemmas.List.{get_or-set_same, get_or-set_other, length-set, get_or-replicate, get_or_past, length-replicate, length-map}
-use Rattle.std.specs.List.{count_by, list_any}
+use Rattle.std.specs.List.{list_any}
 use Rattle.std.proofs.lemmas.List.Sums.{sum_by-cons, sum_by-set}
 use Rattle.std.proofs.lemmas.List.Folds.{sum_by-replicate}
 use Rattle.hp_model.specs.declared.place.Place.{Place}
 use Rattle.hp_model.specs.declared.place.Place.TheVariants.{Gone, Live}
-use Rattle.hp_model.specs.files.Mapping.{copy_of, is_live, unconsumed, without_copy}
+use Rattle.hp_model.proofs.Words.{copy_of, is_live, unconsumed, without_copy}
 use Rattle.hp_mapping.specs.Mapped.{consumed, has_copy, with_copy}
 use Rattle.hp_marks.specs.Marks.{marked, FindsFrom}
 use Rattle.hp_mapping.specs.Marks.{AreCopiesCounted, AreMarked, ChangesMark, IsUnmarkedFrom}

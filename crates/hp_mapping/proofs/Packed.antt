@@ -4,7 +4,7 @@ use Rattle.std.specs.Int.{bit_at}
 use Rattle.std.proofs.lemmas.Bool.Decides.{nat_tests}
 use Rattle.std.proofs.lemmas.Nat.{and_le_r, and_mask, and_mod, or_disjoint, or_mod}
 use Rattle.std.proofs.lemmas.Nat.Bits.{and_high, and_pow, bit_at_and, bit_at_or}
-use Rattle.hp_model.specs.files.Mapping.{copy_of, is_live, is_unconsumed, unconsumed, without_copy}
+use Rattle.hp_model.proofs.Words.{copy_of, is_live, is_unconsumed, unconsumed, without_copy}
 use Rattle.hp_mapping.specs.Mapped.{consumed, with_copy}
 use Rattle.hp_mapping.specs.Packed.{place_in, place_with}
 

@@ -1,13 +1,11 @@
 -- A range of places that left.
-use Rattle.std.proofs.Common.{min, None, Bool, if◌then◌else◌, ◌≡◌, ℕ, zero, suc, ◌+◌, ◌-◌, ◌<◌, ◌≤◌, List}
-use Rattle.std.proofs.Common.{[], ◌∷◌, ◌++◌, length, take, drop, map, slice_index_or, refl, sym, ◌∙◌, ap, arith, cond}
-use Rattle.std.specs.List.{sum_by, count_by}
+use Rattle.std.proofs.Common.{min, None, Bool, if◌then◌else◌, ◌≡◌, ℕ, zero, suc, ◌+◌, ◌-◌, ◌<◌, ◌≤◌, List, [], ◌∷◌, ◌++◌, length, take, drop, map, slice_index_or, refl, sym, ◌∙◌, ap, arith, cond}
+use Rattle.std.proofs.Common.{sum_by, count_by}
 use Rattle.std.proofs.lemmas.List.{same_lists, get_or_default, take-append-drop}
 use Rattle.std.proofs.lemmas.List.Sums.{sum_by-append}
 use Rattle.hp_model.specs.declared.place.Place.{Place}
 use Rattle.hp_model.specs.declared.place.Place.TheVariants.{Gone}
-use Rattle.hp_model.specs.Lists.{edit_range, part}
-use Rattle.hp_model.specs.files.Mapping.{Mapping, place_at, copy_of, is_unconsumed}
+use Rattle.hp_model.proofs.Words.{Mapping, copy_of, edit_range, is_unconsumed, part, place_at}
 use Rattle.hp_mapping.specs.Mapped.{IsClear, reserves_in}
 use Rattle.std.proofs.lemmas.Bool.Decides.{nat_tests}
 use Rattle.std.proofs.lemmas.Grind.{common_steps}

@@ -6,7 +6,7 @@ use Rattle.std.proofs.lemmas.List.{append_assoc, get_or_append_left, get_or-appe
 use Rattle.std.proofs.lemmas.List.{length-replicate, length-set, map-append, replicate-append-replicate, set-append_left}
 use Rattle.hp_model.specs.declared.place.Place.{Place}
 use Rattle.hp_model.specs.declared.place.Place.TheVariants.{Gone}
-use Rattle.hp_model.specs.files.Mapping.{copy_of, unconsumed}
+use Rattle.hp_model.proofs.Words.{copy_of, unconsumed}
 use Rattle.hp_mapping.specs.Mapped.{fresh, with_fresh}
 
 module _ (count : ℕ) (first : List (Place ℕ)) where

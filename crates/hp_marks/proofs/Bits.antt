@@ -1,8 +1,8 @@
 -- Ranges of bits in a word, and how many bits a word has.
-use Rattle.std.proofs.Common.{◌≡◌, ℕ, zero, suc, ◌+◌, ◌-◌, ◌*◌, ◌/◌, ◌%◌, ◌^◌, ◌<◌, ◌≤◌, min, Bool, not, ◌&&◌, ◌||◌, cond}
-use Rattle.std.proofs.Common.{eqb, [], max, subst, sym, refl, ap, ◌∙◌, arith, ⊎_elim, bit_and, bit_or, count_ones, pow_pos, shr_lt, mod-lt, mod-eq_of_lt}
+use Rattle.std.proofs.Common.{◌≡◌, ℕ, zero, suc, ◌+◌, ◌-◌, ◌*◌, ◌/◌, ◌%◌, ◌^◌, ◌<◌, ◌≤◌, min, Bool, not, ◌&&◌, ◌||◌, cond, eqb, [], max, subst, sym, refl, ap, ◌∙◌, arith, ⊎_elim, bit_and, bit_or}
+use Rattle.std.proofs.Common.{count_ones, pow_pos, shr_lt, mod-lt, mod-eq_of_lt, count_by}
 use Rattle.std.specs.Int.{bit_at, bit_not, w64}
-use Rattle.std.specs.List.{range_with_len, count_by}
+use Rattle.std.specs.List.{range_with_len}
 use Rattle.std.proofs.lemmas.Bool.{cases_lt}
 use Rattle.std.proofs.lemmas.Bool.Decides.{nat_tests}
 use Rattle.std.proofs.lemmas.List.FromFn.{length-range_with_len}
@@ -11,7 +11,7 @@ use Rattle.std.proofs.lemmas.Nat.Bits.{bit_at-lt, bit_at_and, bit_at_or, bit_at_
 use Rattle.std.proofs.lemmas.Nat.Bits.{bit_at_mask_inside, bit_at_mask_below, bit_at_cat_low, bit_at_cat_high, bit_at_lowest}
 use Rattle.hp_model.proofs.Counting.{count_cons, count_split, count_not, count_outside, alike_in}
 use Rattle.hp_model.proofs.Ranges.{within-true, within-below, within-past}
-use Rattle.hp_model.specs.beside.Ranges.{within}
+use Rattle.hp_model.proofs.Words.{within}
 
 -- ---- a bit as a test
 

@@ -4,7 +4,7 @@ use Rattle.std.specs.Int.{bit_at, bit_not, w64}
 use Rattle.std.proofs.Math.Bool.{and-true}
 use Rattle.std.proofs.lemmas.Bool.{cases_lt, cases_eq}
 use Rattle.hp_model.proofs.Ranges.{within-below, within-past}
-use Rattle.hp_model.specs.beside.Ranges.{within}
+use Rattle.hp_model.proofs.Words.{within}
 use Rattle.hp_marks.specs.Marks.{marked}
 use Rattle.hp_marks.proofs.Range.{marked_elsewhere, cleared_here}
 

@@ -1,10 +1,9 @@
 -- An edit of a range, place by place.
 use Rattle.std.proofs.lemmas.Grind.{common_steps}
-use Rattle.std.proofs.Common.{◌≡◌, ℕ, zero, suc, ◌+◌, ◌-◌, ◌<◌, ◌≤◌, List, [], ◌∷◌, ◌++◌, length, take, drop, map, get_or, set, refl, ap, ◌∙◌, arith, append_assoc}
+use Rattle.std.proofs.Common.{◌≡◌, ℕ, zero, suc, ◌+◌, ◌-◌, ◌<◌, ◌≤◌, List, [], ◌∷◌, ◌++◌, length, take, drop, map, get_or, set, refl, ap, ◌∙◌, arith, append_assoc, sum_by}
 use Rattle.std.proofs.lemmas.List.{get_or-take, get_or-drop, get_or_append_left, get_or-append_right, length-take, length-drop}
 use Rattle.std.proofs.lemmas.List.{length-map, take-set, drop-set, drop_more, set_split, get_or-map}
-use Rattle.std.specs.List.{sum_by}
-use Rattle.hp_model.specs.Lists.{edit_at, edit_range, part}
+use Rattle.hp_model.proofs.Words.{edit_at, edit_range, part}
 
 module _ {X : Type 0} (f : X → X) (a b : ℕ) (xs : List X) where
   parts : edit_range f a b xs ≡ take a xs ++ (map f (take (b - a) (drop a xs)) ++ drop (b - a) (drop a xs))

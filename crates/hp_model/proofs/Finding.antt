@@ -1,6 +1,6 @@
 -- What `found` answers.
 use Rattle.std.proofs.Common.{◌≡◌, ℕ, zero, suc, ◌+◌, ◌<◌, Bool, true, false, List, [], ◌∷◌, length, get_or, None, Some, refl, ap, arith}
-use Rattle.hp_model.specs.Lists.{found}
+use Rattle.hp_model.proofs.Words.{found}
 
 pub found_none : {X : Type 0} (test : X → Bool) (xs : List X) (d : X) → ((k : ℕ) → k < length xs → test (get_or xs k d) ≡ false) → found test xs ≡ None
 found_none test [] d none = refl

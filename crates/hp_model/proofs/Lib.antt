@@ -1,3 +1,4 @@
+pub mod Words
 pub mod Sums
 pub mod Distinct
 pub mod Ranges

@@ -1,14 +1,12 @@
 -- Which row a search picks, and what a change there leaves.
-use Rattle.std.proofs.Common.{◌≡◌, ℕ, zero, suc, ◌+◌, ◌<◌, true, List, [], ◌∷◌, length, map, drop, ap, arith}
-use Rattle.std.specs.List.{sum_by, All}
+use Rattle.std.proofs.Common.{◌≡◌, ℕ, zero, suc, ◌+◌, ◌<◌, true, List, [], ◌∷◌, length, map, drop, ap, arith, sum_by, All}
 use Rattle.std.proofs.lemmas.Bool.{cond_both, ltb-true}
 use Rattle.std.proofs.lemmas.Grind.{common_steps}
 use Rattle.std.proofs.lemmas.List.Elements.{All-cons, All-head, All-tail}
 use Rattle.std.proofs.lemmas.List.Sums.{sum_by-set, passes_at_first}
 use Rattle.hp_model.specs.declared.node.Kind.{Kind}
 use Rattle.hp_model.specs.declared.node.NodeRow.{NodeRow}
-use Rattle.hp_model.specs.Lists.{edit_at}
-use Rattle.hp_model.specs.pool.NodeRows.{IsRow, at_row, row_at, no_row, has, lowest, near, next_from}
+use Rattle.hp_model.proofs.Words.{IsRow, at_row, edit_at, has, lowest, near, next_from, no_row, row_at}
 
 -- a node that has one
 pub record IsPick (kind : Kind) (rows : List NodeRow) (n : ℕ) : Type 0 where

@@ -3,9 +3,8 @@ use Rattle.std.proofs.lemmas.Grind.{common_steps}
 use Rattle.std.proofs.Common.{◌≡◌, ℕ, ◌+◌, ◌<◌, List, [], ◌∷◌, ◌++◌, length, take, drop, slice_set, refl, sym, ap, subst, ◌∙◌, arith}
 use lib.ListN.{get_or}
 use Rattle.std.proofs.lemmas.List.{take_more, take_more_set}
-use Rattle.hp_model.specs.beside.Queue.{DoesAll, DoesOne, QueuedView}
+use Rattle.hp_model.proofs.Words.{DoesAll, DoesOne, QueuedView, Reply}
 use Rattle.hp_model.specs.declared.step.Step.{Step}
-use Rattle.hp_model.specs.machine.Plan.{Reply}
 
 -- some are done, and then others
 pub does_both : {S : Type 0} (m : S → Step → Reply → S → Type 0) (s t u : S) (before after others then : List QueuedView)

@@ -1,8 +1,6 @@
 -- What the moves of pages and frames do to the rows and to their sums.
 use Rattle.std.proofs.lemmas.Grind.{common_steps}
-use Rattle.std.proofs.Common.{◌≡◌, ℕ, zero, suc, ◌+◌, ◌<◌, ◌≤◌, true, List, [], ◌∷◌, ◌++◌, length, map, refl, sym, ap, ◌∙◌, arith}
-use Rattle.std.specs.Prelude.{nat_lt, slice_set}
-use Rattle.std.specs.List.{sum, slice_index_or, All}
+use Rattle.std.proofs.Common.{◌≡◌, ℕ, zero, suc, ◌+◌, ◌<◌, ◌≤◌, true, List, [], ◌∷◌, ◌++◌, length, map, refl, sym, ap, ◌∙◌, arith, nat_lt, slice_set, sum, slice_index_or, All}
 use Rattle.std.proofs.lemmas.Bool.{cond_both, and_parts, ltb-true, ltb-false}
 use Rattle.std.proofs.lemmas.Bool.Decides.{nat_tests}
 use Rattle.std.proofs.lemmas.List.{length-append, append_assoc}
@@ -11,13 +9,9 @@ use Rattle.std.proofs.lemmas.List.Sums.{sum_by-cons, sum-map, fails_before_first
 use Rattle.std.proofs.Math.Seq.{set-append_seam, get_or-append_seam}
 use Rattle.hp_model.specs.declared.node.Kind.TheVariants.{Free, Idle, Surplus, Persistent, FreeSurplus}
 use Rattle.hp_model.specs.declared.node.NodeRow.{NodeRow}
-use Rattle.hp_model.specs.pool.Grant.{surplus_times}
-use Rattle.hp_model.specs.Lists.{edit_at}
-use Rattle.hp_model.specs.pool.NodeRows.{NodeRows, IsRow, at_row, row_at, no_row, has, lowest, near, next_from, used}
-use Rattle.hp_model.specs.pool.NodeRows.{total_of, free_of, surp_of, frames_of, taken, surplus_added, grown, shrunk, promoted, demoted}
-use Rattle.hp_model.specs.pool.NodeRows.{given_back, take_row, put_row, add_surplus_row, grow_row, shrink_row, promote_row, demote_row, give_back_row}
-use Rattle.hp_model.specs.pool.Pool.{give_back_times, kept_times, puts_from, page_kept}
-use Rattle.hp_model.specs.pool.PoolCounts.{Pool}
+use Rattle.hp_model.proofs.Words.{IsRow, NodeRows, Pool, add_surplus_row, at_row, demote_row, demoted, edit_at, frames_of, free_of, give_back_row, give_back_times, given_back, grow_row, grown, has}
+use Rattle.hp_model.proofs.Words.{kept_times, lowest, near, next_from, no_row, page_kept, promote_row, promoted, put_row, puts_from, row_at, shrink_row, shrunk, surp_of, surplus_added, surplus_times}
+use Rattle.hp_model.proofs.Words.{take_row, taken, total_of, used}
 use Rattle.hp_model.proofs.Picks.{IsPick, edit, near_pick, lowest_pick, next_pick}
 use Rattle.hp_model.proofs.Sums.{some_free, some_idle, some_surplus, some_persistent, none_surplus}
 

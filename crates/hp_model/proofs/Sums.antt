@@ -1,6 +1,5 @@
 use Rattle.std.proofs.lemmas.Grind.{common_steps}
-use Rattle.std.proofs.Common.{ℕ, suc, ◌≡◌, ◌+◌, ◌<◌, ◌≤◌, Bool, true, false, cond, not, IsTrue, List, [], ◌∷◌, length, refl, arith}
-use Rattle.std.specs.Prelude.{slice_set, sum_by, map, All}
+use Rattle.std.proofs.Common.{ℕ, suc, ◌≡◌, ◌+◌, ◌<◌, ◌≤◌, Bool, true, false, cond, not, IsTrue, List, [], ◌∷◌, length, refl, arith, slice_set, sum_by, map, All}
 use Rattle.std.specs.List.{position_or_len, prefix_len}
 use Rattle.std.proofs.lemmas.Bool.Decides.{nat_tests}
 use Rattle.std.proofs.lemmas.Bool.{cases_lt}
@@ -8,8 +7,7 @@ use Rattle.std.proofs.lemmas.List.Sums.{sum_by-cons, get_or-le-sum_by}
 use Rattle.hp_model.specs.declared.node.NodeRow.{NodeRow}
 use Rattle.hp_model.specs.declared.node.Kind.{Kind}
 use Rattle.hp_model.specs.declared.node.Kind.TheVariants.{Free, Idle, Surplus, Persistent}
-use Rattle.hp_model.specs.pool.NodeRows.{IsRow, idle_row, row_at, has, lowest, some_has, sum_row, frames_of, total_of}
-use Rattle.hp_model.specs.pool.NodeRows.{free_of, surp_of, take_row}
+use Rattle.hp_model.proofs.Words.{IsRow, frames_of, free_of, has, idle_row, lowest, row_at, some_has, sum_row, surp_of, take_row, total_of}
 
 pub take_sums : (rows : List NodeRow) (i : ℕ) (y : NodeRow) → i < length rows → y ≡ take_row (row_at rows i) → 0 < (row_at rows i).free → sum_row (slice_set rows i y) ≡ take_row (sum_row rows)
 take_sums rows i y h e h0 = grind (arith, common_steps)

@@ -1,31 +1,15 @@
 use Rattle.std.proofs.lemmas.Grind.{common_steps}
 -- An event on one map: its tests, its access, and what follows, whichever these are.
-use Rattle.std.proofs.Common.{◌≡◌, ◌≢◌, ℕ, zero, suc, ◌+◌, ◌-◌, ◌<◌, Bool, true, false, cond, List, [], ◌∷◌, Option, Some, None, Ok, Err, length, refl, sym, ap, subst, ◌∙◌, arith}
-use Rattle.std.specs.Prelude.{Result, slice_index_or, slice_set, nat_lt, not, is_some, ◌&&◌, ◌||◌, ◌==◌}
+use Rattle.std.proofs.Common.{◌≡◌, ◌≢◌, ℕ, zero, suc, ◌+◌, ◌-◌, ◌<◌, Bool, true, false, cond, List, [], ◌∷◌, Option, Some, None, Ok, Err, length, refl, sym, ap, subst, ◌∙◌, arith, Result}
+use Rattle.std.proofs.Common.{slice_index_or, slice_set, nat_lt, not, is_some, ◌&&◌, ◌||◌, ◌==◌}
 use Rattle.std.proofs.lemmas.List.{get_or_default}
-use Rattle.hp_model.specs.declared.answer.Answer.{Answer}
-use Rattle.hp_model.specs.declared.answer.Answer.TheVariants.{Done}
-use Rattle.hp_model.specs.declared.refusal.Refusal.{Refusal}
+use Rattle.hp_laws.proofs.Variants.{Answer, Done, Gone, Hole, Intent, Live, PoolAnswer, Read, Refusal, Section, Write}
 use Rattle.hp_model.specs.declared.refusal.Refusal.TheVariants as r
-use Rattle.hp_model.specs.files.Access.{access, shared_access, private_access}
-use Rattle.hp_model.specs.files.File.{Mount, File, cell_at, is_entered, new_file, with_cell, with_file, with_map}
-use Rattle.hp_model.specs.declared.cell.Cell.TheVariants.{Hole}
-use Rattle.hp_model.specs.declared.place.Place.TheVariants.{Gone, Live}
-use Rattle.hp_model.specs.files.Page.{Copy}
-use Rattle.hp_model.specs.Lists.{edit_at}
+use Rattle.hp_model.proofs.Words.{Answered, Choice, Copy, File, Map, Mount, Outcome, Plan, Slot, Spot, ThroughDoor, access, again, and_then, bytes_answer, cell_at, cell_written, copy_of, done_reply}
+use Rattle.hp_model.proofs.Words.{edit_at, file_in, file_written, is_backed, is_beyond, is_entered, is_reserved, is_shared, is_unconsumed, is_unmapped, map_in, map_written, most_bytes, new_file}
+use Rattle.hp_model.proofs.Words.{no_map, owns_copy, place_at, place_written, private_access, refuse, shared_access, unless, value, with_cell, with_file, with_map, with_place, with_value, written}
 use Rattle.hp_laws.proofs.counts.FileMoves.{FileGrows, live_at}
 use Rattle.hp_laws.proofs.steps.CopyWrites.{writes}
-use Rattle.hp_model.specs.threads.LocalRun.{ThroughDoor}
-use Rattle.hp_model.specs.files.Mapping.{Map, copy_of, is_shared, is_unconsumed, place_at, with_place}
-use Rattle.hp_model.specs.beside.Accesses.{done_reply}
-use Rattle.hp_model.specs.machine.Plan.{Answered, Plan, Outcome, Slot, Choice, refuse, unless, with_value, and_then}
-use Rattle.hp_model.specs.declared.section.PoolAnswer.{PoolAnswer}
-use Rattle.hp_model.specs.declared.section.Section.{Section}
-use Rattle.hp_model.specs.machine.Promises.{file_in, is_backed, map_in, no_map, owns_copy}
-use Rattle.hp_model.specs.machine.SlotEvent.{bytes_answer, is_unmapped, is_beyond}
-use Rattle.hp_model.specs.files.Spot.{Spot, again, written, file_written, cell_written, map_written, place_written}
-use Rattle.hp_model.specs.declared.step.Intent.{Intent}
-use Rattle.hp_model.specs.declared.step.Intent.TheVariants.{Read, Write}
 use Rattle.hp_lookup.specs.declared.map_place.MapPlace.{MapPlace}
 use Rattle.hp_mount_laws.specs.Done.{Enters, IsAccessed, Tried}
 use Rattle.hp_mount.specs.Found.{IsPlaced, spot_of, tests_of, why_not}
@@ -33,9 +17,6 @@ use Rattle.hp_mount_laws.specs.Reach.{IsFileTouched, first_of, spot_at, with_pla
 use Rattle.hp_mount.specs.declared.mount.reach.Asked.{Asked}
 use Rattle.hp_mount.specs.declared.mount.reach.Asked.TheVariants.{Page, Bytes}
 use Rattle.hp_mount.specs.declared.mount.reach.MapAccess.{MapAccess}
-use Rattle.hp_model.specs.files.Value.{value}
-use Rattle.hp_model.specs.Profile.{most_bytes}
-use Rattle.hp_model.specs.files.Reserved.{is_reserved}
 use Rattle.hp_mount_laws.proofs.Trying.{tests_fail, tests_pass}
 use Rattle.hp_mount_laws.proofs.Ways.{fresh_choice, is_fresh, refused_at, then_enters, then_refused}
 

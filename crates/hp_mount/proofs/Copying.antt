@@ -1,25 +1,17 @@
 use Rattle.std.proofs.lemmas.Grind.{common_steps}
 -- What the share and the files keep where a private map gets a copy, or takes one back.
-use Rattle.std.proofs.Common.{◌≡◌, ℕ, zero, suc, ◌+◌, ◌<◌, ◌||◌, ◌&&◌, Bool, true, false, Option, None, Some, List, [], ◌∷◌, length, map, max, refl, sym, ap, subst, ◌∙◌, arith}
-use Rattle.std.specs.Prelude.{not, slice_set}
-use Rattle.std.specs.Bool.{IsTrue}
-use Rattle.std.specs.List.{flat_map, sum_by}
+use Rattle.std.proofs.Common.{◌≡◌, ℕ, zero, suc, ◌+◌, ◌<◌, ◌||◌, ◌&&◌, Bool, true, false, Option, None, Some, List, [], ◌∷◌, length, map, max, refl, sym, ap, subst, ◌∙◌, arith, not, slice_set, IsTrue}
+use Rattle.std.proofs.Common.{flat_map, sum_by}
 use Rattle.std.proofs.lemmas.Bool.{and_parts, or_parts}
 use Rattle.std.proofs.lemmas.List.{get_or_default}
 use Rattle.hp_laws.proofs.steps.CopyWrites.{copy_parts, takes_back}
 use Rattle.hp_laws.proofs.counts.FileMoves.{IsMapAt, copy_consumes, copy_grows}
 use Rattle.hp_model.proofs.Distinct.{is_among-append}
-use Rattle.hp_model.specs.declared.place.Place.{Place}
-use Rattle.hp_model.specs.declared.place.Place.TheVariants.{Live}
-use Rattle.hp_model.specs.files.CopyWrite.{is_held_once, robbed}
-use Rattle.hp_model.specs.files.File.{File, Mount, file_in, map_in, with_file, with_map}
-use Rattle.hp_model.specs.files.Mapping.{Map, is_unconsumed, no_map, place_at, with_place}
-use Rattle.hp_model.specs.files.MountCounts.{file_pages, stamps_of}
-use Rattle.hp_model.specs.files.Page.{Copy, Page}
-use Rattle.hp_model.specs.Lists.{is_among}
+use Rattle.hp_laws.proofs.Variants.{Live, Place}
+use Rattle.hp_model.proofs.Words.{Copy, File, Map, Mount, Page, file_in, file_pages, is_among, is_held_once, is_unconsumed, map_in, no_map, place_at, robbed, stamps_of, with_file, with_map}
+use Rattle.hp_model.proofs.Words.{with_place}
 use Rattle.hp_mount_door.specs.Door.{with_granted, with_page}
-use Rattle.hp_lookup.specs.Dropping.{IsLeft}
-use Rattle.hp_lookup.specs.Files.{Files, copied_at, file_at, parted_at, taken_back_at}
+use Rattle.hp_lookup.proofs.Words.{Files, IsLeft, copied_at, file_at, parted_at, taken_back_at}
 use Rattle.hp_file.specs.States.{AreAgreed}
 use Rattle.hp_mount_laws.specs.Reach.{has_reserve, with_place_at}
 use Rattle.hp_mount_laws.specs.Kept.{IsKept, mount_from}

@@ -1,31 +1,18 @@
 use Rattle.std.proofs.lemmas.Grind.{common_steps}
 -- A range of a file that is filled, by what code did.
-use Rattle.std.proofs.Common.{◌≡◌, ℕ, ◌+◌, ◌-◌, ◌<◌, ◌≤◌, ◌==◌, Bool, true, false, cond, List, [], Option, None, Some, Ok, Err}
-use Rattle.std.proofs.Common.{length, max, refl, sym, ap, subst, ◌∙◌, arith, nat_lt}
-use Rattle.std.specs.Prelude.{slice_set}
+use Rattle.std.proofs.Common.{◌≡◌, ℕ, ◌+◌, ◌-◌, ◌<◌, ◌≤◌, ◌==◌, Bool, true, false, cond, List, [], Option, None, Some, Ok, Err, length, max, refl, sym, ap, subst, ◌∙◌, arith, nat_lt, slice_set}
 use Rattle.std.proofs.lemmas.Bool.Decides.{nat_tests}
 use Rattle.std.proofs.lemmas.List.{get_or_default, length-set}
-use Rattle.hp_model.specs.declared.answer.Answer.TheVariants.{Done}
+use Rattle.hp_laws.proofs.Variants.{Done, FillPages, PoolAnswer, Refusal, Section}
 use Rattle.hp_model.specs.declared.event.SlotEvent.TheVariants.{Preallocate}
-use Rattle.hp_model.specs.declared.refusal.Refusal.{Refusal}
 use Rattle.hp_model.specs.declared.refusal.Refusal.TheVariants as r
-use Rattle.hp_model.specs.declared.section.PoolAnswer.{PoolAnswer}
-use Rattle.hp_model.specs.declared.section.Section.{Section}
-use Rattle.hp_model.specs.declared.section.Section.TheVariants.{FillPages}
-use Rattle.hp_model.specs.files.File.{File, Mount, new_file, with_file}
-use Rattle.hp_model.specs.files.Fill.{lacking, range_filled, rising_nodes}
-use Rattle.hp_model.specs.machine.Plan.{Answered, Ask, Choice, Finish, Plan, Reply, Slot, refuse, unless, with_value}
-use Rattle.hp_model.specs.machine.Promises.{file_in}
-use Rattle.hp_model.specs.machine.SlotEvent.{file_named, fill, is_bad_range, preallocate, preallocate_tests, preallocated, slot_event, unentered}
-use Rattle.hp_model.specs.pool.Grant.{is_full, rise}
-use Rattle.hp_model.specs.pool.Pool.{filled_by, no_pages}
-use Rattle.hp_model.specs.Profile.{most_map_pages}
-use Rattle.hp_model.specs.threads.LocalRun.{ThroughDoor}
+use Rattle.hp_model.proofs.Words.{Answered, Ask, Choice, File, Finish, Mount, Plan, Reply, Slot, ThroughDoor, file_in, file_named, fill, filled_by, is_bad_range, is_full, lacking, most_map_pages}
+use Rattle.hp_model.proofs.Words.{new_file, no_pages, preallocate, preallocate_tests, preallocated, range_filled, refuse, rise, rising_nodes, slot_event, unentered, unless, with_file, with_value}
 use Rattle.hp_laws.proofs.counts.Filled.{filled_fills}
 use Rattle.hp_laws.proofs.counts.MountMoves.{MountFills, file_fills}
 use Rattle.hp_laws.proofs.lists.NodesOf.{length-nodes_of}
 use Rattle.hp_mount_door.specs.Filling.{with_filled}
-use Rattle.hp_lookup.specs.Files.{Files, file_at}
+use Rattle.hp_lookup.proofs.Words.{Files, file_at}
 use Rattle.hp_file.specs.Filling.{IsTaking, pages_put}
 use Rattle.hp_mount_laws.specs.Done.{Enters, Through, Tried}
 use Rattle.hp_mount_laws.specs.Reach.{first_of}

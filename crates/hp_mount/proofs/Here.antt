@@ -3,17 +3,11 @@ use Rattle.std.proofs.lemmas.Grind.{common_steps}
 use Rattle.std.proofs.Common.{◌≡◌, ℕ, ◌<◌, false, None, true, length, ap, subst, sym, ◌∙◌, arith}
 use Rattle.std.proofs.lemmas.List.{get_or-set_same, length-set}
 use Rattle.hp_file.proofs.PutCopy.{bare_place}
-use Rattle.hp_lookup.specs.Files.{Files, file_at, with_cell_at}
+use Rattle.hp_lookup.proofs.Words.{Files, file_at, with_cell_at}
 use Rattle.hp_lookup.specs.declared.copy_state.CopyState.{CopyState}
 use Rattle.hp_file.specs.States.{IsCopyState}
-use Rattle.hp_model.specs.declared.cell.Cell.{Cell}
-use Rattle.hp_model.specs.declared.cell.Cell.TheVariants.{Entered, Hole}
-use Rattle.hp_model.specs.declared.place.Place.{Place}
-use Rattle.hp_model.specs.declared.step.Intent.{Intent}
-use Rattle.hp_model.specs.files.File.{File, Mount, cell_at, new_file, with_cell}
-use Rattle.hp_model.specs.files.Mapping.{copy_of, is_live, is_shared, place_at}
-use Rattle.hp_model.specs.files.Page.{Copy, Page}
-use Rattle.hp_model.specs.machine.Promises.{file_in, map_in}
+use Rattle.hp_laws.proofs.Variants.{Cell, Entered, Hole, Intent, Place}
+use Rattle.hp_model.proofs.Words.{Copy, File, Mount, Page, cell_at, copy_of, file_in, is_live, is_shared, map_in, new_file, place_at, with_cell}
 use Rattle.hp_mount_laws.specs.Reach.{NeedsCopy, shows_page, spot_at}
 
 module _ {m n : Mount} (same : m ≡ n) (k : ℕ) where

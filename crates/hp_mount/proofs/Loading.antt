@@ -1,28 +1,10 @@
 use Rattle.std.proofs.lemmas.Grind.{common_steps}
 -- What a load answers, from a page that it found or had made.
-use Rattle.std.proofs.Common.{◌≡◌, ℕ, Bool, true, false, List, length, take, drop, None, Some, Ok, refl, sym, ap, arith}
-use Rattle.std.specs.Prelude.{Result}
+use Rattle.std.proofs.Common.{◌≡◌, ℕ, Bool, true, false, List, length, take, drop, None, Some, Ok, refl, sym, ap, arith, Result}
 use denote.Ref.{Bor}
-use Rattle.hp_model.specs.beside.Accesses.{bytes_reply}
-use Rattle.hp_model.specs.declared.answer.Answer.TheVariants.{Done}
-use Rattle.hp_model.specs.declared.cell.Cell.{Cell}
-use Rattle.hp_model.specs.declared.cell.Cell.TheVariants.{Hole, Entered, Present}
+use Rattle.hp_model.proofs.Words.{Choice, Copy, Mount, Page, Spot, access, bytes_reply, cell_at, copy_of, file_in, has_page, is_live, is_shared, map_in, place_at, shared_access, value}
+use Rattle.hp_laws.proofs.Variants.{Cell, Done, Entered, Gone, Hole, Intent, Live, Place, PoolAnswer, Present, Read, Refusal, Section}
 use Rattle.hp_model.specs.declared.event.SlotEvent.TheVariants.{Load}
-use Rattle.hp_model.specs.declared.place.Place.{Place}
-use Rattle.hp_model.specs.declared.place.Place.TheVariants.{Gone, Live}
-use Rattle.hp_model.specs.declared.refusal.Refusal.{Refusal}
-use Rattle.hp_model.specs.declared.section.PoolAnswer.{PoolAnswer}
-use Rattle.hp_model.specs.declared.section.Section.{Section}
-use Rattle.hp_model.specs.declared.step.Intent.{Intent}
-use Rattle.hp_model.specs.declared.step.Intent.TheVariants.{Read}
-use Rattle.hp_model.specs.files.Access.{access, shared_access}
-use Rattle.hp_model.specs.files.File.{Mount, cell_at, has_page}
-use Rattle.hp_model.specs.files.Mapping.{copy_of, is_live, is_shared, place_at}
-use Rattle.hp_model.specs.files.Page.{Copy, Page}
-use Rattle.hp_model.specs.files.Spot.{Spot}
-use Rattle.hp_model.specs.files.Value.{value}
-use Rattle.hp_model.specs.machine.Plan.{Choice}
-use Rattle.hp_model.specs.machine.Promises.{file_in, map_in}
 use Rattle.hp_lookup.specs.declared.map_place.MapPlace.{MapPlace}
 use Rattle.hp_mount_files.specs.Lent.{IsReadable}
 use Rattle.hp_mount_laws.specs.Done.{IsAccessed, IsDone}

@@ -1,15 +1,8 @@
 -- A store, by what code did.
-use Rattle.std.proofs.Common.{◌≡◌, ℕ, Some, Ok, Err, List, length, refl, ap}
-use Rattle.std.specs.Prelude.{Result}
-use Rattle.hp_model.specs.declared.answer.Answer.TheVariants.{Done}
+use Rattle.std.proofs.Common.{◌≡◌, ℕ, Some, Ok, Err, List, length, refl, ap, Result}
+use Rattle.hp_laws.proofs.Variants.{Done, PoolAnswer, Refusal, Section, Write}
 use Rattle.hp_model.specs.declared.event.SlotEvent.TheVariants.{Store}
-use Rattle.hp_model.specs.declared.refusal.Refusal.{Refusal}
-use Rattle.hp_model.specs.declared.section.PoolAnswer.{PoolAnswer}
-use Rattle.hp_model.specs.declared.section.Section.{Section}
-use Rattle.hp_model.specs.declared.step.Intent.TheVariants.{Write}
-use Rattle.hp_model.specs.files.File.{Mount}
-use Rattle.hp_model.specs.files.Spot.{written}
-use Rattle.hp_model.specs.machine.Plan.{and_then}
+use Rattle.hp_model.proofs.Words.{Mount, and_then, written}
 use Rattle.hp_lookup.specs.declared.map_place.MapPlace.{MapPlace}
 use Rattle.hp_mount_laws.specs.Done.{IsAccessed, IsDone}
 use Rattle.hp_mount_laws.specs.Reach.{spot_at}

@@ -1,17 +1,11 @@
 -- A file without name more, which has one map.
 use Rattle.std.proofs.Common.{◌≡◌, ◌==◌, ℕ, ◌+◌, ◌∷◌, ◌++◌, true, false, cond, List, [], None, refl, sym, ap, subst, ◌∙◌, arith}
 use Rattle.std.proofs.lemmas.List.{map-append}
-use Rattle.hp_model.specs.declared.step.Reserving.{Reserving}
-use Rattle.hp_model.specs.declared.step.Sharing.{Sharing}
-use Rattle.hp_model.specs.files.File.{new_file}
-use Rattle.hp_model.specs.files.MakeMap.{mapped, numbers_of}
-use Rattle.hp_model.specs.Lists.{is_among}
+use Rattle.hp_laws.proofs.Variants.{Reserving, Sharing}
+use Rattle.hp_model.proofs.Words.{is_among, mapped, new_file, numbers_of}
 use Rattle.hp_store.specs.Store.{Store}
 use Rattle.hp_file.specs.NewMap.{nameless, with_new_map}
-use Rattle.hp_lookup.specs.Hints.{IsFiles, IsMoreByMap, Noted, has_key}
-use Rattle.hp_lookup.specs.Keyed.{is_key, keys_in, label_of}
-use Rattle.hp_lookup.specs.Numbered.{NumberedFile, file_shown, files_shown, new_mapping}
-use Rattle.hp_lookup.specs.Places.{all_maps}
+use Rattle.hp_lookup.proofs.Words.{IsFiles, IsMoreByMap, Noted, NumberedFile, all_maps, file_shown, files_shown, has_key, is_key, keys_in, label_of, new_mapping}
 use Rattle.hp_lookup.proofs.Level.{more_level, none_level}
 use Rattle.hp_lookup.proofs.Mapped.{file_count, mapped_shown}
 use Rattle.hp_lookup.proofs.NewKey.{keys_few, no_pair, other_key}

@@ -1,24 +1,17 @@
 use Rattle.std.proofs.lemmas.Grind.{common_steps}
 -- How many hold a copy of a map.
-use Rattle.std.proofs.Common.{◌≡◌, ℕ, ◌+◌, ◌-◌, ◌<◌, ◌≤◌, ◌==◌, ◌^◌, ⊎_elim, Bool, true, cond, None, Some, List, [], ◌∷◌, length, map, refl, sym, ap, subst, ◌∙◌, arith}
-use Rattle.std.specs.Prelude.{slice_index_or}
-use Rattle.std.specs.List.{count_by, list_any, sum_by}
+use Rattle.std.proofs.Common.{◌≡◌, ℕ, ◌+◌, ◌-◌, ◌<◌, ◌≤◌, ◌==◌, ◌^◌, ⊎_elim, Bool, true, cond, None, Some, List, [], ◌∷◌, length, map, refl, sym, ap, subst, ◌∙◌, arith, slice_index_or, count_by}
+use Rattle.std.proofs.Common.{sum_by}
+use Rattle.std.specs.List.{list_any}
 use Rattle.std.proofs.lemmas.Bool.{and_parts, eqb-true, or_cases}
 use Rattle.std.proofs.lemmas.List.{get_or_default}
 use Rattle.std.proofs.lemmas.List.Sums.{sum_by-cons}
 use Rattle.hp_laws.proofs.counts.FileMoves.{held_in, maps_count}
-use Rattle.hp_model.specs.declared.place.Place.{Place}
-use Rattle.hp_model.specs.declared.place.Place.TheVariants.{Gone, Live}
-use Rattle.hp_model.specs.files.CopyWrite.{is_held_once}
-use Rattle.hp_model.specs.files.Mapping.{Mapping, copy_of, place_at}
-use Rattle.hp_model.specs.files.MountCounts.{file_pages, stamps_of}
-use Rattle.hp_model.specs.files.Page.{Copy}
-use Rattle.hp_model.specs.machine.Sound.{file_has, is_stamp, map_has, place_has}
+use Rattle.hp_laws.proofs.Variants.{Gone, Live, Place}
+use Rattle.hp_model.proofs.Words.{Copy, Mapping, copy_of, file_has, file_pages, is_held_once, is_stamp, map_has, place_at, place_has, stamps_of}
 use Rattle.hp_store.specs.Store.{Store, held_count, holders_of, page_at}
-use Rattle.hp_lookup.specs.Files.{file_at}
-use Rattle.hp_lookup.specs.Held.{IsHeld, in_cell, in_map, in_place}
-use Rattle.hp_lookup.specs.Numbered.{NumberedFile, copy_shown, file_shown, files_shown, map_shown, mapping_at, no_mapping, numbered_at, page_in, place_shown}
-use Rattle.hp_lookup.specs.Places.{map_among}
+use Rattle.hp_lookup.proofs.Words.{IsHeld, NumberedFile, copy_shown, file_at, file_shown, files_shown, in_cell, in_map, in_place, map_among, map_shown, mapping_at, no_mapping, numbered_at, page_in}
+use Rattle.hp_lookup.proofs.Words.{place_shown}
 use Rattle.hp_file.specs.States.{AreAgreed, is_stamp_at}
 use Rattle.hp_lookup.proofs.Cells.{file_is, no_file}
 use Rattle.hp_file.proofs.Drops.{live_copy, place_inside}

@@ -1,21 +1,13 @@
 -- Bytes are written into a copy that one map alone holds.
-use Rattle.std.proofs.Common.{◌≡◌, ℕ, ◌-◌, ◌<◌, ◌==◌, Some, List, length, map, refl, sym, ap, subst, ◌∙◌, arith}
-use Rattle.std.specs.Prelude.{slice_index_or, slice_set}
-use Rattle.std.specs.List.{count_by}
+use Rattle.std.proofs.Common.{◌≡◌, ℕ, ◌-◌, ◌<◌, ◌==◌, Some, List, length, map, refl, sym, ap, subst, ◌∙◌, arith, slice_index_or, slice_set, count_by}
 use Rattle.std.proofs.lemmas.Bool.{eqb-true}
-use Rattle.hp_model.specs.declared.place.Place.{Place}
-use Rattle.hp_model.specs.declared.place.Place.TheVariants.{Gone, Live}
-use Rattle.hp_model.specs.files.File.{File, with_map}
-use Rattle.hp_model.specs.files.Mapping.{Map, Mapping, copy_of, place_at, with_place}
-use Rattle.hp_model.specs.files.MountCounts.{stamps_of}
-use Rattle.hp_model.specs.files.Spot.{place_written}
+use Rattle.hp_laws.proofs.Variants.{Gone, Live, Place}
+use Rattle.hp_model.proofs.Words.{File, Map, Mapping, copy_of, place_at, place_written, stamps_of, with_map, with_place}
 use Rattle.hp_store.specs.Store.{Holding, Store, holders_of, page_at}
 use Rattle.hp_store.specs.Store as store
 use Rattle.hp_lookup.specs.declared.copy_state.CopyState.TheVariants as state
-use Rattle.hp_lookup.specs.Files.{file_at, placed_at}
-use Rattle.hp_lookup.specs.Held.{IsHeld, in_cell, in_file, in_map, in_place}
-use Rattle.hp_lookup.specs.Numbered.{NumberedFile, cell_shown, file_shown, files_shown, map_shown, no_mapping, numbered_at, page_in, place_shown}
-use Rattle.hp_lookup.specs.Places.{map_among}
+use Rattle.hp_lookup.proofs.Words.{IsHeld, NumberedFile, cell_shown, file_at, file_shown, files_shown, in_cell, in_file, in_map, in_place, map_among, map_shown, no_mapping, numbered_at, page_in}
+use Rattle.hp_lookup.proofs.Words.{place_shown, placed_at}
 use Rattle.hp_file.specs.States.{IsCopyState}
 use Rattle.hp_lookup.proofs.Cells as cells
 use Rattle.hp_lookup.proofs.Cells.{file_is, no_file, write_agrees, write_held}

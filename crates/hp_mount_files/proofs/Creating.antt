@@ -1,14 +1,10 @@
 -- A file more, which is empty.
-use Rattle.std.proofs.Common.{◌≡◌, ℕ, ◌+◌, ◌≤◌, Bool, true, false, cond, List, [], ◌∷◌, ◌++◌, Some, None, refl, sym, ap, subst, ◌∙◌, arith}
-use Rattle.std.specs.List.{count_by}
+use Rattle.std.proofs.Common.{◌≡◌, ℕ, ◌+◌, ◌≤◌, Bool, true, false, cond, List, [], ◌∷◌, ◌++◌, Some, None, refl, sym, ap, subst, ◌∙◌, arith, count_by}
 use Rattle.std.specs.Str.{bytes_eq}
 use Rattle.std.proofs.lemmas.Slice.Eq.{bytes_eq-Decides}
-use Rattle.hp_model.specs.Lists.{found}
-use Rattle.hp_model.specs.machine.SlotEvent.{has_name}
+use Rattle.hp_model.proofs.Words.{found, has_name}
 use Rattle.hp_store.specs.Store.{Store}
-use Rattle.hp_lookup.specs.Hints.{IsFiles, IsMoreByName, Noted, is_noted_as as has_noted}
-use Rattle.hp_lookup.specs.Keyed.{has_label, labels_of}
-use Rattle.hp_lookup.specs.Numbered.{NumberedFile, files_shown}
+use Rattle.hp_lookup.proofs.Words.{IsFiles, IsMoreByName, Noted, NumberedFile, files_shown, has_label, is_noted_as as has_noted, labels_of}
 use Rattle.hp_lookup.proofs.Level.{none_level}
 use Rattle.hp_mount_files.proofs.Pushing.{pushed}
 use Rattle.hp_lookup.proofs.Unique.{names_counted, none_found}

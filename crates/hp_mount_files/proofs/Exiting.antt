@@ -1,24 +1,16 @@
 use Rattle.std.proofs.lemmas.Grind.{common_steps}
 -- All maps of a task leave the files.
-use Rattle.std.proofs.Common.{◌≡◌, ℕ, ◌+◌, ◌-◌, ◌≤◌, ◌==◌, ◌||◌, ◌&&◌, nat_lt, Bool, true, false, not, cond, List, [], ◌∷◌, length, map, refl, sym, ap, ◌∙◌, arith}
-use Rattle.std.specs.Prelude.{is_some}
-use Rattle.std.specs.List.{count_by, filter, sum_by}
+use Rattle.std.proofs.Common.{◌≡◌, ℕ, ◌+◌, ◌-◌, ◌≤◌, ◌==◌, ◌||◌, ◌&&◌, nat_lt, Bool, true, false, not, cond, List, [], ◌∷◌, length, map, refl, sym, ap, ◌∙◌, arith, is_some, count_by, filter, sum_by}
 use Rattle.std.proofs.lemmas.Bool.{cases_lt, eqb-true}
 use Rattle.std.proofs.lemmas.Bool.Decides.{nat_tests}
 use Rattle.std.proofs.lemmas.List.{length-map}
 use Rattle.std.proofs.lemmas.List.Sums.{sum_by-cons}
 use Rattle.hp_laws.proofs.lists.Places.{sum_by-filter_le}
-use Rattle.hp_model.specs.files.GiveBack.{file_without, is_kept}
-use Rattle.hp_model.specs.files.Mapping.{Map, Mapping, is_map, is_of, map_punched}
+use Rattle.hp_model.proofs.Words.{Map, Mapping, file_without, is_kept, is_map, is_of, map_punched}
 use Rattle.hp_model.proofs.Counting.{count_cons, count_map}
 use Rattle.hp_store.specs.Store.{Store}
-use Rattle.hp_lookup.specs.Dropping.{IsDropping, IsLeft}
-use Rattle.hp_lookup.specs.Forking.{maps_named}
-use Rattle.hp_lookup.specs.Held.{in_file, in_files, in_map}
-use Rattle.hp_lookup.specs.Hints.{IsFiles, Noted, has_key}
-use Rattle.hp_lookup.specs.Keyed.{Label, is_key, key_of, keys_in, label_of, labels_of, maps_for}
-use Rattle.hp_lookup.specs.Leaving.{HaveMapsLeft, emptied, file_owed, is_used, left_by, map_sum}
-use Rattle.hp_lookup.specs.Numbered.{NumberedFile, file_shown, files_shown, map_shown, with_truncated}
+use Rattle.hp_lookup.proofs.Words.{HaveMapsLeft, IsDropping, IsFiles, IsLeft, Label, Noted, NumberedFile, emptied, file_owed, file_shown, files_shown, has_key, in_file, in_files, in_map, is_key}
+use Rattle.hp_lookup.proofs.Words.{is_used, key_of, keys_in, label_of, labels_of, left_by, map_shown, map_sum, maps_for, maps_named, with_truncated}
 use Rattle.hp_file.proofs.Cutting.{none_mapped}
 use Rattle.hp_file.proofs.Drops.{drop_as}
 use Rattle.hp_file.proofs.FileLeaves.{empty_file, others}

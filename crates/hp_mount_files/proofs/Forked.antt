@@ -1,28 +1,20 @@
 use Rattle.std.proofs.lemmas.Grind.{common_steps}
 -- Files whose maps of a parent are followed by a child's.
-use Rattle.std.proofs.Common.{◌≡◌, ℕ, zero, suc, ◌+◌, ◌-◌, ◌<◌, ◌≤◌, ◌==◌, ◌||◌, ◌&&◌, ⊎_elim, ◌⊎◌, inl, inr, nat_lt, Bool}
-use Rattle.std.proofs.Common.{true, false, cond, Some, None, List, [], ◌∷◌, ◌++◌, length, map, refl, sym, ap, ◌∙◌, arith}
-use Rattle.std.specs.Prelude.{is_some, slice_index_or}
-use Rattle.std.specs.List.{All, count_by, filter, sum_by}
+use Rattle.std.proofs.Common.{◌≡◌, ℕ, zero, suc, ◌+◌, ◌-◌, ◌<◌, ◌≤◌, ◌==◌, ◌||◌, ◌&&◌, ⊎_elim, ◌⊎◌, inl, inr, nat_lt, Bool, true, false, cond, Some, None, List, [], ◌∷◌, ◌++◌, length, map, refl, sym}
+use Rattle.std.proofs.Common.{ap, ◌∙◌, arith, is_some, slice_index_or, All, count_by, filter, sum_by}
 use Rattle.std.proofs.lemmas.Bool.{eqb-true, eq-eqb}
 use Rattle.std.proofs.lemmas.Bool.Decides.{nat_tests}
 use Rattle.std.proofs.lemmas.List.{get_or-map, length-append, length-map, map-append}
 use Rattle.std.proofs.lemmas.List.Elements.{All-cons}
 use Rattle.std.proofs.lemmas.List.Sums.{length-filter, sum_by-append, sum_by-cons}
 use Rattle.hp_laws.proofs.lists.Places.{sum_by-filter_le}
-use Rattle.hp_model.specs.declared.place.Place.{Place}
-use Rattle.hp_model.specs.declared.place.Place.TheVariants.{Gone, Live}
-use Rattle.hp_model.specs.files.File.{File}
-use Rattle.hp_model.specs.files.Mapping.{Mapping, copy_of, is_map, is_of, map_for, place_at, unconsumed}
+use Rattle.hp_laws.proofs.Variants.{Gone, Live, Place}
+use Rattle.hp_model.proofs.Words.{File, Mapping, copy_of, is_map, is_of, map_for, place_at, unconsumed}
 use Rattle.hp_model.proofs.Counting.{count_cons, count_map}
 use Rattle.hp_store.specs.Store.{Store}
-use Rattle.hp_lookup.specs.Forking.{IsSharing, children_of, with_children}
-use Rattle.hp_lookup.specs.Held.{IsHeld, in_cell, in_cells, in_file, in_files, in_map, in_place, more_in}
-use Rattle.hp_lookup.specs.Hints.{IsFiles, Noted, has_key, is_noted_as as has_noted}
-use Rattle.hp_lookup.specs.Keyed.{IsKeyed, Label, has_label, is_listed, key_of, keys_in, label_of, labels_of, maps_for}
-use Rattle.hp_lookup.specs.Leaving.{file_owed, map_sum, owed}
-use Rattle.hp_lookup.specs.Level.{AreLevel, copy_in}
-use Rattle.hp_lookup.specs.Numbered.{NumberedFile, file_shown, files_shown, map_shown, numbered_at, place_shown}
+use Rattle.hp_lookup.proofs.Words.{AreLevel, IsFiles, IsHeld, IsKeyed, IsSharing, Label, Noted, NumberedFile, children_of, copy_in, file_owed, file_shown, files_shown, has_key, has_label, in_cell}
+use Rattle.hp_lookup.proofs.Words.{in_cells, in_file, in_files, in_map, in_place, is_listed, is_noted_as as has_noted, key_of, keys_in, label_of, labels_of, map_shown, map_sum, maps_for, more_in}
+use Rattle.hp_lookup.proofs.Words.{numbered_at, owed, place_shown, with_children}
 use Rattle.hp_lookup.proofs.Cells.{no_file}
 use Rattle.hp_file.proofs.Cutting.{none_mapped}
 use Rattle.hp_mount_files.proofs.Exiting.{keys_are, maps_in}

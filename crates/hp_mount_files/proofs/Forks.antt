@@ -1,28 +1,17 @@
 use Rattle.std.proofs.lemmas.Grind.{common_steps}
 -- A fork as code leaves the files: maps of the child's number gone, and then the child's maps behind their parent's.
-use Rattle.std.proofs.Common.{◌≡◌, ℕ, suc, ◌+◌, ◌-◌, ◌<◌, ◌≤◌, ◌^◌, ◌==◌, ◌||◌, nat_lt, Bool, true, false, not, cond}
-use Rattle.std.proofs.Common.{None, max, replicate, List, [], ◌∷◌, ◌++◌, length, map, refl, sym, ap, subst, ◌∙◌, arith}
+use Rattle.std.proofs.Common.{◌≡◌, ℕ, suc, ◌+◌, ◌-◌, ◌<◌, ◌≤◌, ◌^◌, ◌==◌, ◌||◌, nat_lt, Bool, true, false, not, cond, None, max, replicate, List, [], ◌∷◌, ◌++◌, length, map, refl, sym, ap, subst, ◌∙◌}
+use Rattle.std.proofs.Common.{arith, is_some, All, count_by, filter, sum_by}
 use Rattle.std.specs.Global.{Vec}
-use Rattle.std.specs.Prelude.{is_some}
-use Rattle.std.specs.List.{All, count_by, filter, sum_by}
 use Rattle.std.proofs.lemmas.Bool.Decides.{nat_tests}
 use Rattle.std.proofs.lemmas.List.{append-nil, length-map}
 use Rattle.std.proofs.lemmas.List.Sums.{length-filter, sum_by-cons}
-use Rattle.hp_model.specs.files.File.{File}
-use Rattle.hp_model.specs.files.Fork.{file_forked}
-use Rattle.hp_model.specs.files.GiveBack.{file_without, is_kept}
-use Rattle.hp_model.specs.files.Mapping.{Map, Mapping, is_map, is_of, map_for, map_punched}
+use Rattle.hp_model.proofs.Words.{File, Map, Mapping, file_forked, file_without, is_kept, is_map, is_of, map_for, map_punched}
 use Rattle.hp_model.proofs.Counting.{count_not}
 use Rattle.hp_store.specs.Store.{Store, held_count, page_at}
-use Rattle.hp_lookup.specs.Dropping.{IsLeft, count_at}
-use Rattle.hp_lookup.specs.Files.{Files}
-use Rattle.hp_lookup.specs.Forking.{AreReady, HaveJoined, HaveNoted, HaveRoom, IsSharing, children_of, in_list, in_lists, joined, list_copies, maps_named, maps_by, with_children}
-use Rattle.hp_lookup.specs.Held.{in_map}
-use Rattle.hp_lookup.specs.Hints.{AreSame, IsFiles, Noted}
-use Rattle.hp_lookup.specs.Keyed.{IsKeyed, Label, is_listed, keys_in, label_of, labels_of, maps_for}
-use Rattle.hp_lookup.specs.Leaving.{HaveMapsLeft, emptied, is_used, left_by, map_sum}
-use Rattle.hp_lookup.specs.Numbered.{NumberedFile, files_shown, with_truncated}
-use Rattle.hp_lookup.specs.Places.{all_maps}
+use Rattle.hp_lookup.proofs.Words.{AreReady, AreSame, Files, HaveJoined, HaveMapsLeft, HaveNoted, HaveRoom, IsFiles, IsKeyed, IsLeft, IsSharing, Label, Noted, NumberedFile, all_maps, children_of}
+use Rattle.hp_lookup.proofs.Words.{count_at, emptied, files_shown, in_list, in_lists, in_map, is_listed, is_used, joined, keys_in, label_of, labels_of, left_by, list_copies, map_sum, maps_by}
+use Rattle.hp_lookup.proofs.Words.{maps_for, maps_named, with_children, with_truncated}
 use Rattle.hp_file.specs.HeldPages.{AreHeld}
 use Rattle.hp_file.proofs.Entering.{room_keeps, room_view}
 use Rattle.hp_mount_files.proofs.Exiting.{exit_files, exit_keeps, exit_keys, exit_left, keys_gone, named_labelled}

@@ -1,19 +1,13 @@
 -- A copy that one map alone holds, as code leaves it.
-use Rattle.std.proofs.Common.{◌≡◌, ℕ, ◌-◌, ◌<◌, ◌||◌, Bool, true, None, Some, List, length, sym, ap, ◌∙◌, arith}
-use Rattle.std.specs.Prelude.{slice_index_or, slice_set}
+use Rattle.std.proofs.Common.{◌≡◌, ℕ, ◌-◌, ◌<◌, ◌||◌, Bool, true, None, Some, List, length, sym, ap, ◌∙◌, arith, slice_index_or, slice_set}
 use Rattle.std.proofs.lemmas.Bool.{eq-eqb}
 use Rattle.std.proofs.lemmas.List.{get_or-set_same, length-map, length-set}
 use Rattle.hp_mapping.specs.Mapped.{at_place}
-use Rattle.hp_model.specs.declared.place.Place.TheVariants.{Live}
-use Rattle.hp_model.specs.files.File.{File}
-use Rattle.hp_model.specs.files.Mapping.{copy_of, place_at}
-use Rattle.hp_model.specs.files.Page.{Page}
+use Rattle.hp_laws.proofs.Variants.{Live}
+use Rattle.hp_model.proofs.Words.{File, Page, copy_of, place_at}
 use Rattle.hp_store.specs.Store.{Store, holders_of, inserted, page_at}
 use Rattle.hp_lookup.specs.declared.copy_state.CopyState.TheVariants as state
-use Rattle.hp_lookup.specs.Files.{file_at}
-use Rattle.hp_lookup.specs.Held.{IsHeld}
-use Rattle.hp_lookup.specs.Numbered.{NumberedFile, copy_shown, file_shown, files_shown, map_shown, mapping_at}
-use Rattle.hp_lookup.specs.Places.{map_among}
+use Rattle.hp_lookup.proofs.Words.{IsHeld, NumberedFile, copy_shown, file_at, file_shown, files_shown, map_among, map_shown, mapping_at}
 use Rattle.hp_file.specs.States.{IsCopyState}
 use Rattle.hp_file.specs.Taking.{first_copy}
 use Rattle.hp_lookup.proofs.Cells.{file_is, inserted_is, no_file}

@@ -1,18 +1,12 @@
 use Rattle.std.proofs.lemmas.Grind.{common_steps}
 -- What is said of the files as a caller sees them is so of them as the fields show them, and of the file and map that code reads.
-use Rattle.std.proofs.Common.{◌≡◌, ℕ, ◌<◌, true, None, Some, List, length, refl, ap, subst, sym, ◌∙◌, arith}
-use Rattle.std.specs.Prelude.{IsSome, slice_index_or}
+use Rattle.std.proofs.Common.{◌≡◌, ℕ, ◌<◌, true, None, Some, List, length, refl, ap, subst, sym, ◌∙◌, arith, IsSome, slice_index_or}
 use Rattle.std.proofs.lemmas.List.{get_or_default, length-map}
-use Rattle.hp_model.specs.declared.place.Place.{Place}
-use Rattle.hp_model.specs.declared.place.Place.TheVariants.{Gone, Live}
-use Rattle.hp_model.specs.files.Mapping.{copy_of, is_live, place_at}
-use Rattle.hp_model.specs.files.Page.{Copy}
+use Rattle.hp_laws.proofs.Variants.{Gone, Live, Place}
+use Rattle.hp_model.proofs.Words.{Copy, copy_of, is_live, place_at}
 use Rattle.hp_store.specs.Store.{Store}
 use Rattle.hp_lookup.specs.declared.copy_state.CopyState.{CopyState}
-use Rattle.hp_lookup.specs.Files.{Files, file_at}
-use Rattle.hp_lookup.specs.Held.{IsHeld, in_file, in_files}
-use Rattle.hp_lookup.specs.Numbered.{NumberedFile, files_shown, mapping_at, numbered_at, place_shown}
-use Rattle.hp_lookup.specs.Places.{map_among}
+use Rattle.hp_lookup.proofs.Words.{Files, IsHeld, NumberedFile, file_at, files_shown, in_file, in_files, map_among, mapping_at, numbered_at, place_shown}
 use Rattle.hp_lookup.proofs.Cells.{file_is, no_file}
 use Rattle.hp_lookup.proofs.Lifting.{at_most}
 use Rattle.hp_lookup.proofs.Views.{files_len, map_seen, place_seen, read_is, view}

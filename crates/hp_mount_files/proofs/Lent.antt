@@ -1,20 +1,12 @@
 use Rattle.std.proofs.lemmas.Grind.{common_steps}
 -- What a lent file and a lent map show is so of what they stand for.
-use Rattle.std.proofs.Common.{◌≡◌, ◌≤◌, ℕ, ◌+◌, ◌-◌, ◌&&◌, [], ◌∷◌, None, Some, false, true, length, drop, take, sym, ap, refl, ◌∙◌, arith}
-use Rattle.std.specs.List.{count_by}
+use Rattle.std.proofs.Common.{◌≡◌, ◌≤◌, ℕ, ◌+◌, ◌-◌, ◌&&◌, [], ◌∷◌, None, Some, false, true, length, drop, take, sym, ap, refl, ◌∙◌, arith, count_by}
 use Rattle.std.proofs.lemmas.List.{length-map}
-use Rattle.hp_model.specs.declared.place.Place.{Place}
-use Rattle.hp_model.specs.declared.place.Place.TheVariants.{Gone, Live}
-use Rattle.hp_model.specs.declared.cell.Cell.TheVariants.{Present}
-use Rattle.hp_model.specs.files.Page.{Page}
-use Rattle.hp_model.specs.files.File.{File, at_least, cell_at, has_page, is_entered, is_hole}
-use Rattle.hp_model.specs.files.Fill.{lacking, lacks_page}
-use Rattle.hp_model.specs.files.Mapping.{Map, Mapping, is_live, is_shared, is_unconsumed, place_at}
-use Rattle.hp_model.specs.Lists.{part}
-use Rattle.hp_model.specs.machine.SlotEvent.{unentered}
+use Rattle.hp_laws.proofs.Variants.{Gone, Live, Place, Present}
+use Rattle.hp_model.proofs.Words.{File, Map, Mapping, Page, at_least, cell_at, has_page, is_entered, is_hole, is_live, is_shared, is_unconsumed, lacking, lacks_page, part, place_at, unentered}
 use Rattle.hp_store.specs.Store.{Store}
 use Rattle.hp_mapping.specs.Mapped.{has_reserve}
-use Rattle.hp_lookup.specs.Numbered.{NumberedFile, cell_shown, map_shown, place_shown}
+use Rattle.hp_lookup.proofs.Words.{NumberedFile, cell_shown, map_shown, place_shown}
 use Rattle.hp_lookup.proofs.Holes.{asked_shown}
 use Rattle.hp_lookup.proofs.Views.{entries_shown, pages_shown, shown_place}
 use Rattle.hp_file.proofs.Filling.{lacking_shown}

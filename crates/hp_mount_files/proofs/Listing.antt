@@ -1,11 +1,11 @@
 -- The names of files, one after another.
-use Rattle.std.proofs.Common.{◌≡◌, ℕ, ◌≤◌, List, [], ◌∷◌, ◌++◌, None, Some, length, take, refl, ap, ◌∙◌}
-use Rattle.std.specs.List.{All, cons_option, filter_map}
+use Rattle.std.proofs.Common.{◌≡◌, ℕ, ◌≤◌, List, [], ◌∷◌, ◌++◌, None, Some, length, take, refl, ap, ◌∙◌, All, filter_map}
+use Rattle.std.specs.List.{cons_option}
 use Rattle.std.proofs.lemmas.List.{append-nil}
 use Rattle.std.proofs.lemmas.List.Elements.{All-append, All-cons, All-nil, filter_map-append}
-use Rattle.hp_model.specs.files.File.{File}
+use Rattle.hp_model.proofs.Words.{File}
 use Rattle.hp_store.specs.Store.{Store}
-use Rattle.hp_lookup.specs.Numbered.{NumberedFile, files_shown}
+use Rattle.hp_lookup.proofs.Words.{NumberedFile, files_shown}
 
 abbrev pub names_in : List NumberedFile → List (List ℕ)
 names_in fs = filter_map (λ f. f.name) fs

@@ -3,8 +3,7 @@ use Rattle.std.proofs.lemmas.Grind.{common_steps}
 use Rattle.std.proofs.Common.{◌≡◌, ℕ, ◌+◌, ◌-◌, min, None, List, ◌++◌, length, replicate, sym, ap, ◌∙◌, arith}
 use Rattle.std.proofs.lemmas.List.Sums.{sum_by-append}
 use Rattle.hp_store.specs.Store.{Store, page_at}
-use Rattle.hp_lookup.specs.Numbered.{NumberedFile, files_shown}
-use Rattle.hp_lookup.specs.Held.{IsHeld, more_in}
+use Rattle.hp_lookup.proofs.Words.{IsHeld, NumberedFile, files_shown, more_in}
 use Rattle.hp_lookup.proofs.Lifting.{files_same}
 use Rattle.hp_lookup.proofs.Cells.{free_is_fresh}
 use Rattle.hp_lookup.proofs.Views.{view}

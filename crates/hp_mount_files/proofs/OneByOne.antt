@@ -1,14 +1,10 @@
 -- A task's maps leave one by one.
-use Rattle.std.proofs.Common.{◌≡◌, ℕ, ◌==◌, ◌||◌, Bool, true, false, not, cond, None, List, [], ◌∷◌, map, refl, sym, ap, ◌∙◌}
-use Rattle.std.specs.List.{filter, list_any}
+use Rattle.std.proofs.Common.{◌≡◌, ℕ, ◌==◌, ◌||◌, Bool, true, false, not, cond, None, List, [], ◌∷◌, map, refl, sym, ap, ◌∙◌, filter}
+use Rattle.std.specs.List.{list_any}
 use Rattle.std.proofs.lemmas.Bool.{and_parts}
 use Rattle.hp_laws.proofs.ending.Swept.{without_after, without_none}
-use Rattle.hp_model.specs.files.File.{File, Mount}
-use Rattle.hp_model.specs.files.GiveBack.{file_unmapped, file_without, is_kept, is_left, map_unmapped}
-use Rattle.hp_model.specs.files.Mapping.{Map, is_map, is_mapped, is_of, without_range}
-use Rattle.hp_model.specs.Lists.{is_among}
-use Rattle.hp_lookup.specs.Asking.{is_first_of}
-use Rattle.hp_lookup.specs.Places.{all_maps, all_tasks, mount_with}
+use Rattle.hp_model.proofs.Words.{File, Map, Mount, file_unmapped, file_without, is_among, is_kept, is_left, is_map, is_mapped, is_of, map_unmapped, without_range}
+use Rattle.hp_lookup.proofs.Words.{all_maps, all_tasks, is_first_of, mount_with}
 use Rattle.hp_lookup.proofs.MapNumbers.{among_distinct}
 
 -- a mount of some files

@@ -1,26 +1,17 @@
 use Rattle.std.proofs.lemmas.Grind.{common_steps}
 -- A map parts from the others that hold its copy: it gets a page of its own.
-use Rattle.std.proofs.Common.{◌≡◌, ◌≢◌, ℕ, ◌+◌, ◌-◌, ◌<◌, ◌==◌, Bool, true, false, cond, Option, None, Some, List, [], ◌∷◌, ◌++◌, zero, suc, length, refl, sym, ap, subst, ◌∙◌, arith}
-use Rattle.std.specs.Prelude.{slice_index_or, slice_set}
-use Rattle.std.specs.List.{count_by}
+use Rattle.std.proofs.Common.{◌≡◌, ◌≢◌, ℕ, ◌+◌, ◌-◌, ◌<◌, ◌==◌, Bool, true, false, cond, Option, None, Some, List, [], ◌∷◌, ◌++◌, zero, suc, length, refl, sym, ap, subst, ◌∙◌, arith, slice_index_or}
+use Rattle.std.proofs.Common.{slice_set, count_by}
 use Rattle.std.proofs.lemmas.Bool.{eqb-false}
 use Rattle.std.proofs.lemmas.Bool.Decides.{eqb_tells, nat_tests}
 use Rattle.std.proofs.lemmas.List.{get_or_default}
 use Rattle.hp_mapping.specs.Mapped.{at_place, with_copy}
-use Rattle.hp_model.specs.declared.place.Place.{Place}
-use Rattle.hp_model.specs.declared.place.Place.TheVariants.{Gone, Live}
-use Rattle.hp_model.specs.files.Mapping.{Mapping, copy_of, is_live, place_at}
-use Rattle.hp_model.specs.files.MountCounts.{stamps_of}
-use Rattle.hp_model.specs.files.Page.{Copy, Page}
+use Rattle.hp_laws.proofs.Variants.{Gone, Live, Place}
+use Rattle.hp_model.proofs.Words.{Copy, Mapping, Page, copy_of, is_live, place_at, stamps_of}
 use Rattle.hp_store.specs.Store as store
 use Rattle.hp_store.specs.Store.{Holding, Store, holders_of, inserted, page_at}
 use Rattle.hp_lookup.specs.declared.copy_state.CopyState.TheVariants as state
-use Rattle.hp_lookup.specs.Dropping.{IsDropping}
-use Rattle.hp_lookup.specs.Files.{file_at, parted_at}
-use Rattle.hp_lookup.specs.Held.{IsHeld, in_place, more_in}
-use Rattle.hp_lookup.specs.Level.{AreLevel}
-use Rattle.hp_lookup.specs.Numbered.{NumberedFile, files_shown, mapping_at, numbered_at, place_shown}
-use Rattle.hp_lookup.specs.Places.{map_among}
+use Rattle.hp_lookup.proofs.Words.{AreLevel, IsDropping, IsHeld, NumberedFile, file_at, files_shown, in_place, map_among, mapping_at, more_in, numbered_at, parted_at, place_shown}
 use Rattle.hp_file.specs.States.{IsCopyState}
 use Rattle.hp_lookup.proofs.Cells.{free_is_fresh, no_file, inserted_agrees, inserted_is, inserted_more, some_put}
 use Rattle.hp_file.proofs.Copies.{fresh_stands, with_copy_at}

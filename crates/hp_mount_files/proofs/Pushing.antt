@@ -1,17 +1,13 @@
 use Rattle.std.proofs.lemmas.Grind.{common_steps}
 -- A file more, at which no number stands.
-use Rattle.std.proofs.Common.{◌≡◌, ℕ, zero, suc, ◌+◌, ◌<◌, ◌≤◌, Bool, true, false, cond, List, [], ◌∷◌, ◌++◌, length, refl, sym, ap, subst, arith}
-use Rattle.std.specs.List.{All, count_by, sum_by}
+use Rattle.std.proofs.Common.{◌≡◌, ℕ, zero, suc, ◌+◌, ◌<◌, ◌≤◌, Bool, true, false, cond, List, [], ◌∷◌, ◌++◌, length, refl, sym, ap, subst, arith, All, count_by, sum_by}
 use Rattle.std.proofs.lemmas.Bool.{cases_lt}
 use Rattle.std.proofs.lemmas.List.{map-append}
 use Rattle.std.proofs.lemmas.List.Elements.{All-append, All-cons, All-nil}
 use Rattle.std.proofs.lemmas.List.Sums.{sum_by_push}
 use Rattle.hp_store.specs.Store.{Store}
-use Rattle.hp_lookup.specs.Held.{IsHeld, in_cell, in_cells, in_file, in_files}
-use Rattle.hp_lookup.specs.Hints.{AreNoted, IsFiles, IsMore, Noted, has_key, is_noted_as as has_noted}
-use Rattle.hp_lookup.specs.Keyed.{IsKeyed, Label, has_label, is_listed, keys_in, label_of, labels_of, maps_for}
-use Rattle.hp_lookup.specs.Level.{AreLevel}
-use Rattle.hp_lookup.specs.Numbered.{NumberedFile, numbered_at}
+use Rattle.hp_lookup.proofs.Words.{AreLevel, AreNoted, IsFiles, IsHeld, IsKeyed, IsMore, Label, Noted, NumberedFile, has_key, has_label, in_cell, in_cells, in_file, in_files, is_listed}
+use Rattle.hp_lookup.proofs.Words.{is_noted_as as has_noted, keys_in, label_of, labels_of, maps_for, numbered_at}
 
 module _ (old now : Noted) (s : Store) (more maps : ℕ) (tally : ℕ → ℕ) (fs : List NumberedFile) (is : IsFiles old s more maps tally fs) (f : NumberedFile) (bare : (n : ℕ) → in_file n f ≡ 0) where
   abbrev gs : List NumberedFile

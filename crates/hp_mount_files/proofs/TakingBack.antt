@@ -1,8 +1,8 @@
 use Rattle.std.proofs.lemmas.Grind.{common_steps}
 -- A map takes its copy back from all others that hold it.
 use Rattle.std.proofs.Common.{◌≡◌, ◌≢◌, ℕ, zero, suc, ◌+◌, ◌-◌, ◌<◌, ◌≤◌, ◌==◌, ⊎_elim, Bool, true, false, cond, nat_lt, None, Some, List, [], ◌∷◌, length, map, refl, sym, ap, ◌∙◌, arith}
-use Rattle.std.specs.Prelude.{slice_index_or, slice_set}
-use Rattle.std.specs.List.{list_any, sum_by}
+use Rattle.std.proofs.Common.{slice_index_or, slice_set, sum_by}
+use Rattle.std.specs.List.{list_any}
 use Rattle.std.proofs.lemmas.Bool.{cond_both, eq-eqb, eqb-true}
 use Rattle.std.proofs.lemmas.Bool.Decides.{eqb_tells}
 use Rattle.std.proofs.lemmas.List.{get_or-map, get_or-set_other, get_or-set_same, length-map, length-set, map-set}
@@ -12,23 +12,11 @@ use Rattle.hp_laws.proofs.steps.CopyWrites.{takes_back}
 use Rattle.hp_laws.proofs.counts.Copies.{live_of}
 use Rattle.hp_mapping.proofs.Ranges.{at_start}
 use Rattle.hp_mapping.specs.Mapped.{at_place}
-use Rattle.hp_model.specs.declared.place.Place.{Place}
-use Rattle.hp_model.specs.declared.place.Place.TheVariants.{Gone, Live}
-use Rattle.hp_model.specs.files.CopyWrite.{drop_stamp, holds, robbed}
-use Rattle.hp_model.specs.files.File.{File, with_map}
-use Rattle.hp_model.specs.files.Mapping.{Map, Mapping, copy_of, place_at, without_copy}
-use Rattle.hp_model.specs.files.MountCounts.{file_reserves}
-use Rattle.hp_model.specs.files.Page.{Copy}
-use Rattle.hp_model.specs.machine.Promises.{no_map}
+use Rattle.hp_laws.proofs.Variants.{Gone, Live, Place}
+use Rattle.hp_model.proofs.Words.{Copy, File, Map, Mapping, copy_of, drop_stamp, file_reserves, holds, no_map, place_at, robbed, with_map, without_copy}
 use Rattle.hp_store.specs.Store.{Store}
-use Rattle.hp_lookup.specs.Dropping.{IsDropping, IsLeft}
-use Rattle.hp_lookup.specs.Files.{file_at, taken_back_at}
-use Rattle.hp_lookup.specs.Held.{in_cell, in_file, in_map, in_place, more_in}
-use Rattle.hp_lookup.specs.Hints.{IsFiles, Noted}
-use Rattle.hp_lookup.specs.Places.{map_among}
-use Rattle.hp_lookup.specs.Keyed.{key_of, label_of}
-use Rattle.hp_lookup.specs.Level.{AreLevel, copy_in}
-use Rattle.hp_lookup.specs.Numbered.{NumberedFile, copy_shown, file_shown, files_shown, map_shown, mapping_at, no_mapping, place_shown}
+use Rattle.hp_lookup.proofs.Words.{AreLevel, IsDropping, IsFiles, IsLeft, Noted, NumberedFile, copy_in, copy_shown, file_at, file_shown, files_shown, in_cell, in_file, in_map, in_place, key_of}
+use Rattle.hp_lookup.proofs.Words.{label_of, map_among, map_shown, mapping_at, more_in, no_mapping, place_shown, taken_back_at}
 use Rattle.hp_file.specs.States.{IsCopyState}
 use Rattle.hp_lookup.specs.declared.copy_state.CopyState.TheVariants as state
 use Rattle.hp_file.specs.Taking.{has_number, robbed_at, with_taken_back}

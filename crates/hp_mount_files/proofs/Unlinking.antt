@@ -1,8 +1,7 @@
 use Rattle.std.proofs.lemmas.Grind.{common_steps}
 -- A file that loses its name, and goes where it has no maps.
 use Rattle.std.proofs.Common.{◌≡◌, ◌==◌, ℕ, zero, suc, ◌+◌, ◌<◌, ◌≤◌, nat_lt, ⊎_elim, Bool, true, false, cond, Option, None, Some, List, [], ◌∷◌, length, map, refl, sym, ap, subst, ◌∙◌, arith}
-use Rattle.std.specs.Prelude.{slice_set, slice_index_or}
-use Rattle.std.specs.List.{All, count_by, filter, remove, sum_by}
+use Rattle.std.proofs.Common.{slice_set, slice_index_or, All, count_by, filter, remove, sum_by}
 use Rattle.std.specs.Str.{bytes_eq}
 use Rattle.std.proofs.lemmas.Slice.Eq.{bytes_eq-Decides}
 use Rattle.std.proofs.lemmas.Bool.{cases_lt}
@@ -12,20 +11,12 @@ use Rattle.std.proofs.lemmas.List.Edits.{get_or-remove_above, get_or-remove_belo
 use Rattle.std.proofs.lemmas.List.Elements.{All-cons, All-set}
 use Rattle.std.proofs.lemmas.List.Sums.{sum_by-remove, sum_by-set}
 use Rattle.indexmap.proofs.SetLemmas.{map-remove}
-use Rattle.hp_model.specs.files.File.{new_file}
-use Rattle.hp_model.specs.files.GiveBack.{is_kept, unlinked}
-use Rattle.hp_model.specs.files.MountCounts.{file_reserves, is_waiting, owner_reserves}
-use Rattle.hp_model.specs.machine.SlotEvent.{has_name}
+use Rattle.hp_model.proofs.Words.{file_reserves, has_name, is_kept, is_waiting, new_file, owner_reserves, unlinked}
 use Rattle.hp_laws.proofs.lists.Places.{found_place}
 use Rattle.hp_store.specs.Store.{Store, holders_of, page_at}
-use Rattle.hp_lookup.specs.Dropping.{IsDropping, IsLeft}
-use Rattle.hp_lookup.specs.Files.{edited_at, file_at}
-use Rattle.hp_lookup.specs.Held.{IsHeld, in_cell, in_cells, in_file, in_files, more_in}
-use Rattle.hp_lookup.specs.Hints.{AreNoted, IsFiles, IsMoreBut, Noted, is_noted_as as has_noted}
-use Rattle.hp_lookup.specs.Keyed.{Label, has_label, is_key, is_listed, is_name_of, key_of, keys_in, label_of, labels_of, maps_for}
-use Rattle.hp_lookup.specs.Places.{IsNamed}
-use Rattle.hp_lookup.specs.Level.{AreLevel}
-use Rattle.hp_lookup.specs.Numbered.{NumberedFile, file_shown, files_shown, map_shown, numbered_at}
+use Rattle.hp_lookup.proofs.Words.{AreLevel, AreNoted, IsDropping, IsFiles, IsHeld, IsLeft, IsMoreBut, IsNamed, Label, Noted, NumberedFile, edited_at, file_at, file_shown, files_shown, has_label}
+use Rattle.hp_lookup.proofs.Words.{in_cell, in_cells, in_file, in_files, is_key, is_listed, is_name_of, is_noted_as as has_noted, key_of, keys_in, label_of, labels_of, map_shown, maps_for, more_in}
+use Rattle.hp_lookup.proofs.Words.{numbered_at}
 use Rattle.hp_lookup.proofs.Alike.{alike_held}
 use Rattle.hp_lookup.proofs.Cells.{file_is, no_file}
 use Rattle.hp_lookup.proofs.GivingBack.{all_kept, in_all, kept_label, waits_shown}

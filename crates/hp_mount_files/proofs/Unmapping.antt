@@ -1,35 +1,22 @@
 use Rattle.std.proofs.lemmas.Grind.{common_steps}
 -- Indices of one map leave it, and the map goes with its last one.
-use Rattle.std.proofs.Common.{◌≡◌, ◌≢◌, ℕ, zero, suc, ◌+◌, ◌-◌, ◌<◌, ◌≤◌, ◌^◌, ◌==◌, ◌||◌, nat_lt, Bool, true, false}
-use Rattle.std.proofs.Common.{not, cond, Option, None, Some, List, [], ◌∷◌, length, map, refl, sym, ap, subst, ◌∙◌, arith}
-use Rattle.std.specs.Prelude.{is_some, slice_index_or, slice_set}
-use Rattle.std.specs.List.{count_by, filter, list_any, remove, sum_by}
-use Rattle.std.specs.Option.{option_map}
+use Rattle.std.proofs.Common.{◌≡◌, ◌≢◌, ℕ, zero, suc, ◌+◌, ◌-◌, ◌<◌, ◌≤◌, ◌^◌, ◌==◌, ◌||◌, nat_lt, Bool, true, false, not, cond, Option, None, Some, List, [], ◌∷◌, length, map, refl, sym, ap, subst}
+use Rattle.std.proofs.Common.{◌∙◌, arith, is_some, slice_index_or, slice_set, count_by, filter, remove, sum_by, option_map}
+use Rattle.std.specs.List.{list_any}
 use Rattle.std.proofs.lemmas.Bool.{and_parts, eqb-true}
 use Rattle.std.proofs.lemmas.Bool.Decides.{nat_tests}
 use Rattle.std.proofs.lemmas.List.{get_or-map, get_or-set_same, length-map, length-set}
 use Rattle.std.proofs.lemmas.List.Edits.{length-remove}
 use Rattle.std.proofs.lemmas.List.Sums.{sum_by-remove, sum_by-set}
 use Rattle.hp_laws.proofs.lists.Places.{found_place, sum_by-filter_le, sum_by-map_le}
-use Rattle.hp_model.specs.declared.limits.Limits.{Limits}
-use Rattle.hp_model.specs.declared.place.Place.{Place}
-use Rattle.hp_model.specs.declared.place.Place.TheVariants.{Gone, Live}
-use Rattle.hp_model.specs.files.File.{File, Mount}
-use Rattle.hp_model.specs.files.GiveBack.{file_unmapped, is_kept, is_left, map_unmapped}
-use Rattle.hp_model.specs.files.Mapping.{Map, Mapping, copy_of, place_at, is_live, is_map, is_mapped, is_of, no_map, without_range}
-use Rattle.hp_model.specs.files.Spot.{Spot, spot, spot_in}
-use Rattle.hp_model.specs.Lists.{found}
+use Rattle.hp_laws.proofs.Variants.{Gone, Limits, Live, Place}
+use Rattle.hp_model.proofs.Words.{File, Map, Mapping, Mount, Spot, copy_of, file_unmapped, found, is_kept, is_left, is_live, is_map, is_mapped, is_of, map_unmapped, no_map, place_at, spot, spot_in}
+use Rattle.hp_model.proofs.Words.{without_range}
 use Rattle.hp_model.proofs.Counting.{count_cons}
 use Rattle.hp_store.specs.Store.{Store, holders_of, page_at}
-use Rattle.hp_lookup.specs.Dropping.{IsDropping, IsLeft}
-use Rattle.hp_lookup.specs.Files.{file_at}
-use Rattle.hp_lookup.specs.Held.{in_file, in_files, in_map, more_in}
-use Rattle.hp_lookup.specs.Hints.{AreNoted, IsFiles, Noted, has_key, is_pair}
-use Rattle.hp_lookup.specs.Keyed.{Label, is_listed, key_of, keys_in, label_of, labels_of, maps_for}
-use Rattle.hp_lookup.specs.Level.{AreLevel}
-use Rattle.hp_lookup.specs.Leaving.{IsMoreButMap, cut_map, file_owed, is_used, left_at, left_from, map_sum, stays, swept_at}
-use Rattle.hp_lookup.specs.Numbered.{NumberedFile, file_shown, files_shown, map_shown, mapping_at, no_mapping, numbered_at, place_shown}
-use Rattle.hp_lookup.specs.Places.{IsFound, mount_with, spot_of}
+use Rattle.hp_lookup.proofs.Words.{AreLevel, AreNoted, IsDropping, IsFiles, IsFound, IsLeft, IsMoreButMap, Label, Noted, NumberedFile, cut_map, file_at, file_owed, file_shown, files_shown, has_key}
+use Rattle.hp_lookup.proofs.Words.{in_file, in_files, in_map, is_listed, is_pair, is_used, key_of, keys_in, label_of, labels_of, left_at, left_from, map_shown, map_sum, mapping_at, maps_for, more_in}
+use Rattle.hp_lookup.proofs.Words.{mount_with, no_mapping, numbered_at, place_shown, spot_of, stays, swept_at}
 use Rattle.hp_lookup.proofs.Cells.{file_is, no_file}
 use Rattle.hp_file.proofs.Drops.{drop_as, drop_then}
 use Rattle.hp_file.proofs.Ended.{removed_set}

@@ -1,24 +1,18 @@
 -- The least number that is not used, and which numbers a task's maps have.
-use Rattle.std.proofs.Common.{◌≡◌, ℕ, ◌+◌, ◌-◌, ◌<◌, ◌≤◌, ◌==◌, ◌&&◌, ◌||◌, ⊎_elim, subst, Bool, true, false, not}
-use Rattle.std.proofs.Common.{cond, Option, None, Some, List, [], ◌∷◌, ◌++◌, length, map, refl, sym, ap, ◌∙◌, arith}
-use Rattle.std.specs.Prelude.{is_some, IfNone, IfSome}
-use Rattle.std.specs.List.{filter, list_any, position_or_len, range_with_len}
-use Rattle.std.specs.Option.{option_map}
+use Rattle.std.proofs.Common.{◌≡◌, ℕ, ◌+◌, ◌-◌, ◌<◌, ◌≤◌, ◌==◌, ◌&&◌, ◌||◌, ⊎_elim, subst, Bool, true, false, not, cond, Option, None, Some, List, [], ◌∷◌, ◌++◌, length, map, refl, sym, ap, ◌∙◌}
+use Rattle.std.proofs.Common.{arith, is_some, IfNone, IfSome, filter, option_map}
+use Rattle.std.specs.List.{list_any, position_or_len, range_with_len}
 use Rattle.std.proofs.lemmas.Bool.{cases_lt}
 use Rattle.std.proofs.lemmas.List.{map-append}
 use Rattle.std.proofs.lemmas.List.Elements.{filter-append}
 use Rattle.std.proofs.lemmas.List.FromFn.{get_or-range_with_len, length-range_with_len}
 use Rattle.std.proofs.lemmas.List.Sums.{position_or_len_is}
-use Rattle.hp_model.specs.declared.limits.Limits.{Limits}
-use Rattle.hp_model.specs.files.File.{File}
-use Rattle.hp_model.specs.Lists.{distinct, found, is_among, least_unused, one_on}
-use Rattle.hp_model.specs.files.MakeMap.{numbers_of}
-use Rattle.hp_model.specs.files.Mapping.{Map, is_map, is_of}
-use Rattle.hp_model.specs.files.Spot.{spot, spot_in}
+use Rattle.hp_laws.proofs.Variants.{Limits}
+use Rattle.hp_model.proofs.Words.{File, Map, distinct, found, is_among, is_map, is_of, least_unused, numbers_of, one_on, spot, spot_in}
 use Rattle.hp_model.proofs.Counting.{count_not, count_outside}
 use Rattle.hp_model.proofs.Distinct.{is_among-append}
 use Rattle.hp_lookup.specs.declared.map_place.MapPlace.{MapPlace}
-use Rattle.hp_lookup.specs.Places.{all_maps, has_it, mount_with, IsFound, IsMissing}
+use Rattle.hp_lookup.proofs.Words.{IsFound, IsMissing, all_maps, has_it, mount_with}
 use Rattle.hp_lookup.proofs.MapNumbers.{among_distinct, few_among}
 
 -- ---- the numbers below n are used

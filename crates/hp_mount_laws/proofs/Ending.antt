@@ -1,18 +1,9 @@
 -- Pages and reservations that go back, by what code did.
-use Rattle.std.proofs.Common.{◌≡◌, ℕ, suc, zero, ◌+◌, ◌-◌, ◌<◌, ◌==◌, ◌&&◌, Bool, true, false, List, ◌∷◌, Some, None, Ok, map, refl, sym, ap, subst, ◌∙◌, arith}
-use Rattle.std.specs.List.{count_by, range_with_len, sum}
+use Rattle.std.proofs.Common.{◌≡◌, ℕ, suc, zero, ◌+◌, ◌-◌, ◌<◌, ◌==◌, ◌&&◌, Bool, true, false, List, ◌∷◌, Some, None, Ok, map, refl, sym, ap, subst, ◌∙◌, arith, count_by, sum}
+use Rattle.std.specs.List.{range_with_len}
 use Rattle.std.proofs.lemmas.Bool.{and_parts, cond_both, eqb-true}
-use Rattle.hp_model.specs.declared.answer.Answer.{Answer}
-use Rattle.hp_model.specs.declared.answer.Answer.TheVariants.{Done}
-use Rattle.hp_model.specs.files.File.{Mount}
-use Rattle.hp_model.specs.threads.LocalRun.{ThroughDoor}
-use Rattle.hp_model.specs.files.MountCounts.{committed_of, pages_at}
-use Rattle.hp_model.specs.files.Page.{Page}
-use Rattle.hp_model.specs.machine.Plan.{Answered, Ask, Finish, Slot, fall_of, gives, puts_of, slot_pages_at}
-use Rattle.hp_model.specs.declared.section.PoolAnswer.{PoolAnswer}
-use Rattle.hp_model.specs.declared.section.Section.{Section}
-use Rattle.hp_model.specs.declared.section.Section.TheVariants.{GiveBack}
-use Rattle.hp_model.specs.pool.Pool.{granted_at}
+use Rattle.hp_laws.proofs.Variants.{Answer, Done, GiveBack, PoolAnswer, Section}
+use Rattle.hp_model.proofs.Words.{Answered, Ask, Finish, Mount, Page, Slot, ThroughDoor, committed_of, fall_of, gives, granted_at, pages_at, puts_of, slot_pages_at}
 use Rattle.hp_mount_door.specs.Door.{GivesBack, by_node}
 
 module _ {X : Type 0} (took : X → Section → PoolAnswer → X → Type 0) (answer : Answer) (old new : Slot) (pages : List Page) (commitments : ℕ)

@@ -1,21 +1,13 @@
 -- A fork on a mount, by what code did.
-use Rattle.std.proofs.Common.{◌≡◌, ℕ, ◌+◌, ◌-◌, ◌<◌, ◌≤◌, ◌==◌, ◌||◌, ⊎_elim, Bool, true, false, cond, nat_lt, List, [], ◌∷◌, Some, Ok, Err, length, refl, sym, ap, subst, ◌∙◌, arith}
+use Rattle.std.proofs.Common.{◌≡◌, ℕ, ◌+◌, ◌-◌, ◌<◌, ◌≤◌, ◌==◌, ◌||◌, ⊎_elim, Bool, true, false, cond, nat_lt, List, [], ◌∷◌, Some, Ok, Err, length, refl, sym, ap, subst, ◌∙◌, arith, count_by}
 use Rattle.std.proofs.lemmas.Bool.{cases_lt}
 use Rattle.std.proofs.lemmas.Bool.Decides.{nat_tests}
-use Rattle.hp_model.specs.declared.answer.Answer.TheVariants.{Done}
+use Rattle.hp_laws.proofs.Variants.{Done, PoolAnswer, Section}
 use Rattle.hp_model.specs.declared.refusal.Refusal.TheVariants as r
-use Rattle.hp_model.specs.declared.section.PoolAnswer.{PoolAnswer}
-use Rattle.hp_model.specs.declared.section.Section.{Section}
-use Rattle.hp_model.specs.files.File.{Mount, maps_of}
-use Rattle.hp_model.specs.files.Fork.{forked}
-use Rattle.hp_model.specs.files.MakeMap.{tasks_of}
-use Rattle.hp_model.specs.machine.Plan.{Plan, gives}
-use Rattle.hp_model.specs.machine.SlotEvent.{fork_maps, fork_tests}
-use Rattle.hp_model.specs.threads.LocalRun.{ThroughDoor}
-use Rattle.std.specs.List.{count_by, list_any}
-use Rattle.hp_model.specs.files.Mapping.{Map, is_of}
+use Rattle.hp_model.proofs.Words.{Map, Mount, Plan, ThroughDoor, fork_maps, fork_tests, forked, gives, is_of, maps_of, tasks_of}
+use Rattle.std.specs.List.{list_any}
 use Rattle.hp_model.proofs.Counting.{count_cons}
-use Rattle.hp_lookup.specs.Places.{all_maps, all_tasks}
+use Rattle.hp_lookup.proofs.Words.{all_maps, all_tasks}
 use Rattle.hp_lookup.proofs.ForkCounts.{count_after, tasks_after}
 use Rattle.hp_mount_laws.specs.Done.{Tried}
 use Rattle.hp_mount_laws.specs.Reach.{first_of}

@@ -1,27 +1,15 @@
 use Rattle.std.proofs.lemmas.Grind.{common_steps}
 -- A file that gives back, by what code did.
-use Rattle.std.proofs.Common.{◌≡◌, ℕ, ◌+◌, ◌<◌, ◌≤◌, ◌==◌, ◌⊎◌, nat_lt, Bool, true, false, not, List, [], ◌∷◌, Option, Some, None, Ok, Err, length, min, refl, sym, ap, subst, ◌∙◌, arith}
-use Rattle.std.specs.Prelude.{slice_set}
-use Rattle.std.specs.List.{count_by, sum_by}
+use Rattle.std.proofs.Common.{◌≡◌, ℕ, ◌+◌, ◌<◌, ◌≤◌, ◌==◌, ◌⊎◌, nat_lt, Bool, true, false, not, List, [], ◌∷◌, Option, Some, None, Ok, Err, length, min, refl, sym, ap, subst, ◌∙◌, arith, slice_set}
+use Rattle.std.proofs.Common.{count_by, sum_by}
 use Rattle.std.proofs.lemmas.Bool.Decides.{nat_tests}
 use Rattle.std.proofs.lemmas.List.{length-set}
 use Rattle.std.proofs.lemmas.List.Filters.{length-filter_both}
-use Rattle.hp_model.specs.declared.answer.Answer.TheVariants.{Done}
-use Rattle.hp_model.specs.declared.refusal.Refusal.{Refusal}
+use Rattle.hp_laws.proofs.Variants.{Done, PoolAnswer, Refusal, Section}
 use Rattle.hp_model.specs.declared.refusal.Refusal.TheVariants as r
-use Rattle.hp_model.specs.declared.section.PoolAnswer.{PoolAnswer}
-use Rattle.hp_model.specs.declared.section.Section.{Section}
-use Rattle.hp_model.specs.files.File.{File, Mount}
-use Rattle.hp_model.specs.files.GiveBack.{is_kept}
-use Rattle.hp_model.specs.files.MountCounts.{file_pages, file_reserves}
-use Rattle.hp_model.specs.files.Page.{Page}
-use Rattle.hp_model.specs.machine.Plan.{Plan, gives, unless, with_value}
-use Rattle.hp_model.specs.machine.Promises.{file_in}
-use Rattle.hp_model.specs.machine.SlotEvent.{edited, file_named, is_bad_range}
-use Rattle.hp_model.specs.threads.LocalRun.{ThroughDoor}
+use Rattle.hp_model.proofs.Words.{File, Mount, Page, Plan, ThroughDoor, edited, file_in, file_named, file_pages, file_reserves, gives, is_bad_range, is_kept, unless, with_value}
 use Rattle.hp_mount_door.specs.Door.{GivesBack, with_less}
-use Rattle.hp_lookup.specs.Dropping.{IsLeft}
-use Rattle.hp_lookup.specs.Files.{Files, edited_at}
+use Rattle.hp_lookup.proofs.Words.{Files, IsLeft, edited_at}
 use Rattle.hp_mount_laws.specs.Done.{Tried}
 use Rattle.hp_mount_laws.specs.Reach.{first_of}
 use Rattle.hp_mount_laws.specs.Kept.{IsKept, mount_from}

@@ -1,26 +1,17 @@
 use Rattle.std.proofs.lemmas.Grind.{common_steps}
 -- What a mount keeps, through each change of its files.
-use Rattle.std.proofs.Common.{◌≡◌, ℕ, zero, suc, ◌+◌, ◌<◌, ◌≤◌, max, Bool, Option, List, [], ◌∷◌, ◌++◌, length, None, refl, sym, ap, ◌∙◌, arith, rules}
-use Rattle.std.specs.Prelude.{slice_set}
+use Rattle.std.proofs.Common.{◌≡◌, ℕ, zero, suc, ◌+◌, ◌<◌, ◌≤◌, max, Bool, Option, List, [], ◌∷◌, ◌++◌, length, None, refl, sym, ap, ◌∙◌, arith, rules, slice_set}
 use Rattle.std.proofs.lemmas.List.{get_or_default, get_or-set_same, length-append, length-set}
 use Rattle.hp_mount_door.specs.Door.{with_page, with_granted, with_reserves}
-use Rattle.hp_model.specs.declared.cell.Cell.{Cell}
-use Rattle.hp_model.specs.declared.cell.Cell.TheVariants.{Hole, Entered, Present}
-use Rattle.hp_model.specs.files.File.{File, Mount, cell_at, with_cell, with_file, new_file}
+use Rattle.hp_laws.proofs.Variants.{Cell, Entered, Hole, Present, Reserving, Sharing}
+use Rattle.hp_model.proofs.Words.{File, Mount, Page, asked, cell_at, file_in, mapped, most_files, new_file, with_cell, with_file, with_new}
 use Rattle.hp_model.specs.pool.Grant as grant
-use Rattle.hp_model.specs.Profile.{most_files}
-use Rattle.hp_model.specs.files.Page.{Page}
-use Rattle.hp_model.specs.machine.Promises.{file_in}
-use Rattle.hp_model.specs.declared.step.Reserving.{Reserving}
-use Rattle.hp_model.specs.declared.step.Sharing.{Sharing}
-use Rattle.hp_model.specs.files.MakeMap.{asked, mapped, with_new}
 use Rattle.hp_laws.proofs.counts.OneMapMore.{mapped_grows}
 use Rattle.hp_laws.proofs.counts.FileMoves as moves
 use Rattle.hp_laws.proofs.counts.FileMoves.{FileGrows}
 use Rattle.hp_laws.proofs.counts.MountMoves.{MountGrows, IsFileAt, file_grows, new_grows}
 use Rattle.hp_lookup.specs.declared.next_map.MapRange.{MapRange}
-use Rattle.hp_lookup.specs.Asking.{wants}
-use Rattle.hp_lookup.specs.Files.{Files, file_at, filled_at, mapped_at, with_anon, with_cell_at}
+use Rattle.hp_lookup.proofs.Words.{Files, file_at, filled_at, mapped_at, wants, with_anon, with_cell_at}
 use Rattle.hp_mount_laws.specs.Kept.{IsKept, mount_from}
 use Rattle.hp_subpool.specs.Subpool as share
 use Rattle.hp_subpool.specs.Subpool.{Subpool, used}

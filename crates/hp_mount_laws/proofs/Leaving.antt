@@ -1,29 +1,16 @@
 -- Maps that leave a mount, by what code did.
-use Rattle.std.proofs.Common.{◌≡◌, ℕ, ◌<◌, ◌≤◌, ◌^◌, ◌==◌, ◌||◌, ◌⊎◌, Bool, true, false, cond, not, nat_lt, List, []}
-use Rattle.std.proofs.Common.{◌∷◌, ◌++◌, Option, Some, None, Ok, Err, length, map, refl, sym, ap, subst, ◌∙◌, arith}
-use Rattle.std.specs.Prelude.{is_some}
+use Rattle.std.proofs.Common.{◌≡◌, ℕ, ◌<◌, ◌≤◌, ◌^◌, ◌==◌, ◌||◌, ◌⊎◌, Bool, true, false, cond, not, nat_lt, List, [], ◌∷◌, ◌++◌, Option, Some, None, Ok, Err, length, map, refl, sym, ap, subst, ◌∙◌}
+use Rattle.std.proofs.Common.{arith, is_some, filter, sum_by}
 use Rattle.std.proofs.lemmas.Bool.{ltb-false}
-use Rattle.std.specs.List.{filter, list_any, sum_by}
+use Rattle.std.specs.List.{list_any}
 use Rattle.std.proofs.lemmas.List.{length-map}
 use Rattle.std.proofs.lemmas.List.Elements.{filter-append}
 use Rattle.std.proofs.lemmas.List.Filters.{length-filter_both}
-use Rattle.hp_model.specs.declared.answer.Answer.TheVariants.{Done}
+use Rattle.hp_laws.proofs.Variants.{Done, PoolAnswer, Section}
 use Rattle.hp_model.specs.declared.refusal.Refusal.TheVariants as r
-use Rattle.hp_model.specs.declared.section.PoolAnswer.{PoolAnswer}
-use Rattle.hp_model.specs.declared.section.Section.{Section}
-use Rattle.hp_model.specs.files.File.{File, Mount, maps_of}
-use Rattle.hp_model.specs.files.GiveBack.{file_without, is_kept, unmapped_from, without_task}
-use Rattle.hp_model.specs.files.Mapping.{Map, is_map, is_of}
-use Rattle.hp_model.specs.files.MountCounts.{file_reserves}
-use Rattle.hp_model.specs.files.Spot.{Spot, spot}
-use Rattle.hp_model.specs.Lists.{is_among}
-use Rattle.hp_model.specs.machine.Event.{has_maps_of}
-use Rattle.hp_model.specs.machine.Plan.{Plan, gives, unless, with_value}
-use Rattle.hp_model.specs.machine.SlotEvent.{is_bad_range, unmap}
-use Rattle.hp_model.specs.threads.LocalRun.{ThroughDoor}
-use Rattle.hp_lookup.specs.Asking.{is_first_of}
-use Rattle.hp_lookup.specs.Files.{Files}
-use Rattle.hp_lookup.specs.Places.{all_maps, all_tasks}
+use Rattle.hp_model.proofs.Words.{File, Map, Mount, Plan, Spot, ThroughDoor, file_reserves, file_without, gives, has_maps_of, is_among, is_bad_range, is_kept, is_map, is_of, maps_of, spot, unless}
+use Rattle.hp_model.proofs.Words.{unmap, unmapped_from, with_value, without_task}
+use Rattle.hp_lookup.proofs.Words.{Files, all_maps, all_tasks, is_first_of}
 use Rattle.hp_lookup.proofs.MapNumbers.{among_distinct}
 use Rattle.hp_mount_laws.specs.Done.{Tried}
 use Rattle.hp_mount_laws.specs.Kept.{IsKept, mount_from}

@@ -1,13 +1,8 @@
 -- Events that ask a file by its name, and end at once.
 use Rattle.std.proofs.Common.{◌≡◌, ℕ, false, Some, None, Ok, Err, List, refl, ap, ◌∙◌}
-use Rattle.hp_model.specs.declared.answer.Answer.{Answer}
-use Rattle.hp_model.specs.declared.event.SlotEvent.{SlotEvent}
-use Rattle.hp_model.specs.declared.refusal.Refusal.{Refusal}
+use Rattle.hp_laws.proofs.Variants.{Answer, Refusal, SlotEvent}
 use Rattle.hp_model.specs.declared.refusal.Refusal.TheVariants as r
-use Rattle.hp_model.specs.files.File.{File, Mount}
-use Rattle.hp_model.specs.machine.Plan.{Answered, Choice, Finish, Outcome, Plan, Refused, Reply, refuse, with_value}
-use Rattle.hp_model.specs.machine.SlotEvent.{file_named, slot_event}
-use Rattle.hp_model.specs.threads.LocalRun.{Gives}
+use Rattle.hp_model.proofs.Words.{Answered, Choice, File, Finish, Gives, Mount, Outcome, Plan, Refused, Reply, file_named, refuse, slot_event, with_value}
 use Rattle.hp_mount_laws.specs.Alone.{IsDoneAlone}
 use Rattle.hp_mount_laws.proofs.Ways.{fresh_choice, is_fresh}
 

@@ -1,30 +1,14 @@
 use Rattle.std.proofs.lemmas.Grind.{common_steps}
 -- Files and maps that are made, by what code did.
-use Rattle.std.proofs.Common.{◌≡◌, ℕ, ◌+◌, ◌<◌, ◌==◌, Bool, true, false, cond, List, [], ◌∷◌, Option, Some, None, Ok, Err, length, refl, sym, ap, subst, ◌∙◌, arith}
-use Rattle.std.specs.Prelude.{◌||◌, nat_le, nat_lt}
+use Rattle.std.proofs.Common.{◌≡◌, ℕ, ◌+◌, ◌<◌, ◌==◌, Bool, true, false, cond, List, [], ◌∷◌, Option, Some, None, Ok, Err, length, refl, sym, ap, subst, ◌∙◌, arith, ◌||◌, nat_le, nat_lt}
 use Rattle.std.proofs.lemmas.Bool.Decides.{nat_tests}
-use Rattle.hp_model.specs.declared.answer.Answer.{Answer}
-use Rattle.hp_model.specs.declared.answer.Answer.TheVariants.{Done, MapNo, Usage as UsageAnswer}
+use Rattle.hp_laws.proofs.Variants.{Answer, Done, Grant, MapNo, PoolAnswer, Refusal, Reserving, Section, Sharing, Usage as UsageAnswer}
 use Rattle.hp_model.specs.declared.event.SlotEvent.TheVariants.{Anon, Create, Df, Map as MapEvent}
-use Rattle.hp_model.specs.declared.refusal.Refusal.{Refusal}
 use Rattle.hp_model.specs.declared.refusal.Refusal.TheVariants as r
-use Rattle.hp_model.specs.declared.step.Reserving.{Reserving}
-use Rattle.hp_model.specs.declared.step.Sharing.{Sharing}
-use Rattle.hp_model.specs.files.File.{Mount, new_file, with_file}
-use Rattle.hp_model.specs.pool.Grant.{is_full, is_over, rise}
-use Rattle.hp_model.specs.threads.LocalRun.{ThroughDoor}
-use Rattle.hp_model.specs.files.MountCounts.{usage_of}
-use Rattle.hp_model.specs.files.MakeMap.{asked, mapped, next_number, with_new}
-use Rattle.hp_model.specs.machine.Plan.{Answered, Ask, Choice, Finish, Outcome, Plan, Refused, Reply, Slot, grant, refuse, unless, when_granted, with_value}
-use Rattle.hp_model.specs.declared.section.PoolAnswer.{PoolAnswer}
-use Rattle.hp_model.specs.declared.section.Section.{Section}
-use Rattle.hp_model.specs.declared.section.Section.TheVariants.{Grant}
-use Rattle.hp_model.specs.pool.Pool.{granted_at, no_pages}
-use Rattle.hp_model.specs.Profile.{most_file_pages, most_files, most_map_pages}
-use Rattle.hp_model.specs.machine.Promises.{file_in}
-use Rattle.hp_model.specs.machine.SlotEvent.{anon_tests, are_too_many_maps, file_named, map_file, slot_event}
-use Rattle.hp_lookup.specs.Asking.{IsAsked, IsGranted}
-use Rattle.hp_lookup.specs.Files.{Files}
+use Rattle.hp_model.proofs.Words.{Answered, Ask, Choice, Finish, Mount, Outcome, Plan, Refused, Reply, Slot, ThroughDoor, anon_tests, are_too_many_maps, asked, file_in, file_named, grant, granted_at}
+use Rattle.hp_model.proofs.Words.{is_full, is_over, map_file, mapped, most_file_pages, most_files, most_map_pages, new_file, next_number, no_pages, refuse, rise, slot_event, unless, usage_of}
+use Rattle.hp_model.proofs.Words.{when_granted, with_file, with_new, with_value}
+use Rattle.hp_lookup.proofs.Words.{Files, IsAsked, IsGranted}
 use Rattle.hp_mount_laws.specs.Alone.{IsDoneAlone}
 use Rattle.hp_mount_laws.specs.Done.{Enters, Through, Tried}
 use Rattle.hp_mount_laws.specs.Reach.{first_of}

@@ -1,7 +1,7 @@
 -- The table of a name's bytes.
 use Rattle.std.proofs.Common.{◌≡◌, ℕ, suc, zero, ◌+◌, ◌<◌, Bool, true, false, ◌&&◌, ◌==◌, not, List, [], ◌∷◌, length, slice_index, refl, subst, arith}
 use Rattle.std.proofs.lemmas.Bool.{and_parts}
-use Rattle.hp_model.specs.machine.SlotEvent.{is_name_byte}
+use Rattle.hp_model.proofs.Words.{is_name_byte}
 
 abbrev IsMarkOf : ℕ → ℕ → Type 0
 IsMarkOf x c = (x == 1) ≡ is_name_byte c

@@ -1,33 +1,13 @@
 use Rattle.std.proofs.lemmas.Grind.{common_steps}
 -- An access through a private map, by what code did.
-use Rattle.std.proofs.Common.{◌≡◌, ℕ, ◌<◌, ◌&&◌, not, Bool, true, false, cond, Some, None, Ok, Err, List, length, map, refl, sym, ap, subst, ◌∙◌, arith, rules}
-use Rattle.std.specs.List.{flat_map}
+use Rattle.std.proofs.Common.{◌≡◌, ℕ, ◌<◌, ◌&&◌, not, Bool, true, false, cond, Some, None, Ok, Err, List, length, map, refl, sym, ap, subst, ◌∙◌, arith, rules, flat_map}
 use Rattle.std.proofs.lemmas.List.{get_or-set_same, length-map, length-set}
 use Rattle.hp_mount_door.specs.Door.{IsDoorRefusal}
-use Rattle.hp_model.specs.declared.answer.Answer.TheVariants.{Done}
-use Rattle.hp_model.specs.declared.place.Place.{Place}
-use Rattle.hp_model.specs.declared.place.Place.TheVariants.{Live}
-use Rattle.hp_model.specs.declared.refusal.Refusal.{Refusal}
+use Rattle.hp_laws.proofs.Variants.{Done, GrantPage, Intent, Live, Place, PoolAnswer, Read, Refusal, Section, TakePage, Write}
 use Rattle.hp_model.specs.declared.refusal.Refusal.TheVariants as r
-use Rattle.hp_model.specs.declared.section.PoolAnswer.{PoolAnswer}
-use Rattle.hp_model.specs.declared.section.Section.{Section}
-use Rattle.hp_model.specs.declared.section.Section.TheVariants.{GrantPage, TakePage}
-use Rattle.hp_model.specs.declared.step.Intent.{Intent}
-use Rattle.hp_model.specs.declared.step.Intent.TheVariants.{Read, Write}
-use Rattle.hp_model.specs.files.Access.{access, new_copy, private_access, uncopied_access}
-use Rattle.hp_model.specs.files.CopyWrite.{copy_write, is_held_once, owner_write, robbed, taken_back}
-use Rattle.hp_model.specs.files.File.{File, Mount, cell_at, file_in, with_file, with_map}
-use Rattle.hp_model.specs.files.Mapping.{Map, copy_of, is_shared, is_unconsumed, place_at}
-use Rattle.hp_model.specs.files.MountCounts.{stamps_of}
-use Rattle.hp_model.specs.files.Page.{Copy, Page}
-use Rattle.hp_model.specs.files.Spot.{Spot, copied}
-use Rattle.hp_model.specs.files.Value.{shown, value}
-use Rattle.hp_model.specs.Lists.{is_among}
-use Rattle.hp_model.specs.machine.Event.{IsFresh}
-use Rattle.hp_model.specs.machine.Plan.{Answered, Ask, Choice, Finish, Outcome, Plan, Reply, Slot, grant_page, refuse, reserved_page}
-use Rattle.hp_model.specs.pool.Grant.{is_full, rise}
-use Rattle.hp_model.specs.pool.Pool.{granted_at, no_pages}
-use Rattle.hp_model.specs.threads.LocalRun.{Gives, ThroughDoor}
+use Rattle.hp_model.proofs.Words.{Answered, Ask, Choice, Copy, File, Finish, Gives, IsFresh, Map, Mount, Outcome, Page, Plan, Reply, Slot, Spot, ThroughDoor, access, cell_at, copied, copy_of}
+use Rattle.hp_model.proofs.Words.{copy_write, file_in, grant_page, granted_at, is_among, is_full, is_held_once, is_shared, is_unconsumed, new_copy, no_pages, owner_write, place_at, private_access}
+use Rattle.hp_model.proofs.Words.{refuse, reserved_page, rise, robbed, shown, stamps_of, taken_back, uncopied_access, value, with_file, with_map}
 use Rattle.hp_mount_laws.specs.Done.{Enters, MayEnter, Through, Tried}
 use Rattle.hp_mount_laws.specs.Reach.{IsFileTouched, NeedsCopy, has_reserve, shows_page, spot_at, with_place_at}
 use Rattle.hp_mount_laws.proofs.Ways.{fresh_choice, is_fresh, page_asks, page_denied, page_full, page_granted, page_reserved, page_without_memory}

@@ -1,22 +1,12 @@
 use Rattle.std.proofs.lemmas.Grind.{common_steps}
 -- Other limits for a mount, by what its door did.
-use Rattle.std.proofs.Common.{◌≡◌, ℕ, ◌-◌, ◌==◌, true, false, Option, Some, Result as ResultOf, Ok, Err, List, refl, sym, ap, subst, ◌∙◌, arith}
-use Rattle.std.specs.Prelude.{if◌then◌else◌, max, nat_lt}
-use Rattle.hp_model.specs.declared.answer.Answer.TheVariants.{Done}
+use Rattle.std.proofs.Common.{◌≡◌, ℕ, ◌-◌, ◌==◌, true, false, Option, Some, Result as ResultOf, Ok, Err, List, refl, sym, ap, subst, ◌∙◌, arith, if◌then◌else◌, max, nat_lt}
+use Rattle.hp_laws.proofs.Variants.{Done, Limits, PoolAnswer, ReadAndGiveBack, ReadAndGrant, Refusal, Section}
 use Rattle.hp_model.specs.declared.event.SlotEvent.TheVariants.{Remount}
-use Rattle.hp_model.specs.declared.limits.Limits.{Limits}
-use Rattle.hp_model.specs.declared.refusal.Refusal.{Refusal}
 use Rattle.hp_model.specs.declared.refusal.Refusal.TheVariants as r
-use Rattle.hp_model.specs.declared.section.PoolAnswer.{PoolAnswer}
-use Rattle.hp_model.specs.declared.section.Section.{Section}
-use Rattle.hp_model.specs.declared.section.Section.TheVariants.{ReadAndGiveBack, ReadAndGrant}
-use Rattle.hp_model.specs.files.File.{Mount}
-use Rattle.hp_model.specs.files.Options.{limits, wanted_of}
-use Rattle.hp_model.specs.machine.Plan.{Answered, Ask, Plan, Refused, Reply, Slot, refuse}
-use Rattle.hp_model.specs.machine.SlotEvent.{remount, remount_outcome, remount_section}
-use Rattle.hp_model.specs.threads.LocalRun.{Gives, ThroughDoor}
+use Rattle.hp_model.proofs.Words.{Answered, Ask, Gives, Mount, Plan, Refused, Reply, Slot, ThroughDoor, limits, refuse, remount, remount_outcome, remount_section, wanted_of}
 use Rattle.hp_mount_door.specs.Limits.{IsLimitedAt, IsLimitedBy, minimum_section}
-use Rattle.hp_lookup.specs.Files.{Files}
+use Rattle.hp_lookup.proofs.Words.{Files}
 use Rattle.hp_mount_laws.specs.Done.{Enters, IsDone}
 use Rattle.hp_mount_laws.specs.Kept.{IsKept, mount_from}
 use Rattle.hp_mount_laws.proofs.Ways.{fresh_choice, is_fresh}

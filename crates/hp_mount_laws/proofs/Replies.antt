@@ -1,13 +1,9 @@
 use Rattle.std.proofs.lemmas.Grind.{common_steps}
 -- Short replies, as those that they stand for.
-use Rattle.std.proofs.Common.{◌≡◌, ℕ, List, Ok, Err, ap, arith}
-use Rattle.std.specs.Prelude.{Result}
-use Rattle.hp_model.specs.declared.refusal.Refusal.{Refusal}
+use Rattle.std.proofs.Common.{◌≡◌, ℕ, List, Ok, Err, ap, arith, Result}
+use Rattle.hp_laws.proofs.Variants.{PoolAnswer, Refusal, Section}
 use Rattle.hp_model.specs.declared.refusal.Refusal.TheVariants as r
-use Rattle.hp_model.specs.declared.section.PoolAnswer.{PoolAnswer}
-use Rattle.hp_model.specs.declared.section.Section.{Section}
-use Rattle.hp_model.specs.beside.Accesses.{bytes_reply, done_reply}
-use Rattle.hp_model.specs.machine.Plan.{Reply, Slot}
+use Rattle.hp_model.proofs.Words.{Reply, Slot, bytes_reply, done_reply}
 use Rattle.hp_events.specs.declared.event.MountEvent.{MountEvent}
 use Rattle.hp_mount_laws.specs.Done.{IsDone}
 use Rattle.hp_events.specs.Event.{as_event}

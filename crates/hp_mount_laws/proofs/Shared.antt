@@ -1,24 +1,10 @@
 -- An access through a shared map, by what code did.
 use Rattle.std.proofs.Common.{◌≡◌, ℕ, true, false, Some, Ok, Err, length, refl, sym, ap, subst, ◌∙◌}
 use Rattle.hp_mount_door.specs.Door.{IsDoorRefusal}
-use Rattle.hp_model.specs.declared.answer.Answer.TheVariants.{Done}
-use Rattle.hp_model.specs.declared.cell.Cell.{Cell}
-use Rattle.hp_model.specs.declared.cell.Cell.TheVariants.{Hole, Entered, Present}
-use Rattle.hp_model.specs.declared.refusal.Refusal.{Refusal}
+use Rattle.hp_laws.proofs.Variants.{Cell, Done, Entered, GrantPage, Hole, PoolAnswer, Present, Refusal, Section, TakePage}
 use Rattle.hp_model.specs.declared.refusal.Refusal.TheVariants as r
-use Rattle.hp_model.specs.files.Access.{shared_access}
-use Rattle.hp_model.specs.machine.Event.{IsFresh}
-use Rattle.hp_model.specs.files.File.{File, Mount, cell_at, with_cell, with_file}
-use Rattle.hp_model.specs.pool.Grant.{is_full, rise}
-use Rattle.hp_model.specs.threads.LocalRun.{ThroughDoor}
-use Rattle.hp_model.specs.files.Page.{Page, zeros}
-use Rattle.hp_model.specs.machine.Plan.{Choice, Outcome, Plan, Reply, Slot, grant_page}
-use Rattle.hp_model.specs.declared.section.PoolAnswer.{PoolAnswer}
-use Rattle.hp_model.specs.declared.section.Section.{Section}
-use Rattle.hp_model.specs.declared.section.Section.TheVariants.{GrantPage, TakePage}
-use Rattle.hp_model.specs.pool.Pool.{granted_at, no_pages}
-use Rattle.hp_model.specs.machine.Promises.{file_in}
-use Rattle.hp_model.specs.files.Spot.{Spot, filled}
+use Rattle.hp_model.proofs.Words.{Choice, File, IsFresh, Mount, Outcome, Page, Plan, Reply, Slot, Spot, ThroughDoor, cell_at, file_in, filled, grant_page, granted_at, is_full, no_pages, rise}
+use Rattle.hp_model.proofs.Words.{shared_access, with_cell, with_file, zeros}
 use Rattle.hp_mount_laws.specs.Done.{Enters, Through, Tried}
 use Rattle.hp_mount_laws.specs.Reach.{IsFileTouched}
 use Rattle.hp_mount_laws.proofs.Ways.{fresh_choice, is_fresh, page_full, page_without_memory, page_asks, page_denied, page_granted, page_reserved}

@@ -1,8 +1,7 @@
 -- Bytes that are shown, as an answer.
 use Rattle.std.proofs.Common.{◌≡◌, ℕ, ◌-◌, ◌++◌, List, Ok, length, take, drop, replicate, ap, ◌∙◌}
-use Rattle.hp_model.specs.declared.answer.Answer.TheVariants.{Bytes}
-use Rattle.hp_model.specs.beside.Accesses.{bytes_reply}
-use Rattle.hp_model.specs.machine.SlotEvent.{bytes_answer}
+use Rattle.hp_laws.proofs.Variants.{Bytes}
+use Rattle.hp_model.proofs.Words.{bytes_answer, bytes_reply}
 use denote.Ref.{Bor}
 
 -- so many bytes of what is shown

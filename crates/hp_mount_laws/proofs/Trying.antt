@@ -1,11 +1,8 @@
 -- The tests of a plan, one after another, and a plan that is another at each choice.
 use Rattle.std.proofs.Common.{◌≡◌, Bool, true, false, cond, List, [], ◌∷◌, Some, None, Ok, Err, refl, ap, subst}
-use Rattle.hp_model.specs.declared.refusal.Refusal.{Refusal}
+use Rattle.hp_laws.proofs.Variants.{PoolAnswer, Refusal, Section}
 use Rattle.hp_model.specs.declared.refusal.Refusal.TheVariants as r
-use Rattle.hp_model.specs.declared.section.PoolAnswer.{PoolAnswer}
-use Rattle.hp_model.specs.declared.section.Section.{Section}
-use Rattle.hp_model.specs.machine.Plan.{Choice, Plan, Reply, Slot, refuse, unless}
-use Rattle.hp_model.specs.threads.LocalRun.{ThroughDoor}
+use Rattle.hp_model.proofs.Words.{Choice, Plan, Reply, Slot, ThroughDoor, refuse, unless}
 use Rattle.hp_mount_laws.specs.Done.{Enters, Tried}
 use Rattle.hp_mount_laws.specs.Reach.{first_of}
 

@@ -1,22 +1,11 @@
 use Rattle.std.proofs.lemmas.Grind.{common_steps}
 -- The ways that a plan goes through a door, as code takes them. Nothing here names a command.
-use Rattle.std.proofs.Common.{◌≡◌, ℕ, suc, ◌<◌, ◌==◌, Bool, true, false, cond, Some, None, Ok, Err, List, [], ◌∷◌, refl, sym, ap, subst, ◌∙◌, arith}
-use Rattle.std.specs.Prelude.{◌||◌}
-use Rattle.std.specs.List.{sum}
+use Rattle.std.proofs.Common.{◌≡◌, ℕ, suc, ◌<◌, ◌==◌, Bool, true, false, cond, Some, None, Ok, Err, List, [], ◌∷◌, refl, sym, ap, subst, ◌∙◌, arith, ◌||◌, sum}
 use Rattle.std.proofs.lemmas.List.Sums.{sum_by-cons}
-use Rattle.hp_model.specs.declared.answer.Answer.{Answer}
-use Rattle.hp_model.specs.declared.refusal.Refusal.{Refusal}
+use Rattle.hp_laws.proofs.Variants.{Answer, GrantPage, PoolAnswer, Refusal, Section, TakePage}
 use Rattle.hp_model.specs.declared.refusal.Refusal.TheVariants as r
-use Rattle.hp_model.specs.machine.Event.{IsFresh, stamps_in}
-use Rattle.hp_model.specs.files.File.{Mount}
-use Rattle.hp_model.specs.pool.Grant.{is_full, rise}
-use Rattle.hp_model.specs.Lists.{is_among}
-use Rattle.hp_model.specs.threads.LocalRun.{ThroughDoor, Gives}
-use Rattle.hp_model.specs.machine.Plan.{Plan, Finish, Ask, Outcome, Refused, Answered, Reply, Slot, Choice, refuse, continued, and_then, grant_page, reserved_page, when_granted}
-use Rattle.hp_model.specs.declared.section.PoolAnswer.{PoolAnswer}
-use Rattle.hp_model.specs.declared.section.Section.{Section}
-use Rattle.hp_model.specs.declared.section.Section.TheVariants.{GrantPage, TakePage}
-use Rattle.hp_model.specs.pool.Pool.{granted_at, no_pages}
+use Rattle.hp_model.proofs.Words.{Answered, Ask, Choice, Finish, Gives, IsFresh, Mount, Outcome, Plan, Refused, Reply, Slot, ThroughDoor, and_then, continued, grant_page, granted_at, is_among}
+use Rattle.hp_model.proofs.Words.{is_full, no_pages, refuse, reserved_page, rise, stamps_in, when_granted}
 use Rattle.hp_mount_laws.specs.Alone.{EndsAtOnce}
 use Rattle.hp_mount_laws.specs.Done.{Enters, Tried}
 

@@ -1,7 +1,6 @@
 -- What a change of each node that has one keeps, and how the sums change by it.
-use Rattle.std.proofs.Common.{ℕ, ◌≡◌, ◌+◌, ◌*◌, ◌<◌, Bool, true, false, cond, List, [], ◌∷◌, ◌++◌, length, map, take, drop, inl, inr, get_or, refl, sym, ap, ◌∙◌, arith}
-use Rattle.std.specs.Prelude.{slice_set, slice_index_or, All}
-use Rattle.std.specs.List.{count_by, sum_by}
+use Rattle.std.proofs.Common.{ℕ, ◌≡◌, ◌+◌, ◌*◌, ◌<◌, Bool, true, false, cond, List, [], ◌∷◌, ◌++◌, length, map, take, drop, inl, inr, get_or, refl, sym, ap, ◌∙◌, arith, slice_set, slice_index_or, All}
+use Rattle.std.proofs.Common.{count_by, sum_by}
 use Rattle.std.proofs.lemmas.Bool.{cond_both, cases_lt}
 use Rattle.std.proofs.Math.Seq.{set-append_seam, get_or-append_seam}
 use Rattle.std.proofs.lemmas.List.{append_assoc, drop_more, take-append-le, take_all, take_more, map-append, length-take-le, length-map, get_or-map, get_or_past}
@@ -11,7 +10,7 @@ use Rattle.hp_model.proofs.Counting.{count_cons}
 use Rattle.hp_model.specs.declared.node.Kind.{Kind}
 use Rattle.hp_model.specs.declared.node.Kind.TheVariants.{Free, Idle}
 use Rattle.hp_model.specs.declared.node.NodeRow.{NodeRow}
-use Rattle.hp_model.specs.pool.NodeRows.{IsRow, row_at, no_row, has, used, sum_row}
+use Rattle.hp_model.proofs.Words.{IsRow, has, no_row, row_at, sum_row, used}
 use Rattle.hp_nodes.specs.Kept.{IsKept}
 use Rattle.hp_nodes.specs.Moves.{HasMany, where_has, grow_by, shrink_by}
 use Rattle.hp_nodes.proofs.Sums.{same_row}

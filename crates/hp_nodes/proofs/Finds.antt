@@ -1,5 +1,4 @@
-use Rattle.std.proofs.Common.{ℕ, ◌≡◌, ◌+◌, ◌<◌, ◌≤◌, true, false, cond, ltb, List, length, drop, Some, None, arith}
-use Rattle.std.specs.Prelude.{unwrap_or}
+use Rattle.std.proofs.Common.{ℕ, ◌≡◌, ◌+◌, ◌<◌, ◌≤◌, true, false, cond, ltb, List, length, drop, Some, None, arith, unwrap_or}
 use Rattle.std.proofs.lemmas.Bool.Decides.{nat_tests}
 use Rattle.std.proofs.lemmas.Grind.{common_steps}
 use Rattle.std.proofs.lemmas.List.Sums.{passes_at_first, fails_before_first, prefix_len-le-length}
@@ -7,7 +6,7 @@ use Rattle.hp_model.specs.declared.node.NodeRow.{NodeRow}
 use Rattle.hp_model.specs.declared.node.Kind.{Kind}
 use Rattle.hp_model.specs.declared.node.Kind.TheVariants.{Free, Idle, Surplus, Persistent, FreeSurplus}
 use Rattle.hp_nodes.specs.Moves.{amount}
-use Rattle.hp_model.specs.pool.NodeRows.{has, lowest, row_at, no_row}
+use Rattle.hp_model.proofs.Words.{has, lowest, no_row, row_at}
 
 pub has_amount : (kind : Kind) (r : NodeRow) → has kind r ≡ true → 0 < amount kind r
 has_amount Free r h = grind (arith, nat_tests)

@@ -1,13 +1,12 @@
-use Rattle.std.proofs.Common.{ℕ, ◌≡◌, ◌≢◌, ◌+◌, ◌-◌, ◌<◌, ◌≤◌, ◌==◌, List, length, inl, inr, ap, refl, sym, subst, ◌∙◌, zero, suc, [], ◌∷◌, map, arith}
-use Rattle.std.specs.Prelude.{slice_set, slice_index, All, if◌then◌else◌}
+use Rattle.std.proofs.Common.{ℕ, ◌≡◌, ◌≢◌, ◌+◌, ◌-◌, ◌<◌, ◌≤◌, ◌==◌, List, length, inl, inr, ap, refl, sym, subst, ◌∙◌, zero, suc, [], ◌∷◌, map, arith, slice_set, slice_index, All, if◌then◌else◌}
+use Rattle.std.proofs.Common.{eq-eqb}
 use Rattle.std.proofs.lemmas.Grind.{common_steps}
 use Rattle.std.proofs.lemmas.List.{get_or-set_same, get_or-set_other, length-set, get_or_past}
 use Rattle.std.proofs.lemmas.List.Elements.{All-set, All-map}
-use Rattle.std.proofs.Common.{eq-eqb}
 use Rattle.std.proofs.lemmas.Bool.{cases_eq, cases_lt, cond-true}
 use Rattle.std.proofs.lemmas.Bool.Decides.{nat_tests}
 use Rattle.hp_model.specs.declared.node.NodeRow.{NodeRow}
-use Rattle.hp_model.specs.pool.NodeRows.{IsRow, row_at, no_row, used, idle_row, free_of, total_of}
+use Rattle.hp_model.proofs.Words.{IsRow, free_of, idle_row, no_row, row_at, total_of, used}
 use Rattle.hp_model.proofs.Sums.{free_le_total}
 use Rattle.hp_nodes.specs.Kept.{IsKept}
 use Rattle.hp_nodes.specs.Ledgers.{AreAll, AreFrames}

@@ -1,7 +1,6 @@
 -- A move that is repeated: what each time keeps, and when so many times are one.
-use Rattle.std.proofs.Common.{ℕ, zero, suc, ◌≡◌, ◌≢◌, ◌+◌, ◌<◌, ◌≤◌, true, false, List, length, ltb, refl, sym, ap, subst, ◌∙◌, arith}
+use Rattle.std.proofs.Common.{ℕ, zero, suc, ◌≡◌, ◌≢◌, ◌+◌, ◌<◌, ◌≤◌, true, false, List, length, ltb, refl, sym, ap, subst, ◌∙◌, arith, slice_set}
 use Rattle.std.specs.Fn.{iterate}
-use Rattle.std.specs.Prelude.{slice_set}
 use Rattle.std.proofs.lemmas.Bool.{lt-ltb, le-ltb, cond_both, cond-true, cond-false}
 use Rattle.std.proofs.lemmas.Bool.Decides.{nat_tests}
 use Rattle.std.proofs.lemmas.List.{get_or-set_same, get_or-set_other, length-set, set-set, set_comm, set-get_or}
@@ -10,8 +9,8 @@ use Rattle.std.proofs.lemmas.List.Folds.{position_or_len-set}
 use Rattle.hp_model.specs.declared.node.Kind.{Kind}
 use Rattle.hp_model.specs.declared.node.Kind.TheVariants.{Free, Idle, Surplus, Persistent, FreeSurplus}
 use Rattle.hp_model.specs.declared.node.NodeRow.{NodeRow}
-use Rattle.hp_model.specs.pool.NodeRows.{NodeRows, at_row, row_at, no_row, has, lowest, near, taken, taken_times, take_row, surplus_added}
-use Rattle.hp_model.specs.pool.NodeRows.{promoted, demoted, given_back, add_surplus_row, give_back_row, shrink_row, promote_row, demote_row}
+use Rattle.hp_model.proofs.Words.{NodeRows, add_surplus_row, at_row, demote_row, demoted, give_back_row, given_back, has, lowest, near, no_row, promote_row, promoted, row_at, shrink_row}
+use Rattle.hp_model.proofs.Words.{surplus_added, take_row, taken, taken_times}
 use Rattle.hp_model.proofs.Picks.{near_pick}
 use Rattle.hp_nodes.proofs.Sums.{same_row}
 use Rattle.hp_nodes.specs.Moves.{amount, take_by, shrink_by, add_surplus_by, give_back_by, promote_by, demote_by}

@@ -1,10 +1,9 @@
 -- How the sums over the nodes change where so many moves are made at one.
-use Rattle.std.proofs.Common.{ℕ, ◌≡◌, ◌+◌, ◌<◌, ◌≤◌, List, [], ◌∷◌, length, arith}
+use Rattle.std.proofs.Common.{ℕ, ◌≡◌, ◌+◌, ◌<◌, ◌≤◌, List, [], ◌∷◌, length, arith, slice_set}
 use Rattle.std.specs.Fn.{iterate}
-use Rattle.std.specs.Prelude.{slice_set}
 use Rattle.std.proofs.lemmas.List.Sums.{sum_by-set, get_or-le-sum_by}
 use Rattle.hp_model.specs.declared.node.NodeRow.{NodeRow}
-use Rattle.hp_model.specs.pool.NodeRows.{NodeRows, row_at, no_row, sum_row, frames_of, total_of, free_of, surp_of}
+use Rattle.hp_model.proofs.Words.{NodeRows, frames_of, free_of, no_row, row_at, sum_row, surp_of, total_of}
 use Rattle.hp_nodes.specs.Ledgers.{all_frames}
 use Rattle.hp_nodes.specs.Moves.{take_by, put_by, grow_by, shrink_by, add_surplus_by, give_back_by, promote_by, demote_by}
 

@@ -1,8 +1,7 @@
 -- Moves that go round the nodes by a cursor: a round is one more at each node that has one.
-use Rattle.std.proofs.Common.{ℕ, zero, suc, ◌≡◌, ◌+◌, ◌*◌, ◌<◌, Bool, true, false, not, cond, List, [], ◌∷◌, ◌++◌, length, map, drop, take, refl, sym, subst, ap, ◌∙◌, arith}
+use Rattle.std.proofs.Common.{ℕ, zero, suc, ◌≡◌, ◌+◌, ◌*◌, ◌<◌, Bool, true, false, not, cond, List, [], ◌∷◌, ◌++◌, length, map, drop, take, refl, sym, subst, ap, ◌∙◌, arith, slice_set, nat_lt, nat_eq}
+use Rattle.std.proofs.Common.{All, count_by}
 use Rattle.std.specs.Fn.{iterate}
-use Rattle.std.specs.Prelude.{slice_set, nat_lt, nat_eq, All}
-use Rattle.std.specs.List.{count_by}
 use Rattle.std.proofs.lemmas.Bool.{cond_both, eqb-true, cond-true, cond-false, lt-ltb, le-ltb}
 use Rattle.std.proofs.lemmas.List.{length-append, length-map, length-take-le, drop_more, take-append-drop, map-append, append_assoc, append-nil}
 use Rattle.std.proofs.lemmas.List.Elements.{All-head, All-tail}
@@ -11,7 +10,7 @@ use Rattle.std.proofs.Math.Seq.{set-append_seam, get_or-append_seam, drop-append
 use Rattle.hp_model.proofs.Counting.{count_cons}
 use Rattle.hp_model.specs.declared.node.Kind.{Kind}
 use Rattle.hp_model.specs.declared.node.NodeRow.{NodeRow}
-use Rattle.hp_model.specs.pool.NodeRows.{NodeRows, at_row, row_at, no_row, has, lowest, next_from, next_node, grown, shrunk, grow_row, shrink_row}
+use Rattle.hp_model.proofs.Words.{NodeRows, at_row, grow_row, grown, has, lowest, next_from, next_node, no_row, row_at, shrink_row, shrunk}
 use Rattle.hp_model.specs.declared.node.Kind.TheVariants.{Free, Idle}
 use Rattle.hp_nodes.proofs.Finds.{amount_has}
 use Rattle.hp_nodes.proofs.Repeats.{times_add}

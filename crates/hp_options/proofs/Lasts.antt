@@ -1,6 +1,6 @@
 -- The last of a list.
 use Rattle.std.proofs.Common.{◌≡◌, ℕ, List, [], ◌∷◌, ◌-◌, ◌∙◌, ap, arith, suc, length, refl, slice_index_or}
-use Rattle.hp_model.specs.files.Options.{last_of}
+use Rattle.hp_model.proofs.Words.{last_of}
 
 pub last_is : (xs : List ℕ) → slice_index_or xs (length xs - 1) 0 ≡ last_of xs
 last_is [] = refl

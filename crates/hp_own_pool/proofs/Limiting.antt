@@ -1,17 +1,12 @@
 -- A mount's limits are set through a door.
-use Rattle.std.proofs.Common.{◌≡◌, ℕ, ◌+◌, ◌-◌, Option, Some, None, Ok, Err, List, length, ap, ◌∙◌, arith}
-use Rattle.std.specs.Prelude.{OnErr, Result}
+use Rattle.std.proofs.Common.{◌≡◌, ℕ, ◌+◌, ◌-◌, Option, Some, None, Ok, Err, List, length, ap, ◌∙◌, arith, OnErr, Result}
 use Rattle.std.proofs.lemmas.Bool.{cond_both}
 use Rattle.hp_model.specs.declared.limits.Limits.{Limits}
 use Rattle.hp_model.specs.declared.refusal.Refusal.{Refusal}
 use Rattle.hp_model.specs.declared.refusal.Refusal.TheVariants as r
 use Rattle.hp_model.specs.declared.section.PoolAnswer.{PoolAnswer}
 use Rattle.hp_model.specs.declared.section.Section.{Section}
-use Rattle.hp_model.specs.files.Options.{Wanted, checked, is_below_min, limits, limits_of, wanted_of}
-use Rattle.hp_model.specs.pool.Grant.{granted}
-use Rattle.hp_model.specs.pool.NodeRows.{surp_of, total_of}
-use Rattle.hp_model.specs.pool.Pool.{released, section, trimmed}
-use Rattle.hp_model.specs.pool.PoolCounts.{IsSettled, Pool}
+use Rattle.hp_model.proofs.Words.{IsSettled, Pool, Wanted, checked, granted, is_below_min, limits, limits_of, released, section, surp_of, total_of, trimmed, wanted_of}
 use Rattle.hp_subpool.specs.Subpool.{Subpool, gain, is_loss, loss, with_minimum}
 use Rattle.hp_mount_door.specs.Door.{IsReady}
 use Rattle.hp_mount_door.specs.Limits.{IsLimitedAt, IsLimitedBy}

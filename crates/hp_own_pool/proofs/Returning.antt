@@ -1,19 +1,16 @@
 -- Pages that go back in parts go back as they do at once.
-use Rattle.std.proofs.Common.{◌≡◌, ℕ, zero, suc, ◌+◌, ◌-◌, ◌<◌, ◌≤◌, Bool, cond, eqb, List, [], ◌∷◌, ◌++◌, length, map, max, refl, sym, ap, subst, ◌∙◌, arith}
-use Rattle.std.specs.Prelude.{◌==◌, nat_lt, slice_index, slice_set, OnErr, OnOk, Result, Ok, Err}
-use Rattle.std.specs.List.{count_by, range_with_len, sum}
+use Rattle.std.proofs.Common.{◌≡◌, ℕ, zero, suc, ◌+◌, ◌-◌, ◌<◌, ◌≤◌, Bool, cond, eqb, List, [], ◌∷◌, ◌++◌, length, map, max, refl, sym, ap, subst, ◌∙◌, arith, ◌==◌, nat_lt, slice_index, slice_set}
+use Rattle.std.proofs.Common.{OnErr, OnOk, Result, Ok, Err, count_by, sum}
+use Rattle.std.specs.List.{range_with_len}
 use Rattle.std.proofs.lemmas.Bool.{cond_both}
 use Rattle.std.proofs.lemmas.Bool.Decides.{nat_tests}
 use Rattle.std.proofs.lemmas.List.{length-append, length-set}
 use Rattle.std.proofs.lemmas.List.Sums.{sum_by-cons, sum_by_push}
 use Rattle.hp_model.specs.declared.node.NodeRow.{NodeRow}
-use Rattle.hp_model.specs.pool.Grant.{granted, surplus_times}
-use Rattle.hp_model.specs.pool.NodeRows.{NodeRows, at_row, give_back_row, given_back, lowest, promote_row, shrink_row, surp_of, total_of}
+use Rattle.hp_model.proofs.Words.{IsSettled, NodeRows, Page, Pool, at_row, give_back_row, give_back_times, given_back, granted, granted_at, kept_times, lowest, page_kept, page_taken, promote_row}
+use Rattle.hp_model.proofs.Words.{puts_from, released, section, shrink_row, surp_of, surplus_times, total_of, trimmed}
 use Rattle.hp_model.specs.declared.node.Kind.TheVariants.{Free, FreeSurplus, Surplus}
 use Rattle.hp_model.specs.declared.refusal.Refusal.{Refusal}
-use Rattle.hp_model.specs.files.Page.{Page}
-use Rattle.hp_model.specs.pool.Pool.{give_back_times, kept_times, page_kept, page_taken, granted_at, puts_from, released, section, trimmed}
-use Rattle.hp_model.specs.pool.PoolCounts.{IsSettled, Pool}
 use Rattle.hp_model.proofs.RowMoves.{put_rows, puts_are}
 use Rattle.hp_subpool.specs.Subpool.{Subpool, committed_of, fall, used}
 use Rattle.hp_mount_door.specs.Door.{by_node, GivesBack, IsReady}

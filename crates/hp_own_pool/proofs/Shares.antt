@@ -1,14 +1,11 @@
 -- A mount gets its share through a door.
-use Rattle.std.proofs.Common.{◌≡◌, ℕ, Ok, Err, List}
-use Rattle.std.specs.Prelude.{Result}
+use Rattle.std.proofs.Common.{◌≡◌, ℕ, Ok, Err, List, Result}
 use Rattle.hp_model.specs.declared.limits.Limits.{Limits}
 use Rattle.hp_model.specs.declared.refusal.Refusal.{Refusal}
 use Rattle.hp_model.specs.declared.refusal.Refusal.TheVariants as r
 use Rattle.hp_model.specs.declared.section.PoolAnswer.{PoolAnswer}
 use Rattle.hp_model.specs.declared.section.Section.{Section}
-use Rattle.hp_model.specs.files.Options.{limits, wanted_of}
-use Rattle.hp_model.specs.pool.Pool.{section}
-use Rattle.hp_model.specs.pool.PoolCounts.{Pool}
+use Rattle.hp_model.proofs.Words.{Pool, limits, section, wanted_of}
 use Rattle.hp_own_pool.proofs.Limiting.{never_full}
 use Rattle.hp_subpool.specs.Subpool.{Subpool}
 use Rattle.hp_mount_door.specs.Opened.{IsOpenedAt, IsShareOf}

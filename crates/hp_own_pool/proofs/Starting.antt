@@ -1,11 +1,7 @@
 -- The pool that a machine starts with.
-use Rattle.std.proofs.Common.{◌≡◌, ℕ, zero, suc, ◌+◌, ◌-◌, List, [], ◌∷◌, None, Some, map, replicate, refl, ◌∙◌, ap, arith}
-use Rattle.std.specs.List.{sum_by}
+use Rattle.std.proofs.Common.{◌≡◌, ℕ, zero, suc, ◌+◌, ◌-◌, List, [], ◌∷◌, None, Some, map, replicate, refl, ◌∙◌, ap, arith, sum_by}
 use Rattle.std.proofs.lemmas.List.Sums.{sum_by-cons}
-use Rattle.hp_model.specs.machine.Machine.{committed_pages, idle_node, open_mount, pool_of, rows_of, start, used_at}
-use Rattle.hp_model.specs.machine.Plan.{slot_committed}
-use Rattle.hp_model.specs.machine.State.{State}
-use Rattle.hp_model.specs.pool.NodeRows.{idle_row}
+use Rattle.hp_model.proofs.Words.{State, committed_pages, idle_node, idle_row, open_mount, pool_of, rows_of, slot_committed, start, used_at}
 use Rattle.hp_pool.specs.Sums.{idle_pool}
 
 none_free : (u : ℕ) → 0 - u ≡ 0

@@ -1,17 +1,12 @@
 -- Pages that are taken node by node are taken as they are one after another, and come out by rising nodes.
-use Rattle.std.proofs.Common.{◌≡◌, ℕ, zero, suc, ◌+◌, ◌-◌, ◌*◌, ◌<◌, cond, eqb, List, [], ◌∷◌, ◌++◌, length, replicate, take, refl, sym, ap, ◌∙◌, arith}
-use Rattle.std.specs.Prelude.{◌==◌, if◌then◌else◌, slice_index, slice_set}
-use Rattle.std.specs.List.{count_by, sum}
+use Rattle.std.proofs.Common.{◌≡◌, ℕ, zero, suc, ◌+◌, ◌-◌, ◌*◌, ◌<◌, cond, eqb, List, [], ◌∷◌, ◌++◌, length, replicate, take, refl, sym, ap, ◌∙◌, arith, ◌==◌, if◌then◌else◌, slice_index, slice_set}
+use Rattle.std.proofs.Common.{count_by, sum}
 use Rattle.std.proofs.lemmas.Bool.Decides.{nat_tests}
 use Rattle.std.proofs.lemmas.List.{length-append, length-replicate, length-set}
 use Rattle.std.proofs.lemmas.List.Folds.{sum_by-replicate}
 use Rattle.std.proofs.lemmas.List.Sums.{sum_by-append, sum_by-cons}
 use Rattle.std.proofs.Math.Seq.{take-append_seam}
-use Rattle.hp_model.specs.files.Fill.{nodes_from, rising_nodes}
-use Rattle.hp_model.specs.files.Page.{Page}
-use Rattle.hp_model.specs.pool.NodeRows.{NodeRows, row_at, taken, taken_times, used}
-use Rattle.hp_model.specs.pool.Pool.{pages_taken, takes_at, takes_of}
-use Rattle.hp_model.specs.pool.PoolCounts.{IsSettled, Pool}
+use Rattle.hp_model.proofs.Words.{IsSettled, NodeRows, Page, Pool, nodes_from, pages_taken, rising_nodes, row_at, taken, taken_times, takes_at, takes_of, used}
 use Rattle.hp_model.proofs.Counting.{count_map}
 use Rattle.hp_subpool.specs.Subpool.{Subpool}
 use Rattle.hp_mount_door.specs.Door.{by_node, IsReady}

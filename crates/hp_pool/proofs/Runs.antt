@@ -1,19 +1,14 @@
 -- Moves of many pages, as the definitions say them: one page after another.
-use Rattle.std.proofs.Common.{ℕ, zero, suc, ◌≡◌, ◌+◌, ◌-◌, ◌<◌, ◌≤◌, refl, sym, ap, ◌∙◌, arith}
+use Rattle.std.proofs.Common.{ℕ, zero, suc, ◌≡◌, ◌+◌, ◌-◌, ◌<◌, ◌≤◌, refl, sym, ap, ◌∙◌, arith, min, List, [], ◌∷◌, slice_set, sum, sum_by}
 use Rattle.std.specs.Fn.{iterate}
-use Rattle.std.specs.Prelude.{min, List, [], ◌∷◌, slice_set}
-use Rattle.std.specs.List.{sum, sum_by}
 use Rattle.std.proofs.Math.Seq.{map-set_same}
 use Rattle.std.proofs.lemmas.Bool.{cond-true, cond-false, lt-ltb, le-ltb, ltb-true}
 use Rattle.std.proofs.lemmas.List.Sums.{sum-map}
 use Rattle.hp_model.specs.declared.node.Kind.TheVariants.{Free, Idle, Surplus, Persistent}
 use Rattle.hp_model.specs.declared.node.NodeRow.{NodeRow}
-use Rattle.hp_model.specs.pool.Grant.{surplus_times}
-use Rattle.hp_model.specs.pool.NodeRows.{NodeRows, at_row, row_at, no_row, lowest, next_from, free_of, surp_of, total_of, sum_row, surplus_added}
-use Rattle.hp_model.specs.pool.NodeRows.{given_back, grown, shrunk, promoted, demoted, put_row, grow_row, shrink_row, promote_row, demote_row}
-use Rattle.hp_model.specs.pool.Pool.{give_back_times, kept_times, page_kept, released}
-use Rattle.hp_model.specs.pool.PoolCounts.{Pool, used_of}
-use Rattle.hp_model.specs.pool.Resize.{raised, lowered, raise_times, lower_times}
+use Rattle.hp_model.proofs.Words.{NodeRows, Pool, at_row, demote_row, demoted, free_of, give_back_times, given_back, grow_row, grown, kept_times, lower_times, lowered, lowest, next_from, no_row}
+use Rattle.hp_model.proofs.Words.{page_kept, promote_row, promoted, put_row, raise_times, raised, released, row_at, shrink_row, shrunk, sum_row, surp_of, surplus_added, surplus_times, total_of}
+use Rattle.hp_model.proofs.Words.{used_of}
 use Rattle.hp_model.proofs.Picks.{edit, lowest_pick, next_pick}
 use Rattle.hp_model.proofs.Sums.{some_free, some_surplus}
 use Rattle.hp_nodes.specs.Moves.{put_by, puts_at}

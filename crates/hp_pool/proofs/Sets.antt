@@ -1,8 +1,5 @@
-use Rattle.std.proofs.Common.{ℕ, ◌≡◌, ◌+◌, ◌-◌, ◌∙◌, ap, arith}
-use Rattle.std.specs.Prelude.{min}
-use Rattle.hp_model.specs.pool.NodeRows.{NodeRows, frames_of}
-use Rattle.hp_model.specs.pool.PoolCounts.{Pool, used_of}
-use Rattle.hp_model.specs.pool.Resize.{raise_times, lower_times, set_nr}
+use Rattle.std.proofs.Common.{ℕ, ◌≡◌, ◌+◌, ◌-◌, ◌∙◌, ap, arith, min}
+use Rattle.hp_model.proofs.Words.{NodeRows, Pool, frames_of, lower_times, raise_times, set_nr, used_of}
 
 abbrev pool : ℕ → ℕ → ℕ → NodeRows → Pool
 pool nr overcommit committed nodes = record { nr = nr; overcommit = overcommit; committed = committed; nodes = nodes }

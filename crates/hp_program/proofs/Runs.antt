@@ -1,12 +1,10 @@
 -- A run of a machine, from the run of one that starts as it.
 use Rattle.std.proofs.Common.{◌≡◌, ◌≤◌, ℕ, Bool, true, false, List, arith, subst, Option, Some, None, Result, Ok, Err, OnOk, IfErr, IfSome}
 use Rattle.std.specs.Io.KnownBytes.{Consumes}
-use Rattle.hp_model.specs.machine.Promises.{IsPromisedStep}
-use Rattle.hp_model.specs.machine.State.{State}
+use Rattle.hp_model.proofs.Words.{AnswersInput, IsMemoryOrTooLong, IsPromisedStep, Serves, State}
 use Rattle.hp_serving.specs.Ended as serving
 use Rattle.hp_serving.specs.declared.sessions.Ended.{Ended}
 use Rattle.hp_serving.specs.declared.sessions.Ended.TheVariants.{Printed, Unprinted, Failed}
-use Rattle.hp_model.specs.run.Served.{AnswersInput, Serves, IsMemoryOrTooLong}
 use Rattle.hp_model.specs.declared.fault.RunFault.{RunFault}
 use Rattle.hp_program.specs.Program.{AnswersScript, Run, status_of_run}
 

@@ -4,8 +4,7 @@ use Rattle.std.proofs.lemmas.Option.{none-some}
 use Rattle.std.specs.Io.KnownBytes.{Appends}
 use Rattle.clap.specs.Values.{kind_of}
 use Rattle.clap.specs.declared.error.Error.{Error}
-use Rattle.hp_model.specs.run.Ran.{AppendsFront}
-use Rattle.hp_model.specs.run.Served.{text_of_fault}
+use Rattle.hp_model.proofs.Words.{AppendsFront, text_of_fault}
 use Rattle.hp_model.specs.declared.fault.RunFault.{RunFault}
 use Rattle.hp_model.specs.declared.fault.RunFault.TheVariants as fault
 use Rattle.hp_wire.proofs.Known.{appends_then, front_whole, front_then, front_more}

@@ -1,6 +1,6 @@
 -- How many indices of a range intervals have.
-use Rattle.std.proofs.Common.{◌≡◌, ℕ, zero, suc, ◌+◌, ◌-◌, ◌<◌, ◌≤◌, min, max, cond, List, [], ◌∷◌, length, take, drop, get_or, refl, ap, ◌∙◌, subst, arith, ⊎_elim}
-use Rattle.std.specs.List.{range_with_len, count_by, All}
+use Rattle.std.proofs.Common.{◌≡◌, ℕ, zero, suc, ◌+◌, ◌-◌, ◌<◌, ◌≤◌, min, max, cond, List, [], ◌∷◌, length, take, drop, get_or, refl, ap, ◌∙◌, subst, arith, ⊎_elim, count_by, All}
+use Rattle.std.specs.List.{range_with_len}
 use Rattle.std.specs.FinSet as set
 use Rattle.std.specs.Ordering.{nat_cmp}
 use Rattle.std.proofs.lemmas.Bool.{cases_lt}
@@ -8,7 +8,7 @@ use Rattle.std.proofs.lemmas.Bool.Decides.{nat_tests}
 use Rattle.std.proofs.lemmas.List.FromFn.{length-range_with_len}
 use Rattle.std.proofs.lemmas.List.{drop_more, drop_all}
 use Rattle.std.proofs.lemmas.List.Elements.{All-head, All-tail}
-use Rattle.hp_model.specs.beside.Ranges.{within}
+use Rattle.hp_model.proofs.Words.{within}
 use Rattle.hp_model.proofs.Counting.{count_cons, count_alike, count_not, count_or}
 use Rattle.hp_region.specs.declared.spans.Span.{Span}
 use Rattle.hp_region.specs.Region.{members_in, missing_members}

@@ -7,7 +7,7 @@ use Rattle.std.proofs.lemmas.Bool.{cases_Bool}
 use Rattle.std.proofs.lemmas.Bool.Decides.{nat_tests}
 use Rattle.hp_region.specs.Region.{range_set, members_in}
 use Rattle.hp_region.specs.declared.spans.Span.{Span}
-use Rattle.hp_model.specs.beside.Ranges.{within}
+use Rattle.hp_model.proofs.Words.{within}
 use Rattle.hp_model.proofs.Counting.{none_of_count}
 use Rattle.hp_model.proofs.Ranges.{contains-range, within-in}
 use Rattle.hp_region.specs.Spans.{spans_hold, AreSpansApart, indices_of, range_added, range_removed, left_piece, right_piece}

@@ -1,21 +1,10 @@
 -- A step's script, carried out event by event.
-use Rattle.std.proofs.Common.{if◌then◌else◌, ◌≡◌, ℕ, ◌+◌, ◌<◌, ◌≤◌, Bool, true, false, List, [], ◌∷◌, ◌++◌, Ok, Err, inl, inr, map, refl, sym, ap, subst, ◌∙◌, arith}
-use Rattle.std.specs.Bool.{MatchBool}
+use Rattle.std.proofs.Common.{if◌then◌else◌, ◌≡◌, ℕ, ◌+◌, ◌<◌, ◌≤◌, Bool, true, false, List, [], ◌∷◌, ◌++◌, Ok, Err, inl, inr, map, refl, sym, ap, subst, ◌∙◌, arith, MatchBool}
 use Rattle.std.proofs.lemmas.List.{append-nil, append_assoc, map-append}
 use Rattle.std.proofs.lemmas.Bool.{le-ltb, lt-ltb}
 use Rattle.std.proofs.lemmas.List.Elements.{All-cons, All-nil}
-use Rattle.hp_model.specs.declared.answer.Answer.TheVariants.{Home}
-use Rattle.hp_model.specs.declared.entry.Receipt.{Receipt}
-use Rattle.hp_model.specs.declared.event.Event.{Event}
-use Rattle.hp_model.specs.declared.event.Event.TheVariants.{Tasks as OnTasks, Slot as OnSlot}
-use Rattle.hp_model.specs.declared.event.SlotEvent.{SlotEvent}
-use Rattle.hp_model.specs.declared.event.TableEvent.TheVariants.{Find}
-use Rattle.hp_model.specs.declared.refusal.Refusal.{Refusal}
-use Rattle.hp_model.specs.declared.refusal.Refusal.TheVariants.{NoSuchSlot, TraceFull}
-use Rattle.hp_model.specs.declared.step.Step.{Step}
-use Rattle.hp_model.specs.machine.Plan.{Reply}
-use Rattle.hp_model.specs.machine.Step.{Answer_with, Do, Script, Where_mapped, finding, home_in, on_slot, only, script}
-use Rattle.hp_model.specs.threads.Telling.{Tells, TellsFront, TellsStep, has_place, told_of}
+use Rattle.hp_laws.proofs.Variants.{Event, Find, Home, NoSuchSlot, Receipt, Refusal, Slot as OnSlot, SlotEvent, Step, Tasks as OnTasks, TraceFull}
+use Rattle.hp_model.proofs.Words.{Answer_with, Do, Reply, Script, Tells, TellsFront, TellsStep, Where_mapped, finding, has_place, home_in, on_slot, only, script, told_of}
 use Rattle.hp_events.specs.Replies.{is_trace_full}
 use Rattle.hp_events.specs.Answered.{CanAnswer, IsHanded, IsToldOf}
 use Rattle.hp_sessions.specs.Calls.{AreAdded, AreAnswers, Carries, Grows, HasRoomFor, IsCallAnswered, IsMade, IsRefusedFirst, IsToldByReceipts}

@@ -1,20 +1,12 @@
 -- Forks and exits, slot after slot.
-use Rattle.std.proofs.Common.{◌≡◌, ℕ, zero, suc, ◌+◌, ◌-◌, ◌<◌, ◌≤◌, Bool, true, false, cond, List, [], ◌∷◌, ◌++◌, Ok, Err, length, refl, sym, ap, subst, ◌∙◌, arith}
-use Rattle.std.specs.Bool.{MatchBool}
-use Rattle.std.specs.List.{filter, range_with_len, slice_index_or, slice_set}
+use Rattle.std.proofs.Common.{◌≡◌, ℕ, zero, suc, ◌+◌, ◌-◌, ◌<◌, ◌≤◌, Bool, true, false, cond, List, [], ◌∷◌, ◌++◌, Ok, Err, length, refl, sym, ap, subst, ◌∙◌, arith, MatchBool, filter, slice_index_or}
+use Rattle.std.proofs.Common.{slice_set}
+use Rattle.std.specs.List.{range_with_len}
 use Rattle.std.proofs.lemmas.List.FromFn.{map-range_with_len_more}
 use Rattle.std.proofs.lemmas.List.{append-nil, get_or-set_other, get_or-set_same, map-id}
 use Rattle.std.proofs.lemmas.List.Elements.{filter-append}
-use Rattle.hp_model.specs.declared.answer.Answer.{Answer}
-use Rattle.hp_model.specs.declared.answer.Answer.TheVariants.{Done}
-use Rattle.hp_model.specs.declared.event.Event.TheVariants.{Tasks as OnTasks, Slot as OnSlot}
-use Rattle.hp_model.specs.declared.event.SlotEvent.TheVariants.{ExitMaps, ForkMaps}
-use Rattle.hp_model.specs.declared.event.TableEvent.{TableEvent}
-use Rattle.hp_model.specs.declared.event.TableEvent.TheVariants.{FindAndAdd, Remove}
-use Rattle.hp_model.specs.declared.refusal.Refusal.{Refusal}
-use Rattle.hp_model.specs.declared.refusal.Refusal.TheVariants.{TraceFull}
-use Rattle.hp_model.specs.machine.Plan.{Reply}
-use Rattle.hp_model.specs.machine.Step.{Answer_with, Do, Script, exit_slot, exit_slots, fork_slots, or_undone, undone, when_done}
+use Rattle.hp_laws.proofs.Variants.{Answer, Done, ExitMaps, FindAndAdd, ForkMaps, Refusal, Remove, Slot as OnSlot, TableEvent, Tasks as OnTasks, TraceFull}
+use Rattle.hp_model.proofs.Words.{Answer_with, Do, Reply, Script, exit_slot, exit_slots, fork_slots, or_undone, undone, when_done}
 use Rattle.hp_events.specs.Replies.{is_trace_full, table_reply}
 use Rattle.hp_events.specs.declared.table_told.TableTold.{TableTold}
 use Rattle.hp_events.specs.declared.table_told.TableTold.TheVariants as told

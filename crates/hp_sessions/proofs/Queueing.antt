@@ -1,22 +1,13 @@
 -- Loads, stores and faults that their slot takes together.
-use Rattle.std.proofs.Common.{◌≡◌, ℕ, ◌+◌, ◌-◌, ◌<◌, ◌≤◌, Bool, false, List, [], ◌∷◌, ◌++◌, Ok, length, take, drop, refl, sym, ap, subst, ◌∙◌, arith}
-use Rattle.std.proofs.Common.{append-nil, length-drop, take-add, take_all}
+use Rattle.std.proofs.Common.{◌≡◌, ℕ, ◌+◌, ◌-◌, ◌<◌, ◌≤◌, Bool, false, List, [], ◌∷◌, ◌++◌, Ok, length, take, drop, refl, sym, ap, subst, ◌∙◌, arith, append-nil, length-drop, take-add, take_all}
 use Rattle.std.proofs.Math.ListN.{drop_of_length-le}
 use Rattle.std.proofs.Math.Seq.{drop-append-add, take-append-add}
 use Rattle.std.proofs.lemmas.List.{drop-drop, length-take-le}
 use borrow.Rule.Slice.PartMut.{put_mid}
 use Rattle.hp_model.proofs.Queues.{does_both}
-use Rattle.hp_model.specs.beside.Queue.{DoesAll, QueuedView}
-use Rattle.hp_model.specs.declared.answer.Answer.TheVariants.{Home}
-use Rattle.hp_model.specs.declared.entry.Receipt.{Receipt}
-use Rattle.hp_model.specs.declared.event.Event.TheVariants.{Tasks as OnTasks, Slot as OnSlot}
-use Rattle.hp_model.specs.declared.event.SlotEvent.{SlotEvent}
+use Rattle.hp_model.proofs.Words.{DoesAll, QueuedView, Reply, finding, on_slot}
+use Rattle.hp_laws.proofs.Variants.{Fault, Find, Home, Load, Receipt, Slot as OnSlot, SlotEvent, Step, Store, Tasks as OnTasks}
 use Rattle.hp_model.specs.declared.event.SlotEvent.TheVariants as slot
-use Rattle.hp_model.specs.declared.event.TableEvent.TheVariants.{Find}
-use Rattle.hp_model.specs.declared.step.Step.{Step}
-use Rattle.hp_model.specs.declared.step.Step.TheVariants.{Fault, Load, Store}
-use Rattle.hp_model.specs.machine.Plan.{Reply}
-use Rattle.hp_model.specs.machine.Step.{finding, on_slot}
 use Rattle.hp_events.specs.Queues.{AreAccessesHanded, AreFirstHanded, IsAccessHanded, IsFoundAndHanded}
 use Rattle.hp_sessions.specs.Calls.{Carries, IsCallAnswered, SessionView}
 use Rattle.hp_sessions.proofs.Carrying.{answered, found, made, on_slot_made, view_is, with_receipts}

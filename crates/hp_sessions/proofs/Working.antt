@@ -1,7 +1,6 @@
 -- A step, by what it asks of which part.
 use Rattle.std.proofs.Common.{◌≡◌, ℕ, Bool, inl, inr, sym, subst, ◌∙◌}
-use Rattle.hp_model.specs.machine.Plan.{Reply}
-use Rattle.hp_model.specs.machine.Step.{on_slot}
+use Rattle.hp_model.proofs.Words.{Reply, on_slot}
 use Rattle.hp_events.specs.declared.work.Work.{Work}
 use Rattle.hp_sessions.specs.Calls.{Carries, HasReceiptRoom, SessionView}
 use Rattle.hp_events.specs.Works.{work_carries, work_receipts, work_script}

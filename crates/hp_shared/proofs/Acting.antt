@@ -1,17 +1,9 @@
 -- What went through a session's door is what went by what it asked.
 use Rattle.std.proofs.Common.{◌≡◌, ℕ, Bool, true, false, Option, None, Some, Ok, Err, List, refl, sym, ap, ◌∙◌, subst}
-use Rattle.hp_model.specs.declared.answer.Answer.{Answer}
-use Rattle.hp_model.specs.declared.entry.Asked.{Asked}
-use Rattle.hp_model.specs.declared.event.SlotEvent.{SlotEvent}
+use Rattle.hp_laws.proofs.Variants.{Answer, Asked, PoolAnswer, Section, SlotEvent}
 use Rattle.hp_model.specs.declared.event.SlotEvent.TheVariants as slot
 use Rattle.hp_model.specs.declared.refusal.Refusal.TheVariants as r
-use Rattle.hp_model.specs.declared.section.PoolAnswer.{PoolAnswer}
-use Rattle.hp_model.specs.declared.section.Section.{Section}
-use Rattle.hp_model.specs.beside.Copying.{has_names, reply_has_names}
-use Rattle.hp_model.specs.machine.Plan.{Answered, Ask, Finish, Outcome, Plan, Refused, Reply, Slot}
-use Rattle.hp_model.specs.machine.SlotEvent.{slot_event}
-use Rattle.hp_model.specs.text.Writing.{IsWithinLimits}
-use Rattle.hp_model.specs.threads.LocalRun.{Gives, Goes, ThroughDoor}
+use Rattle.hp_model.proofs.Words.{Answered, Ask, Finish, Gives, Goes, IsWithinLimits, Outcome, Plan, Refused, Reply, Slot, ThroughDoor, has_names, reply_has_names, slot_event}
 use Rattle.hp_laws.specs.Answers.{HasNoNames, lists_names}
 use Rattle.hp_laws.specs.Balance.{Always, left_by}
 use Rattle.hp_laws.proofs.promises.Listing.{names_are_listed}

@@ -11,10 +11,7 @@ use Rattle.hp_history.specs.declared.law.Places as law
 use Rattle.hp_locked.proofs.Crossing.{line_lock_send, line_lock_sync}
 use Rattle.hp_locked.specs.contracts.nodes.NodeLocks as NodeLocks
 use Rattle.hp_locked.specs.contracts.pool_core.Core as Core
-use Rattle.hp_model.specs.declared.entry.PoolEntry.{PoolEntry}
-use Rattle.hp_model.specs.declared.entry.SlotEntry.{SlotEntry}
-use Rattle.hp_model.specs.declared.entry.TableEntry.{TableEntry}
-use Rattle.hp_model.specs.declared.naming.Naming.{Ghosts}
+use Rattle.hp_laws.proofs.Variants.{Ghosts, PoolEntry, SlotEntry, TableEntry}
 use Rattle.hp_nodes.proofs.Crossing.{node_frames_send}
 use Rattle.hp_pool.proofs.Crossing.{pool_send}
 use Rattle.hp_shared.proofs.CrossingEntries.{pool_entry_send, slot_entry_send, table_entry_send, trace_send}

@@ -18,7 +18,7 @@ use Rattle.hp_mapping.specs.contracts.places.Places as Places
 use Rattle.hp_mapping.specs.contracts.row.Row as Row
 use Rattle.hp_mapping.specs.contracts.sparse.Sparse as Sparse
 use Rattle.hp_mapping.specs.contracts.summed.Summed as Summed
-use Rattle.hp_model.specs.declared.naming.Naming.{Ghosts}
+use Rattle.hp_laws.proofs.Variants.{Ghosts}
 use Rattle.hp_mount.specs.contracts.mount.Mount as Mount
 use Rattle.hp_file.proofs.Crossing as files
 use Rattle.hp_file.specs.contracts.file.File as File

@@ -1,6 +1,5 @@
 -- The trails of all parts, from the start of a machine.
-use Rattle.std.proofs.Common.{◌≡◌, inl, inr, ℕ, zero, suc, ◌-◌, ◌<◌, Bool, true, false, Option, None, Some, List, [], ◌∷◌, ◌++◌, length, refl, sym, ap, subst, ◌∙◌, arith}
-use Rattle.std.specs.Prelude.{slice_index_or, IfSome}
+use Rattle.std.proofs.Common.{◌≡◌, inl, inr, ℕ, zero, suc, ◌-◌, ◌<◌, Bool, true, false, Option, None, Some, List, [], ◌∷◌, ◌++◌, length, refl, sym, ap, subst, ◌∙◌, arith, slice_index_or, IfSome}
 use Rattle.std.specs.Global.{Vec}
 use Rattle.std.proofs.lemmas.Bool.{false≢true}
 use Rattle.hp_locked.specs.Views.{IsPoolTrail, IsTrailOf}
@@ -10,21 +9,11 @@ use Rattle.hp_shared.specs.declared.shared.Trails.{Trails}
 use Rattle.std.proofs.lemmas.Bool.{cases_lt}
 use Rattle.std.proofs.lemmas.List.{get_or_append_left, get_or-replicate, length-append, length-map, length-replicate}
 use Rattle.std.proofs.Math.Seq.{get_or-append_seam}
-use Rattle.hp_model.specs.declared.entry.PoolEntry.{PoolEntry}
-use Rattle.hp_model.specs.declared.entry.SlotEntry.{SlotEntry}
-use Rattle.hp_model.specs.declared.entry.TableEntry.{TableEntry}
-use Rattle.hp_model.specs.machine.Machine.{idle_node, slots_from, start}
-use Rattle.hp_model.specs.machine.Plan.{Slot}
-use Rattle.hp_model.specs.machine.State.{slot_at}
-use Rattle.hp_model.specs.machine.Table.{Table}
-use Rattle.hp_model.specs.pool.PoolCounts.{Pool}
-use Rattle.hp_model.specs.threads.LocalRun.{IsLocalRun}
-use Rattle.hp_model.specs.threads.PoolRun.{IsPoolRun}
-use Rattle.hp_model.specs.threads.TableRun.{IsTableRun}
+use Rattle.hp_laws.proofs.Variants.{PoolEntry, SlotEntry, TableEntry}
+use Rattle.hp_model.proofs.Words.{IsLocalRun, IsPoolRun, IsTableRun, Pool, Slot, Table, idle_node, machine_of, slot_at, slots_from, start}
 use Rattle.hp_pool.specs.Sums.{idle_pool}
 use Rattle.hp_shared.specs.Slots.{slot_start}
 use Rattle.hp_own_pool.proofs.Starting.{start_pool}
-use Rattle.hp_model.specs.machine.Ready.{machine_of}
 use Rattle.hp_shared.specs.Sharing.{AreGathered, EndsRuns, entries_of}
 
 pub none_gathered : (size : ℕ) → AreGathered size [] []

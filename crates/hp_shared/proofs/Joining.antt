@@ -1,31 +1,20 @@
 -- The seats of all parts, as one seat takes them in at the end.
-use Rattle.std.proofs.Common.{◌≡◌, ℕ, ◌+◌, Bool, true, false, Option, None, Some, List, [], ◌∷◌, ◌++◌, ◌<◌, length, refl, sym, ap, subst, ◌∙◌, arith, append_assoc}
+use Rattle.std.proofs.Common.{◌≡◌, ℕ, ◌+◌, Bool, true, false, Option, None, Some, List, [], ◌∷◌, ◌++◌, ◌<◌, length, refl, sym, ap, subst, ◌∙◌, arith, append_assoc, IfSome, is_some}
 use Rattle.std.proofs.lemmas.Bool.{false≢true}
 use Rattle.std.proofs.lemmas.List.{append-nil, map-append}
 use Rattle.std.specs.Global.{Vec}
-use Rattle.std.specs.Prelude.{IfSome, is_some}
 use Rattle.hp_history.specs.declared.held.Held.{Held}
 use Rattle.hp_history.specs.declared.held.Held.TheVariants.{Tasks, Pool as PoolPart, Opener, Slot as SlotPart}
 use Rattle.hp_history.specs.History.{held_from}
 use Rattle.hp_locked.specs.Views.{IsTrailOf}
-use Rattle.hp_model.specs.declared.entry.PoolEntry.{PoolEntry}
-use Rattle.hp_model.specs.declared.entry.SlotEntry.{SlotEntry}
-use Rattle.hp_model.specs.declared.entry.TableEntry.{TableEntry}
-use Rattle.hp_model.specs.machine.Plan.{Slot}
-use Rattle.hp_model.specs.threads.JointRun.{Trails as Run}
-use Rattle.hp_model.specs.threads.LocalRun.{IsLocalRun}
+use Rattle.hp_laws.proofs.Variants.{PoolEntry, SlotEntry, TableEntry}
+use Rattle.hp_model.proofs.Words.{IsLocalRun, IsPoolRun, IsTableRun, Pool, Slot, Table, Trails as Run, machine_of, start}
 use Rattle.hp_shared.specs.Ended.{AreSlotsJoined, HasEnded, IsCount}
 use Rattle.hp_shared.specs.Sharing.{AreGathered, entries_of}
 use Rattle.hp_shared.specs.Slots.{slot_start}
 use Rattle.hp_shared.specs.declared.shared.Trails.{Trails}
 use Rattle.hp_trail.specs.Keeping.{Keeping, kept_if}
 use Rattle.hp_trail.specs.Walk.{lists, trails_of}
-use Rattle.hp_model.specs.machine.Machine.{start}
-use Rattle.hp_model.specs.machine.Ready.{machine_of}
-use Rattle.hp_model.specs.machine.Table.{Table}
-use Rattle.hp_model.specs.pool.PoolCounts.{Pool}
-use Rattle.hp_model.specs.threads.PoolRun.{IsPoolRun}
-use Rattle.hp_model.specs.threads.TableRun.{IsTableRun}
 use Rattle.hp_pool.specs.Sums.{idle_pool}
 use Rattle.hp_shared.proofs.Gathered.{ends_runs, none_gathered, one_gathered}
 

@@ -1,15 +1,9 @@
 -- The list of a slot's names.
-use Rattle.std.proofs.Common.{◌≡◌, ℕ, Bool, true, false, cond, None, Some, Ok, Err, List, refl, sym, subst}
-use Rattle.std.specs.List.{filter_map}
-use Rattle.hp_model.specs.declared.answer.Answer.{Answer}
-use Rattle.hp_model.specs.declared.answer.Answer.TheVariants.{Names}
-use Rattle.hp_model.specs.declared.event.SlotEvent.{SlotEvent}
+use Rattle.std.proofs.Common.{◌≡◌, ℕ, Bool, true, false, cond, None, Some, Ok, Err, List, refl, sym, subst, filter_map}
+use Rattle.hp_laws.proofs.Variants.{Answer, Names, SlotEvent}
 use Rattle.hp_model.specs.declared.event.SlotEvent.TheVariants.{Ls}
 use Rattle.hp_model.specs.declared.refusal.Refusal.TheVariants as r
-use Rattle.hp_model.specs.files.File.{File, Mount}
-use Rattle.hp_model.specs.beside.Copying.{has_names}
-use Rattle.hp_model.specs.machine.Plan.{Answered, Finish, Outcome, Refused, Reply, Slot, refuse}
-use Rattle.hp_model.specs.threads.LocalRun.{Gives, Goes}
+use Rattle.hp_model.proofs.Words.{Answered, File, Finish, Gives, Goes, Mount, Outcome, Refused, Reply, Slot, has_names, refuse}
 use Rattle.hp_mount_laws.specs.Alone.{IsDoneAlone}
 use Rattle.hp_mount_laws.proofs.Ways.{fresh_choice, is_fresh}
 use Rattle.hp_events.specs.Answered.{Went}

@@ -1,13 +1,11 @@
 -- What the parts of a machine begin with.
-use Rattle.std.proofs.Common.{◌≡◌, ℕ, ◌<◌, ◌≤◌, Bool, true, false, None, List, [], ◌∷◌, length, map, refl, sym, ap, subst, ◌∙◌, arith}
-use Rattle.std.specs.Prelude.{IfOk, Result, Ok, Err, nat_lt, slice_index}
-use Rattle.std.proofs.Common.{cond}
-use Rattle.std.specs.List.{All, filter, sum}
+use Rattle.std.proofs.Common.{◌≡◌, ℕ, ◌<◌, ◌≤◌, Bool, true, false, None, List, [], ◌∷◌, length, map, refl, sym, ap, subst, ◌∙◌, arith, IfOk, Result, Ok, Err, nat_lt, slice_index, cond, All, filter}
+use Rattle.std.proofs.Common.{sum}
 use Rattle.std.proofs.lemmas.List.Elements.{All-head, All-tail}
 use Rattle.std.proofs.lemmas.List.Sums.{sum_by-cons}
 use Rattle.hp_locked.specs.Views.{IsNewTrail, frames_list}
-use Rattle.hp_model.specs.declared.node.NodeRow.{NodeRow}
-use Rattle.hp_model.specs.pool.NodeRows.{frames_of, idle_row, surp_of}
+use Rattle.hp_laws.proofs.Variants.{NodeRow}
+use Rattle.hp_model.proofs.Words.{frames_of, idle_row, surp_of}
 use Rattle.hp_mount_door.specs.Door.{IsReady}
 use Rattle.hp_pool.specs.Sums.{idle_pool}
 use Rattle.std.proofs.lemmas.List.{length-map}

@@ -1,11 +1,10 @@
 -- The seats of all parts, given away one by one.
-use Rattle.std.proofs.Common.{◌≡◌, ◌≢◌, ℕ, suc, ◌+◌, ◌*◌, ◌<◌, List, [], ◌∷◌, sym, ap, ◌∙◌, subst, arith}
-use Rattle.std.specs.Prelude.{replicate}
+use Rattle.std.proofs.Common.{◌≡◌, ◌≢◌, ℕ, suc, ◌+◌, ◌*◌, ◌<◌, List, [], ◌∷◌, sym, ap, ◌∙◌, subst, arith, replicate}
 use Rattle.hp_history.specs.declared.held.Held.{Held}
 use Rattle.hp_history.specs.declared.held.Held.TheVariants.{Pool, Opener, Slot}
 use Rattle.hp_history.specs.declared.law.Shape.{Shape}
 use Rattle.hp_history.specs.History.{CanGo, Each, all_parts, first_of_view, parts_of, rest_of_view, held_from}
-use Rattle.hp_model.specs.declared.entry.SlotEntry.{SlotEntry}
+use Rattle.hp_laws.proofs.Variants.{SlotEntry}
 
 -- the slots from k on are none of the parts before
 slots_apart : (q k : ℕ) → q < 2 * k + 3 → (ess : List (List SlotEntry)) → Each (λ g. Each (λ p. Each (λ q. p ≢ q) (q ∷ [])) (parts_of g)) (held_from k ess)

@@ -1,7 +1,7 @@
 -- Places of a trail that are kept for the entries that take away.
 use Rattle.std.proofs.Common.{◌≡◌, ℕ, ◌≤◌, Bool, true, false, ◌||◌, Option, None, Some, refl, arith}
 use Rattle.std.proofs.lemmas.Bool.{lt-ltb, ltb-true}
-use Rattle.hp_model.specs.threads.Closing.{KeepsPlaces}
+use Rattle.hp_model.proofs.Words.{KeepsPlaces}
 use Rattle.hp_locked.specs.Views.{HasPlaces}
 use Rattle.hp_trail.specs.Keeping.{has_room, one_less}
 

@@ -1,21 +1,12 @@
 -- A slot's seat in the history, with one event more.
-use Rattle.std.proofs.Common.{◌≡◌, ◌⊎◌, inl, inr, ℕ, Bool, true, false, Option, None, Some, List, [], ◌∷◌, ◌++◌, length, refl, sym, ap, ◌∙◌, subst}
-use Rattle.std.specs.Prelude.{is_some, if◌then◌else◌, IsTrue}
+use Rattle.std.proofs.Common.{◌≡◌, ◌⊎◌, inl, inr, ℕ, Bool, true, false, Option, None, Some, List, [], ◌∷◌, ◌++◌, length, refl, sym, ap, ◌∙◌, subst, is_some, if◌then◌else◌, IsTrue}
 use Rattle.atomic_table.specs.Seated.{TableId}
 use Rattle.hp_history.specs.declared.held.Held.{Held}
 use Rattle.hp_history.specs.declared.held.Held.TheVariants.{Slot as SlotPart, Busy}
 use Rattle.hp_history.specs.History.{number_in, receipts_in}
 use Rattle.hp_history.specs.Sections.{IsEntered, IsHeld, asked_in, free_slot, section_at, receipts_next, session_view, entry_with, told_more, trail_next}
-use Rattle.hp_model.specs.declared.entry.Asked.{Asked}
-use Rattle.hp_model.specs.declared.entry.Part.TheVariants.{Slot as AtSlot}
-use Rattle.hp_model.specs.declared.entry.Receipt.{Receipt}
-use Rattle.hp_model.specs.declared.entry.SlotEntry.{SlotEntry}
-use Rattle.hp_model.specs.declared.event.Event.TheVariants.{Slot as OnSlot}
-use Rattle.hp_model.specs.declared.event.SlotEvent.{SlotEvent}
-use Rattle.hp_model.specs.machine.Event.{is_slot_event}
-use Rattle.hp_model.specs.machine.Plan.{Ask, Finish, Plan, Reply, Slot}
-use Rattle.hp_model.specs.machine.SlotEvent.{slot_event}
-use Rattle.hp_model.specs.threads.LocalRun.{Goes, IsLocalRun}
+use Rattle.hp_laws.proofs.Variants.{Asked, AtSlot, Receipt, Slot as OnSlot, SlotEntry, SlotEvent}
+use Rattle.hp_model.proofs.Words.{Ask, Finish, Goes, IsLocalRun, Plan, Reply, Slot, is_slot_event, slot_event}
 use Rattle.hp_locked.specs.Told.{IsReceipt}
 use Rattle.hp_locked.specs.Views.{IsTrailOf}
 use Rattle.hp_mount_laws.specs.Done.{MayEnter}

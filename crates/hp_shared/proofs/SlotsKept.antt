@@ -1,27 +1,13 @@
 -- The slot's trail keeps its fact with one entry more.
-use Rattle.std.proofs.Common.{◌≡◌, ◌⊎◌, inr, ℕ, ◌≤◌, zero, suc, Bool, true, false, ◌||◌, List, [], ◌∷◌, ◌++◌, Option, None, Some, Ok, Err, refl, sym, ap, ◌∙◌, subst, arith}
-use Rattle.std.specs.Prelude.{is_some, IsTrue}
-use Rattle.hp_model.specs.declared.entry.Asked.{Asked}
-use Rattle.hp_model.specs.declared.entry.SlotEntry.{SlotEntry}
-use Rattle.hp_model.specs.declared.event.SlotEvent.{SlotEvent}
-use Rattle.hp_model.specs.declared.event.SlotEvent.TheVariants.{ExitMaps}
-use Rattle.hp_model.specs.machine.Event.{is_slot_event}
-use Rattle.hp_model.specs.machine.Plan.{Reply, Slot}
-use Rattle.hp_model.specs.machine.SlotEvent.{slot_event}
-use Rattle.hp_model.specs.Profile.{most_tasks}
-use Rattle.hp_model.specs.threads.Closing.{KeepsPlaces, removes_maps, to_exit}
-use Rattle.hp_model.specs.threads.LocalRun.{IsLocalRun, IsLocalStep}
-use Rattle.hp_model.specs.threads.Telling.{has_place}
+use Rattle.std.proofs.Common.{◌≡◌, ◌⊎◌, inr, ℕ, ◌≤◌, zero, suc, Bool, true, false, ◌||◌, List, [], ◌∷◌, ◌++◌, Option, None, Some, Ok, Err, refl, sym, ap, ◌∙◌, subst, arith, is_some, IsTrue, MatchBool}
+use Rattle.hp_laws.proofs.Variants.{Asked, AtSlot, ExitMaps, Receipt, Slot as OnSlot, SlotEntry, SlotEvent}
+use Rattle.hp_model.proofs.Words.{IsLocalRun, IsLocalStep, KeepsPlaces, Reply, Slot, has_place, is_slot_event, most_tasks, removes_maps, slot_event, to_exit}
 use Rattle.hp_laws.proofs.settled.Closing.{slot_places}
 use Rattle.hp_locked.specs.Views.{HasPlaces, IsNewTrail as IsFreshTrail}
 use Rattle.hp_trail.specs.Keeping.{has_room, one_less, with_entry}
 use Rattle.hp_events.specs.Answered.{Went}
 use Rattle.hp_events.specs.Replies.{is_trace_full}
 use Rattle.hp_shared.specs.Slots.{IsActedOr, IsLockedSlot, IsSlotEvent, IsSlotEventDone, IsSlotTrail, SlotView, slot_start}
-use Rattle.std.specs.Bool.{MatchBool}
-use Rattle.hp_model.specs.declared.entry.Part.TheVariants.{Slot as AtSlot}
-use Rattle.hp_model.specs.declared.entry.Receipt.{Receipt}
-use Rattle.hp_model.specs.declared.event.Event.TheVariants.{Slot as OnSlot}
 use Rattle.hp_locked.specs.Told.{IsReceipt}
 use Rattle.hp_events.specs.declared.event.MountEvent.{MountEvent}
 use Rattle.hp_events.specs.declared.event.MountEvent.TheVariants as m

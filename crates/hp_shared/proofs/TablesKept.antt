@@ -1,12 +1,7 @@
 -- The table's trail keeps its fact with one entry more.
 use Rattle.std.proofs.Common.{◌≡◌, ℕ, ◌≤◌, ◌||◌, Bool, true, false, List, [], ◌∷◌, ◌++◌, Option, None, Some, length, refl, sym, ap, subst, arith}
-use Rattle.hp_model.specs.declared.entry.TableEntry.{TableEntry}
-use Rattle.hp_model.specs.declared.event.TableEvent.{TableEvent}
-use Rattle.hp_model.specs.machine.Plan.{Reply}
-use Rattle.hp_model.specs.machine.Table.{Table, table_event}
-use Rattle.hp_model.specs.Profile.{most_tasks}
-use Rattle.hp_model.specs.threads.Closing.{KeepsPlaces, removes_task, to_remove}
-use Rattle.hp_model.specs.threads.TableRun.{IsTableRun}
+use Rattle.hp_laws.proofs.Variants.{TableEntry, TableEvent}
+use Rattle.hp_model.proofs.Words.{IsTableRun, KeepsPlaces, Reply, Table, most_tasks, removes_task, table_event, to_remove}
 use Rattle.hp_laws.proofs.settled.Closing.{table_places}
 use Rattle.hp_history.proofs.Folds.{run_table}
 use Rattle.hp_history.proofs.Steps.{table_step, table_turns}

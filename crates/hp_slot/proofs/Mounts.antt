@@ -1,6 +1,5 @@
 -- Mount, remount and umount of a slot, by what its door did.
-use Rattle.std.proofs.Common.{◌≡◌, ℕ, ◌==◌, Bool, true, false, cond, Option, None, Some, Ok, Err, List, [], refl, sym, ap, ◌∙◌, subst}
-use Rattle.std.specs.Prelude.{Result, is_some}
+use Rattle.std.proofs.Common.{◌≡◌, ℕ, ◌==◌, Bool, true, false, cond, Option, None, Some, Ok, Err, List, [], refl, sym, ap, ◌∙◌, subst, Result, is_some}
 use Rattle.std.proofs.lemmas.Bool.{cond_both}
 use Rattle.hp_model.specs.declared.answer.Answer.TheVariants.{Done}
 use Rattle.hp_model.specs.declared.event.SlotEvent.TheVariants.{Mount as Mounting, Remount, Umount}
@@ -10,11 +9,8 @@ use Rattle.hp_model.specs.declared.refusal.Refusal.TheVariants as r
 use Rattle.hp_model.specs.declared.section.PoolAnswer.{PoolAnswer}
 use Rattle.hp_model.specs.declared.section.Section.{Section}
 use Rattle.hp_model.specs.declared.section.Section.TheVariants.{ReadAndGrant}
-use Rattle.hp_model.specs.files.File.{Mount}
-use Rattle.hp_model.specs.files.Options.{Wanted, checked, is_below_min, limits, limits_of, wanted_of}
-use Rattle.hp_model.specs.machine.Plan.{Choice, Plan, Reply, Slot, gives, refuse, unless}
-use Rattle.hp_model.specs.machine.SlotEvent.{has_maps, mount_outcome, mount_pages, slot_event, umount_tests}
-use Rattle.hp_model.specs.threads.LocalRun.{Gives, ThroughDoor}
+use Rattle.hp_model.proofs.Words.{Choice, Gives, Mount, Plan, Reply, Slot, ThroughDoor, Wanted, checked, gives, has_maps, is_below_min, limits, limits_of, mount_outcome, mount_pages, refuse}
+use Rattle.hp_model.proofs.Words.{slot_event, umount_tests, unless, wanted_of}
 use Rattle.hp_mount_door.specs.Opened.{IsOpenedAt, IsShareOf}
 use Rattle.hp_mount_laws.specs.Done.{IsDone}
 use Rattle.hp_mount_laws.specs.Kept.{mount_from}

@@ -1,13 +1,12 @@
 -- Pages beside their holders.
 use Rattle.std.proofs.Common.{◌≡◌, ℕ, zero, suc, ◌<◌, List, [], ◌∷◌, ◌++◌, length, map, slice_index, slice_index_or, slice_set, Option, None, Some, is_some, true, false, refl, sym, ap, ◌∙◌, arith}
-use Rattle.std.specs.Prelude.{nat_lt}
-use Rattle.std.specs.Option.{option_map}
+use Rattle.std.proofs.Common.{nat_lt, option_map}
 use Rattle.std.proofs.Math.ListN.{get_or-map}
 use Rattle.std.proofs.Math.Seq.{map-set_same}
 use Rattle.std.proofs.lemmas.List.{get_or_read, length-map, map-append, map-set, set-get_or}
 use Rattle.std.proofs.lemmas.List.Sums.{sum_by-cons}
 use Rattle.std.proofs.lemmas.Bool.Decides.{nat_tests}
-use Rattle.hp_model.specs.files.Page.{Page}
+use Rattle.hp_model.proofs.Words.{Page}
 use Rattle.hp_store.specs.Store.{Holding, at_slot, held_count, holders_of, held_page, one_if_held}
 use Rattle.hp_store.specs.Kept.{held_by, holdings, one_if_page, page_count}
 use Rattle.hp_store.proofs.Empty.{some_within}

@@ -1,7 +1,6 @@
 -- Numbered slots after what stands in one of them may have changed.
-use Rattle.std.proofs.Common.{◌≡◌, ℕ, Bool, true, false, is_some, IsTrue, List, slice_index_or, None, refl, sym, ◌∙◌, ap, arith}
+use Rattle.std.proofs.Common.{◌≡◌, ℕ, Bool, true, false, is_some, IsTrue, List, slice_index_or, None, refl, sym, ◌∙◌, ap, arith, option_map}
 use Rattle.std.proofs.lemmas.List.{length-set}
-use Rattle.std.specs.Option.{option_map}
 use Rattle.hp_store.specs.Store.{Holding, at_slot, held_count}
 use Rattle.hp_store.specs.Kept.{IsNumbered, Used, with_free}
 use Rattle.hp_store.proofs.Free.{free_changed, held_changed}

@@ -1,9 +1,9 @@
 -- Slots of which only the first were ever used.
 use Rattle.std.proofs.Common.{◌≡◌, ℕ, ◌+◌, ◌-◌, ◌<◌, ◌≤◌, true, is_some, List, [], ◌∷◌, ◌++◌, length, replicate, slice_index_or, slice_set, Option, None, Some, sym, ◌∙◌, ap, suc, refl, arith}
+use Rattle.std.proofs.Common.{option_map}
 use Rattle.std.proofs.lemmas.List.{append_assoc, length-append, length-replicate, length-set, replicate-append-replicate, set-append_left, set_at}
 use Rattle.std.proofs.lemmas.List.Sums.{sum_by-append}
 use Rattle.std.proofs.lemmas.List.Folds.{sum_by-replicate}
-use Rattle.std.specs.Option.{option_map}
 use Rattle.hp_store.specs.Store.{Holding, Lengthens, at_slot, held_count, holders_of, one_if_held}
 use Rattle.hp_store.specs.Kept.{with_free}
 use Rattle.hp_store.proofs.Empty.{none_past, some_within}

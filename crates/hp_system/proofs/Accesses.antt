@@ -1,20 +1,8 @@
 -- Loads, stores and faults, by the task's home, by its slot and by what the mount did.
-use Rattle.std.proofs.Common.{◌≡◌, ℕ, ◌<◌, ◌≤◌, List, length, Err, Some, None, refl, sym, ap, ◌∙◌, subst, IsTrue}
-use Rattle.std.specs.Prelude.{slice_index_or, slice_set}
-use Rattle.hp_model.specs.declared.event.SlotEvent.{SlotEvent}
-use Rattle.hp_model.specs.declared.refusal.Refusal.TheVariants.{NoSuchSlot, NoSuchTask}
-use Rattle.hp_model.specs.declared.service.Access.{Access}
-use Rattle.hp_model.specs.declared.step.Intent.{Intent}
-use Rattle.hp_model.specs.beside.Accesses.{fault_step, load_step, store_step}
-use Rattle.hp_model.specs.machine.Event.{is_slot_event}
-use Rattle.hp_model.specs.machine.Plan.{Reply, Slot}
-use Rattle.hp_model.specs.machine.Ready.{IsReadyMachine, Machine, machine_of, state_of}
-use Rattle.hp_model.specs.machine.Promises.{IsPromised}
-use Rattle.hp_model.specs.machine.State.{State}
-use Rattle.hp_model.specs.declared.step.Step.{Step}
-use Rattle.hp_model.specs.machine.Step.{IsStep, Script, on_slot}
-use Rattle.hp_model.specs.machine.Table.{Table, home_of}
-use Rattle.hp_model.specs.pool.PoolCounts.{Pool}
+use Rattle.std.proofs.Common.{◌≡◌, ℕ, ◌<◌, ◌≤◌, List, length, Err, Some, None, refl, sym, ap, ◌∙◌, subst, IsTrue, slice_index_or, slice_set}
+use Rattle.hp_laws.proofs.Variants.{Access, Intent, NoSuchSlot, NoSuchTask, SlotEvent, Step}
+use Rattle.hp_model.proofs.Words.{IsPromised, IsReadyMachine, IsStep, Machine, Pool, Reply, Script, Slot, State, Table, fault_step, home_of, is_slot_event, load_step, machine_of, on_slot, state_of}
+use Rattle.hp_model.proofs.Words.{store_step}
 use Rattle.hp_mount_laws.specs.Done.{IsDone}
 use Rattle.hp_system.specs.Event.{DoesOfTask, fault_event, load_event, store_event, took}
 use Rattle.hp_system.specs.Sized.{IsSized}

@@ -4,7 +4,7 @@ use Rattle.hp_events.specs.Event.{as_event}
 use Rattle.hp_events.specs.Memory.{asks_memory}
 use Rattle.hp_events.specs.declared.event.MountEvent.{MountEvent}
 use Rattle.hp_events.specs.declared.event.MountEvent.TheVariants.{Create, Unlink, Truncate, Punch, Preallocate, Stat, Read, Map, Anon, Unmap, Fault, Load, Store, Ls, Df}
-use Rattle.hp_model.specs.machine.Plan.{Slot}
+use Rattle.hp_model.proofs.Words.{Slot}
 
 pub of_any_home : (slot : Slot) (one other : ℕ) (e : MountEvent) → asks_memory slot (as_event one e) ≡ asks_memory slot (as_event other e)
 of_any_home slot one other (Create name) = refl

@@ -1,23 +1,11 @@
 -- From what an event did to a slot and the pool to what it did to the machine, and to what holds after it.
-use Rattle.std.proofs.Common.{◌≡◌, ℕ, ◌<◌, false, List, Err, Ok, None, length, refl, sym, ◌∙◌, ap, subst, arith, IsTrue}
-use Rattle.std.specs.Prelude.{nat_lt, slice_index_or, slice_set}
+use Rattle.std.proofs.Common.{◌≡◌, ℕ, ◌<◌, false, List, Err, Ok, None, length, refl, sym, ◌∙◌, ap, subst, arith, IsTrue, nat_lt, slice_index_or, slice_set}
 use Rattle.std.proofs.lemmas.Bool.Decides.{nat_tests}
 use Rattle.std.proofs.lemmas.List.{set-get_or}
-use Rattle.hp_model.specs.declared.event.Event.TheVariants.{Slot as OnSlot, Pool as OnPool}
-use Rattle.hp_model.specs.declared.event.PoolEvent.{PoolEvent}
-use Rattle.hp_model.specs.declared.event.SlotEvent.{SlotEvent}
+use Rattle.hp_laws.proofs.Variants.{Pool as OnPool, PoolEvent, Slot as OnSlot, SlotEvent}
 use Rattle.hp_model.specs.declared.refusal.Refusal.TheVariants as refusal
-use Rattle.hp_model.specs.machine.Event.{CanHappen, IsEvent, IsFresh, after, asked_pool, is_slot_event, planned, with_outcome}
-use Rattle.hp_model.specs.threads.LocalRun.{Gives, ThroughDoor}
-use Rattle.hp_model.specs.machine.Machine.{pool_of, with_pool}
-use Rattle.hp_model.specs.machine.Plan.{Reply, Slot, Outcome, Refused, Answered, Plan, Finish, Ask, Choice}
-use Rattle.hp_model.specs.pool.Pool.{section}
-use Rattle.hp_model.specs.pool.PoolCounts.{Pool}
-use Rattle.hp_model.specs.pool.Resize.{pool_event}
-use Rattle.hp_model.specs.machine.Settled.{IsSettledState}
-use Rattle.hp_model.specs.machine.SlotEvent.{slot_event}
-use Rattle.hp_model.specs.machine.State.{State}
-use Rattle.hp_model.specs.machine.Table.{Table}
+use Rattle.hp_model.proofs.Words.{Answered, Ask, CanHappen, Choice, Finish, Gives, IsEvent, IsFresh, IsReadyMachine, IsSettledState, Machine, Outcome, Plan, Pool, Refused, Reply, Slot, State, Table}
+use Rattle.hp_model.proofs.Words.{ThroughDoor, after, asked_pool, is_slot_event, machine_of, planned, pool_event, pool_of, section, slot_event, state_of, with_outcome, with_pool}
 use Rattle.hp_laws.specs.Laws.{pool_after}
 use Rattle.hp_laws.proofs.settled.StaysSettled.{pool_is_tied, event_settled}
 use Rattle.hp_laws.proofs.steps.Tells.{Tells, slot_event_tells}
@@ -30,7 +18,6 @@ use Rattle.hp_events.specs.declared.slot_work.SlotWork.TheVariants as work
 use Rattle.hp_events.specs.SlotWork.{asked_event, full_for, is_of_maps}
 use Rattle.hp_mount_door.specs.Door.{IsReady as IsReadyPool}
 use Rattle.hp_system.specs.Event.{IsCarried, took}
-use Rattle.hp_model.specs.machine.Ready.{machine_of, state_of, IsReadyMachine, Machine}
 use Rattle.hp_system.specs.Sized.{IsSized}
 use Rattle.hp_system.proofs.Ready.{ready_pool}
 

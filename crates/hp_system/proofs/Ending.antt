@@ -1,37 +1,23 @@
 -- The end of the machine: slot after slot goes, with all that it has.
-use Rattle.std.proofs.Common.{◌≡◌, ℕ, suc, ◌+◌, ◌*◌, ◌-◌, ◌<◌, ◌≤◌, ◌&&◌, ◌==◌, None, Some, Ok, List, [], ◌∷◌, ◌++◌, length, replicate, refl, sym, ap, subst, ◌∙◌, arith, IsTrue}
-use Rattle.std.specs.Prelude.{max, slice_set}
-use Rattle.std.specs.List.{All, sum}
+use Rattle.std.proofs.Common.{◌≡◌, ℕ, suc, ◌+◌, ◌*◌, ◌-◌, ◌<◌, ◌≤◌, ◌&&◌, ◌==◌, None, Some, Ok, List, [], ◌∷◌, ◌++◌, length, replicate, refl, sym, ap, subst, ◌∙◌, arith, IsTrue, max, slice_set, All}
+use Rattle.std.proofs.Common.{sum}
 use Rattle.std.proofs.lemmas.Bool.{cond_both}
 use Rattle.std.proofs.lemmas.List.{append-nil, append_assoc, length-append}
 use Rattle.std.proofs.lemmas.List.Elements.{All-head, All-tail}
 use Rattle.std.proofs.lemmas.List.Sums.{sum_by-cons}
 use Rattle.std.proofs.Math.Seq.{get_or-append_seam, set-append_seam}
-use Rattle.hp_model.specs.declared.answer.Answer.TheVariants.{Done}
+use Rattle.hp_laws.proofs.Variants.{Done, ExitMaps, GiveBack, NodeRow}
 use Rattle.hp_laws.specs.Balance.{Always, IsBalanced, left_by}
-use Rattle.hp_model.specs.declared.event.SlotEvent.TheVariants.{ExitMaps}
-use Rattle.hp_model.specs.files.File.{Mount}
-use Rattle.hp_model.specs.files.GiveBack.{without_task}
-use Rattle.hp_model.specs.machine.Event.{has_maps_of}
-use Rattle.hp_model.specs.machine.Machine.{committed_pages, pool_of}
-use Rattle.hp_model.specs.machine.Plan.{Plan, Finish, Ask, Answered, Reply, Slot, fall_of, gives, puts_of}
-use Rattle.hp_model.specs.declared.section.Section.TheVariants.{GiveBack}
-use Rattle.hp_model.specs.pool.PoolCounts.{Pool, counts_by, counts_of, used}
-use Rattle.hp_model.specs.declared.node.NodeRow.{NodeRow}
-use Rattle.hp_model.specs.pool.NodeRows.{IsRow, total_of}
-use Rattle.hp_model.specs.machine.Settled.{IsSettledState}
+use Rattle.hp_model.proofs.Words.{Answered, Ask, Finish, IsReadyMachine, IsRow, IsSettledState, IsSound, Machine, Mount, Plan, Pool, Reply, Slot, State, Table, ThroughDoor, committed_pages, counts_by}
+use Rattle.hp_model.proofs.Words.{counts_of, fall_of, gives, has_maps_of, machine_of, pool_of, puts_of, state_of, total_of, without_task}
+use Rattle.hp_model.specs.pool.PoolCounts.{used}
 use Rattle.hp_mount_door.specs.Door.{IsReady as IsReadyPool}
-use Rattle.hp_model.specs.machine.Sound.{IsSound}
-use Rattle.hp_model.specs.machine.State.{State}
-use Rattle.hp_model.specs.machine.Table.{Table}
 use Rattle.hp_laws.proofs.steps.Plans.{balanced_gives}
 use Rattle.hp_model.proofs.RowMoves.{puts_are}
 use Rattle.hp_laws.proofs.accesses.SlotShows.{always_gives}
 use Rattle.hp_laws.proofs.sections.PoolTied.{plan_tied}
-use Rattle.hp_model.specs.threads.LocalRun.{ThroughDoor}
 use Rattle.hp_laws.proofs.steps.Tells.{tells_gives}
 use Rattle.hp_system.specs.Event.{AllGo, Exits, IsExit, SlotGoes, took}
-use Rattle.hp_model.specs.machine.Ready.{IsReadyMachine, Machine, machine_of, state_of}
 use Rattle.hp_system.specs.Sized.{IsSized, all_free}
 use Rattle.hp_system.proofs.Carries.{kept_after, kept_by, plan_is, slot_in, IsKept}
 use Rattle.hp_own_pool.proofs.Starting.{sum_none}

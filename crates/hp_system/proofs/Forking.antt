@@ -1,24 +1,13 @@
 -- A fork, slot after slot, and its undoing.
-use Rattle.std.proofs.Common.{◌≡◌, ℕ, zero, suc, ◌+◌, ◌<◌, ◌≤◌, Bool, true, false, cond, List, [], ◌∷◌, ◌++◌, Err, Ok, Some, None, length, refl, sym, ap, subst, ◌∙◌, arith}
-use Rattle.std.specs.Bool.{MatchBool}
-use Rattle.std.specs.List.{filter, range_with_len, slice_index_or, slice_set}
+use Rattle.std.proofs.Common.{◌≡◌, ℕ, zero, suc, ◌+◌, ◌<◌, ◌≤◌, Bool, true, false, cond, List, [], ◌∷◌, ◌++◌, Err, Ok, Some, None, length, refl, sym, ap, subst, ◌∙◌, arith, MatchBool, filter}
+use Rattle.std.proofs.Common.{slice_index_or, slice_set}
+use Rattle.std.specs.List.{range_with_len}
 use Rattle.std.proofs.lemmas.List.{get_or-set_other, get_or-set_same}
 use Rattle.std.proofs.lemmas.List.Elements.{filter-append}
-use Rattle.hp_model.specs.declared.answer.Answer.{Answer}
-use Rattle.hp_model.specs.declared.answer.Answer.TheVariants.{Done}
-use Rattle.hp_model.specs.declared.event.Event.TheVariants.{Tasks, Slot as OnSlot}
-use Rattle.hp_model.specs.declared.event.SlotEvent.{SlotEvent}
-use Rattle.hp_model.specs.declared.event.SlotEvent.TheVariants.{ForkMaps}
+use Rattle.hp_laws.proofs.Variants.{Answer, Done, Fork, ForkMaps, Refusal, Slot as OnSlot, SlotEvent, Tasks}
 use Rattle.hp_model.specs.declared.event.TableEvent.TheVariants as table
-use Rattle.hp_model.specs.declared.refusal.Refusal.{Refusal}
-use Rattle.hp_model.specs.declared.step.Step.TheVariants.{Fork}
-use Rattle.hp_model.specs.files.Fork.{forked}
-use Rattle.hp_model.specs.machine.Event.{IsEvent, has_maps_of}
-use Rattle.hp_model.specs.machine.Plan.{Answered, Choice, Finish, Ask, Outcome, Plan, Refused, Reply, Slot, gives}
-use Rattle.hp_model.specs.machine.Settled.{IsSettledState}
-use Rattle.hp_model.specs.machine.SlotEvent.{fork_tests, slot_event}
-use Rattle.hp_model.specs.machine.State.{State, slot_at}
-use Rattle.hp_model.specs.machine.Step.{Do, IsScript, IsStep, Script, fork_slots, or_undone, undone}
+use Rattle.hp_model.proofs.Words.{Answered, Ask, Choice, Do, Finish, IsEvent, IsScript, IsSettledState, IsStep, Outcome, Plan, Refused, Reply, Script, Slot, State, fork_slots, fork_tests, forked}
+use Rattle.hp_model.proofs.Words.{gives, has_maps_of, or_undone, slot_at, slot_event, undone}
 use Rattle.hp_laws.specs.Balance.{Always, left_by}
 use Rattle.hp_laws.proofs.steps.Outcomes.{event_ends, reply_of}
 use Rattle.hp_laws.proofs.promises.Parents.{parent_stays}

@@ -1,41 +1,22 @@
 -- Steps of the machine, by what its parts do. The code's values enter as variables with equations.
-use Rattle.std.proofs.Common.{◌≡◌, ℕ, ◌+◌, ◌<◌, ◌≤◌, true, false, cond, List, [], ◌∷◌, ◌++◌}
-use Rattle.std.proofs.Common.{Option, Ok, Err, None, Some, length, map, not, ◌==◌, Bool, refl, sym, ◌∙◌, ap, subst, arith, IsTrue}
-use Rattle.std.specs.Bool.{MatchBool}
-use Rattle.std.specs.List.{find, range_with_len}
-use Rattle.std.specs.Option.{option_map}
-use Rattle.std.specs.Prelude.{nat_le, nat_lt, slice_index_or, slice_set}
+use Rattle.std.proofs.Common.{◌≡◌, ℕ, ◌+◌, ◌<◌, ◌≤◌, true, false, cond, List, [], ◌∷◌, ◌++◌, Option, Ok, Err, None, Some, length, map, not, ◌==◌, Bool, refl, sym, ◌∙◌, ap, subst, arith, IsTrue}
+use Rattle.std.proofs.Common.{MatchBool, find, option_map, nat_le, nat_lt, slice_index_or, slice_set}
+use Rattle.std.specs.List.{range_with_len}
 use Rattle.std.proofs.lemmas.List.FromFn.{map-range_with_len_more}
 use Rattle.std.proofs.lemmas.List.{get_or_default, set-get_or, map-id}
 use Rattle.std.proofs.lemmas.Bool.Decides.{nat_tests}
 use Rattle.std.proofs.lemmas.Grind.{common_steps}
-use Rattle.hp_model.specs.declared.answer.Answer.{Answer}
-use Rattle.hp_model.specs.declared.answer.Answer.TheVariants.{Done, Number, Home as HomeAnswer}
-use Rattle.hp_model.specs.declared.event.Event.{Event}
-use Rattle.hp_model.specs.declared.event.Event.TheVariants.{Tasks, Slot as OnSlot, Pool as OnPool}
-use Rattle.hp_model.specs.declared.event.PoolEvent.{PoolEvent}
+use Rattle.hp_laws.proofs.Variants.{Answer, Attach, Connect, Done, Event, Exit, Home as HomeAnswer, NoSuchSlot, NoSuchTask, Number, OutOfRange, Overcommit, Pool as OnPool, PoolEvent, Refusal}
+use Rattle.hp_laws.proofs.Variants.{Slot as OnSlot, SlotEvent, TableEvent, Tasks}
 use Rattle.hp_model.specs.declared.event.PoolEvent.TheVariants as pool
-use Rattle.hp_model.specs.declared.event.SlotEvent.{SlotEvent}
 use Rattle.hp_model.specs.declared.event.SlotEvent.TheVariants as slot
-use Rattle.hp_model.specs.declared.event.TableEvent.{TableEvent}
 use Rattle.hp_model.specs.declared.event.TableEvent.TheVariants as table
-use Rattle.hp_model.specs.declared.refusal.Refusal.{Refusal}
-use Rattle.hp_model.specs.declared.refusal.Refusal.TheVariants.{NoSuchTask, NoSuchSlot, OutOfRange}
-use Rattle.hp_model.specs.declared.step.Step.TheVariants.{Attach, Connect, Exit, Overcommit}
-use Rattle.hp_model.specs.machine.Event.{IsEvent, has_maps_of, with_table, with_pool_reply, is_slot_event}
-use Rattle.hp_model.specs.machine.Machine.{pool_of, node_of}
-use Rattle.hp_model.specs.machine.Plan.{Reply, Slot}
-use Rattle.hp_model.specs.Profile.{most_overcommit}
-use Rattle.hp_model.specs.pool.PoolCounts.{Pool}
-use Rattle.hp_model.specs.pool.Resize.{pool_event, set_nr}
+use Rattle.hp_model.proofs.Words.{Answer_with, Do, IsEvent, IsReadyMachine, IsScript, IsStep, Machine, Pool, Reply, Script, Slot, State, Table, exit_slot, exit_slots, finding, has_maps_of, home_of}
+use Rattle.hp_model.proofs.Words.{is_slot_event, machine_of, most_overcommit, node_of, on_slot, only, pool_event, pool_of, removed, set_nr, slot_at, slot_event, state_of, table_event, when_known}
+use Rattle.hp_model.proofs.Words.{with_pool_reply, with_table}
 use Rattle.hp_laws.proofs.sections.PoolTied.{pool_back}
-use Rattle.hp_model.specs.machine.State.{State, slot_at}
-use Rattle.hp_model.specs.machine.Step.{Script, Answer_with, Do, exit_slot, exit_slots, on_slot, only, finding, IsScript, IsStep}
-use Rattle.hp_model.specs.machine.Table.{Table, table_event, home_of, removed, when_known}
-use Rattle.hp_model.specs.machine.SlotEvent.{slot_event}
 use Rattle.hp_mount_laws.specs.Done.{IsDone}
 use Rattle.hp_system.specs.Event.{AreExited, IsCarried, took}
-use Rattle.hp_model.specs.machine.Ready.{IsReadyMachine, machine_of, state_of, Machine}
 use Rattle.hp_system.specs.Sized.{IsSized}
 use Rattle.hp_system.proofs.Carries.{calm, event_done, kept_after, kept_by, kept_by_pool, never_full, ready_by, slot_in, IsKept}
 

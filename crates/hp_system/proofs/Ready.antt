@@ -1,12 +1,8 @@
 -- A machine between steps has a pool that is ready for a section.
 use Rattle.std.proofs.Common.{◌≡◌, ℕ, List, arith, subst, sym}
-use Rattle.hp_model.specs.machine.Machine.{pool_of}
+use Rattle.hp_model.proofs.Words.{IsReadyMachine, Machine, Pool, Slot, Table, machine_of, pool_of}
 use Rattle.hp_laws.proofs.sections.Lengths.{long_rows}
 use Rattle.hp_mount_door.specs.Door.{IsReady as IsReadyPool}
-use Rattle.hp_model.specs.machine.Plan.{Slot}
-use Rattle.hp_model.specs.machine.Table.{Table}
-use Rattle.hp_model.specs.pool.PoolCounts.{Pool}
-use Rattle.hp_model.specs.machine.Ready.{IsReadyMachine, Machine, machine_of}
 
 pub ready_pool : (m : Machine) → IsReadyMachine m → IsReadyPool m.pool
 ready_pool m r =

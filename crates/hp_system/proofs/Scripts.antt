@@ -1,12 +1,8 @@
 -- A run over a whole input that is known.
 use Rattle.std.proofs.Common.{◌≡◌, ℕ, List, [], sym, ◌∙◌, ap, subst, append-nil, ◌++◌, Option, Some, None, Result, Ok, Err, OnOk, IfSome}
 use Rattle.std.specs.Io.KnownBytes.{Appends, Consumes, IsAtEnd}
-use Rattle.hp_model.specs.machine.Plan.{Reply}
-use Rattle.hp_model.specs.text.Lines.{lines}
-use Rattle.hp_model.specs.text.Text.{AnswersLines}
-use Rattle.hp_model.specs.declared.step.Step.{Step}
-use Rattle.hp_model.specs.run.Served.{AnswersInput, Serves}
-use Rattle.hp_model.specs.declared.fault.RunFault.{RunFault}
+use Rattle.hp_model.proofs.Words.{AnswersInput, AnswersLines, Reply, Serves, lines}
+use Rattle.hp_laws.proofs.Variants.{RunFault, Step}
 
 whole_input : (xs ys input : List ℕ) → xs ≡ input ++ ys → ys ≡ [] → input ≡ xs
 whole_input xs ys input cut end = sym (cut ∙ ap (λ (zs : List ℕ). input ++ zs) end ∙ append-nil input)

@@ -1,15 +1,8 @@
 -- A run of what is seen of a service is a run of what it shows.
 use Rattle.std.proofs.Common.{ℕ, List, [], ◌∷◌, Option, Result, Ok, Err, ap}
-use Rattle.hp_model.specs.declared.refusal.Refusal.{Refusal}
-use Rattle.hp_model.specs.declared.step.Step.{Step}
-use Rattle.hp_model.specs.machine.Plan.{Reply}
-use Rattle.hp_model.specs.text.Lines.{Line}
-use Rattle.hp_model.specs.text.Reading.{step_of}
-use Rattle.hp_model.specs.text.Text.{AnswersStep, AnswersLines, IsTextOfReplies}
-use Rattle.hp_model.specs.run.Ran.{Ran, RanInPart}
-use Rattle.hp_model.specs.run.Served.{Serves}
-use Rattle.hp_model.specs.declared.fault.RunFault.{RunFault}
-use Rattle.hp_model.specs.declared.fault.RunFault.TheVariants.{Memory, Read, Write, TooLong}
+use Rattle.hp_laws.proofs.Variants.{Memory, Refusal, RunFault, Step, TooLong}
+use Rattle.hp_model.proofs.Words.{AnswersLines, AnswersStep, IsTextOfReplies, Line, Ran, RanInPart, Reply, Serves, step_of}
+use Rattle.hp_model.specs.declared.fault.RunFault.TheVariants.{Read, Write}
 
 module _ {S T : Type 0} (shown : S → T) (may_answer : T → Step → Reply → T → Type 0) where
   -- the service may answer so, by what it shows

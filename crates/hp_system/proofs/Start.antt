@@ -1,14 +1,9 @@
 -- The machine at the start.
-use Rattle.std.proofs.Common.{◌≡◌, ℕ, suc, ◌+◌, ◌<◌, ◌≤◌, List, [], ◌∷◌, ◌++◌, None, length, map, replicate, refl, sym, ◌∙◌, ap, subst, arith}
-use Rattle.std.specs.List.{All}
+use Rattle.std.proofs.Common.{◌≡◌, ℕ, suc, ◌+◌, ◌<◌, ◌≤◌, List, [], ◌∷◌, ◌++◌, None, length, map, replicate, refl, sym, ◌∙◌, ap, subst, arith, All}
 use Rattle.std.proofs.lemmas.List.{replicate-append-replicate}
-use Rattle.hp_model.specs.machine.Machine.{idle_node, node_of, pool_of, slots_from, start}
-use Rattle.hp_model.specs.pool.NodeRows.{idle_row}
-use Rattle.hp_model.specs.machine.Plan.{Slot}
-use Rattle.hp_model.specs.machine.Settled.{IsSettledState}
+use Rattle.hp_model.proofs.Words.{IsSettledState, Slot, idle_node, idle_row, node_of, pool_of, slots_from, start, state_of}
 use Rattle.hp_laws.proofs.settled.StaysSettled.{start_is_settled}
 use Rattle.hp_system.proofs.Carries.{IsKept}
-use Rattle.hp_model.specs.machine.Ready.{state_of}
 use Rattle.hp_own_pool.proofs.Starting.{start_pool}
 use Rattle.hp_pool.specs.Sums.{idle_pool}
 

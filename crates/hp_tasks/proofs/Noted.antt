@@ -1,15 +1,13 @@
 -- Where tasks are noted to stand: those that are not among the numbers in order, at the places of their rests.
-use Rattle.std.proofs.Common.{◌≡◌, ◌≢◌, ℕ, zero, suc, ◌+◌, ◌-◌, ◌<◌, ◌≤◌, ◌==◌, false, eq-eqb, eqb-true}
-use Rattle.std.proofs.Common.{Option, None, Some, List, [], ◌∷◌, ◌++◌, ◌⊎◌, inl, inr, length, get_or, set, arith, refl, ap, sym, subst, ◌∙◌}
+use Rattle.std.proofs.Common.{◌≡◌, ◌≢◌, ℕ, zero, suc, ◌+◌, ◌-◌, ◌<◌, ◌≤◌, ◌==◌, false, eq-eqb, eqb-true, Option, None, Some, List, [], ◌∷◌, ◌++◌, ◌⊎◌, inl, inr, length, get_or, set, arith, refl, ap}
+use Rattle.std.proofs.Common.{sym, subst, ◌∙◌, count_by, filter, position, is_some}
 use Rattle.std.proofs.Math.ListN.{get_or-eq_default}
-use Rattle.std.specs.List.{count_by, filter, position}
-use Rattle.std.specs.Option.{is_some}
 use Rattle.std.proofs.lemmas.Bool.{cases_lt, false≢true, false_from_ne_true}
 use Rattle.std.proofs.lemmas.List.{get_or-set_other, get_or-set_same}
 use Rattle.std.proofs.lemmas.List.Quantifiers.{position-Some}
 use Rattle.hp_laws.proofs.lists.AtMostOne.{bit, single}
 use Rattle.hp_model.proofs.Counting.{count_cons}
-use Rattle.hp_model.specs.machine.Table.{home_of}
+use Rattle.hp_model.proofs.Words.{home_of}
 use Rattle.hp_tasks.specs.Table.{AreNoted, HasEachOnce, IsAlone, TaskRow, has_rest, has_task, task_rest, task_row_at, tasks_in}
 use Rattle.hp_tasks.proofs.Slots.{entry_at, none_at}
 

@@ -1,6 +1,5 @@
 -- Numbers in order: what a search finds, and what stays in order.
-use Rattle.std.proofs.Common.{◌≡◌, ◌≢◌, ℕ, suc, ◌+◌, ◌<◌, ◌≤◌, ◌==◌, eqb-true, List, [], ◌∷◌, length, get_or, inl, inr, Ok, Err, refl, ap, arith}
-use Rattle.std.specs.List.{count_by, remove}
+use Rattle.std.proofs.Common.{◌≡◌, ◌≢◌, ℕ, suc, ◌+◌, ◌<◌, ◌≤◌, ◌==◌, eqb-true, List, [], ◌∷◌, length, get_or, inl, inr, Ok, Err, refl, ap, arith, count_by, remove}
 use Rattle.std.specs.List.Sorted.{IsBinarySearchResult, IsNonDecreasing}
 use Rattle.std.specs.Ordering.{nat_cmp}
 use Rattle.std.proofs.lemmas.Bool.{false_from_ne_true}

@@ -1,14 +1,13 @@
 -- Tasks in slots with gaps between them.
-use Rattle.std.proofs.Common.{◌≡◌, ℕ, zero, suc, ◌+◌, ◌≤◌, ◌==◌, Bool, true, false, not, eqb-true, eq-eqb}
-use Rattle.std.proofs.Common.{Option, None, Some, IfSome, List, [], ◌∷◌, length, set, cond, arith, refl, ap, sym, ◌∙◌}
-use Rattle.std.specs.List.{count_by, filter, find, position, position_from}
-use Rattle.std.specs.Option.{is_some, option_map}
+use Rattle.std.proofs.Common.{◌≡◌, ℕ, zero, suc, ◌+◌, ◌≤◌, ◌==◌, Bool, true, false, not, eqb-true, eq-eqb, Option, None, Some, IfSome, List, [], ◌∷◌, length, set, cond, arith, refl, ap, sym, ◌∙◌}
+use Rattle.std.proofs.Common.{count_by, filter, find, position, is_some, option_map}
+use Rattle.std.specs.List.{position_from}
 use Rattle.std.proofs.lemmas.Bool.{false≢true, false_from_ne_true}
 use Rattle.std.proofs.lemmas.Iterator.Adapters.{position_from-zero}
 use Rattle.std.proofs.lemmas.List.Quantifiers.{position-Some}
 use Rattle.hp_laws.proofs.lists.AtMostOne.{bit}
 use Rattle.hp_model.proofs.Counting.{count_cons}
-use Rattle.hp_model.specs.machine.Table.{Table, home_of, removed}
+use Rattle.hp_model.proofs.Words.{Table, home_of, removed}
 use Rattle.hp_tasks.specs.Table.{TaskRow, has_task, task_row_at, tasks_in}
 
 -- ---- a task that is not there

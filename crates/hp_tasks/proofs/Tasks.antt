@@ -1,12 +1,10 @@
 -- A task that is in the table once.
-use Rattle.std.proofs.Common.{◌≡◌, ℕ, ◌+◌, ◌≤◌, ◌==◌, Bool, true, false, not, eq-eqb, eqb-true, None, Some, List, [], ◌∷◌, length, cond, arith, refl, ap, subst, ◌∙◌}
-use Rattle.std.specs.List.{count_by, find}
-use Rattle.std.specs.Option.{option_map}
+use Rattle.std.proofs.Common.{◌≡◌, ℕ, ◌+◌, ◌≤◌, ◌==◌, Bool, true, false, not, eq-eqb, eqb-true, None, Some, List, [], ◌∷◌, length, cond, arith, refl, ap, subst, ◌∙◌, count_by, find, option_map}
 use Rattle.std.proofs.lemmas.List.Sums.{length-filter, sum_by-append}
 use Rattle.hp_laws.proofs.lists.Places.{sum_by-filter_le}
 use Rattle.hp_laws.proofs.lists.AtMostOne.{bit}
 use Rattle.hp_model.proofs.Counting.{count_cons, count_not}
-use Rattle.hp_model.specs.machine.Table.{Table, added, home_of, removed}
+use Rattle.hp_model.proofs.Words.{Table, added, home_of, removed}
 use Rattle.hp_tasks.specs.Table.{HasEachOnce}
 
 module _ {X : Type 0} (p : X → Bool) where

@@ -1,6 +1,5 @@
 -- What is added after what was added.
-use Rattle.std.proofs.Common.{◌≡◌, ◌++◌, ◌+◌, ◌<◌, ◌≤◌, ℕ, List, ◌∷◌, length, arith, append_assoc, length-append, ◌∙◌, ap, sym, Vec, vec_len, vec_capacity, drop, get_or, add-one, drop-cons}
-use Rattle.std.specs.List.{flat_map}
+use Rattle.std.proofs.Common.{◌≡◌, ◌++◌, ◌+◌, ◌<◌, ◌≤◌, ℕ, List, ◌∷◌, length, arith, append_assoc, length-append, ◌∙◌, ap, sym, Vec, vec_len, vec_capacity, drop, get_or, add-one, drop-cons, flat_map}
 use Rattle.std.specs.declared.alloc.Global.{Global}
 use Rattle.hp_text.specs.Output.{Adds}
 

@@ -3,7 +3,7 @@ use Rattle.std.proofs.Common.{◌≡◌, ℕ, zero, suc, ◌+◌, ◌-◌, ◌*�
 use Rattle.std.proofs.Math.Nat.{pow-suc, pow-le-pow_right}
 use Rattle.std.proofs.lemmas.Fmt.{decimal_digit, decimal_nonempty, decimal_step}
 use Rattle.std.proofs.lemmas.List.{take-append-drop, take-replicate}
-use Rattle.hp_model.specs.text.Writing.{in_columns}
+use Rattle.hp_model.proofs.Words.{in_columns}
 
 pub length_digit : (n : ℕ) → n < 10 → length (decimal n) ≡ 1
 length_digit n small = ap length (decimal_digit n small)

@@ -1,10 +1,11 @@
 -- A text is cut at its first separator.
 use Rattle.std.proofs.Common.{◌≡◌, ℕ, List, [], ◌∷◌, ◌++◌, ◌+◌, ◌<◌, ◌≤◌, length, take, drop, refl, sym, ◌∙◌, ap, arith, Bool, true, false, nat_lt, ◌==◌, Some, None, cond, length-drop, take_all, ◌-◌}
+use Rattle.std.proofs.Common.{position}
 use Rattle.std.proofs.lemmas.Bool.{eqb-true}
 use Rattle.std.proofs.lemmas.Bool.Decides.{nat_tests}
 use Rattle.std.proofs.lemmas.List.Splits.{slice_split_first, slice_split_none}
 use Rattle.std.proofs.lemmas.List.Sums.{fails_before_first, passes_at_first, split_at_first}
-use Rattle.std.specs.List.{position, position_or_len}
+use Rattle.std.specs.List.{position_or_len}
 use Rattle.hp_text.specs.Pieces.{pieces_by}
 
 abbrev separates : ℕ → ℕ → Bool

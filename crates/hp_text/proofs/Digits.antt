@@ -1,13 +1,13 @@
 -- Reading a number from left to right.
-use Rattle.std.proofs.Common.{◌≡◌, ℕ, List, [], ◌∷◌, ◌+◌, ◌-◌, ◌*◌, ◌^◌, ◌<◌, ◌≤◌, length, refl, sym, ◌∙◌, ap, arith}
-use Rattle.std.proofs.Common.{Bool, true, false, ◌&&◌, nat_lt, nat_le, Option, Some, None, inl, inr, ◌⊎◌, drop, get_or, add-one, drop-cons, drop_of_length-le}
+use Rattle.std.proofs.Common.{◌≡◌, ℕ, List, [], ◌∷◌, ◌+◌, ◌-◌, ◌*◌, ◌^◌, ◌<◌, ◌≤◌, length, refl, sym, ◌∙◌, ap, arith, Bool, true, false, ◌&&◌, nat_lt, nat_le, Option, Some, None, inl, inr, ◌⊎◌, drop}
+use Rattle.std.proofs.Common.{get_or, add-one, drop-cons, drop_of_length-le}
 use Rattle.std.proofs.lemmas.Bool.Decides.{nat_tests}
 use Rattle.std.proofs.lemmas.Str.{digit_value_digit}
 use Rattle.std.specs.Char.{is_ascii_digit, digit_value}
 use Rattle.std.specs.Int.{IsInRange}
 use Rattle.std.specs.Str.{all_ascii_digits}
 use Rattle.std.specs.Str.Parse.{digits_value_after}
-use Rattle.hp_model.specs.files.Options.{number_of, when}
+use Rattle.hp_model.proofs.Words.{number_of, when}
 
 -- a number, where the test holds and it fits
 abbrev pub made : Bool → ℕ → Option ℕ

@@ -1,8 +1,8 @@
 -- The first byte that passes a test, by places and by its position.
-use Rattle.std.proofs.Common.{◌≡◌, ℕ, List, ◌<◌, ◌≤◌, length, sym, subst, ap, ◌∙◌, arith, Bool, true, false, nat_lt, ltb-true, ltb-false, lt-ltb, Some, None, Option, cond}
+use Rattle.std.proofs.Common.{◌≡◌, ℕ, List, ◌<◌, ◌≤◌, length, sym, subst, ap, ◌∙◌, arith, Bool, true, false, nat_lt, ltb-true, ltb-false, lt-ltb, Some, None, Option, cond, position}
 use Rattle.std.proofs.lemmas.Bool.{false_from_ne_true}
 use Rattle.std.proofs.lemmas.List.Sums.{fails_before_first, passes_at_first}
-use Rattle.std.specs.List.{position, position_or_len}
+use Rattle.std.specs.List.{position_or_len}
 use Rattle.memchr.specs.Find.{IsFirstByte}
 
 true_not_false : true ≡ false → ⊥

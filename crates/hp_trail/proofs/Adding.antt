@@ -1,18 +1,11 @@
 -- What a receipt's claims mean for all rows.
-use Rattle.std.proofs.Common.{arith}
+use Rattle.std.proofs.Common.{arith, ◌≡◌, ◌≢◌, ◌⊎◌, inl, inr, ℕ, ◌+◌, ◌<◌, Option, None, Some, List, [], length, refl, sym, ap, ◌∙◌, subst, slice_index_or, option_and_then, option_map}
 use Rattle.std.proofs.lemmas.Grind.{common_steps}
-use Rattle.std.proofs.Common.{◌≡◌, ◌≢◌, ◌⊎◌, inl, inr, ℕ, ◌+◌, ◌<◌, Option, None, Some, List, [], length, refl, sym, ap, ◌∙◌, subst}
-use Rattle.std.specs.List.{slice_index_or}
-use Rattle.std.specs.Option.{option_and_then, option_map}
 use Rattle.std.proofs.lemmas.Bool.Decides.{eqb_tells}
 use Rattle.std.proofs.lemmas.List.{get_or-set_same, get_or-set_other, length-set}
-use Rattle.hp_model.specs.declared.entry.Asked.{Asked}
-use Rattle.hp_model.specs.declared.entry.Part.{Part}
-use Rattle.hp_model.specs.declared.entry.Part.TheVariants.{Tasks, Slot as AtSlot, Pool as AtPool}
-use Rattle.hp_model.specs.declared.entry.PoolEntry.{PoolEntry}
-use Rattle.hp_model.specs.declared.entry.Receipt.{Receipt}
-use Rattle.hp_model.specs.threads.Differ.{entry_at, of_pool}
-use Rattle.hp_model.specs.threads.JointRun.{Trails, slot_trail, Entry, InTasks, InSlot, event_of}
+use Rattle.hp_laws.proofs.Variants.{Asked, AtPool, AtSlot, Part, PoolEntry, Receipt}
+use Rattle.hp_model.specs.declared.entry.Part.TheVariants.{Tasks}
+use Rattle.hp_model.proofs.Words.{Entry, InSlot, InTasks, Trails, entry_at, event_of, of_pool, slot_trail}
 use Rattle.hp_trail.specs.Tellers.{Added, AddsPool, AddsSlot, AddsTask, ClaimsSection, Fit, Stands, TellerRows, asked_section, teller}
 use Rattle.hp_trail.proofs.Indexing.{claim_long, claim_other, claim_same, row_there, some_is}
 

@@ -1,15 +1,10 @@
 -- A receipt's entry, looked up in its trail, and the place of its session, noted or not.
 use Rattle.std.proofs.lemmas.Grind.{common_steps}
-use Rattle.std.proofs.Common.{◌≡◌, ◌≢◌, inl, inr, ℕ, ◌<◌, false, Option, Some, List, length, ltb, sym, ap, subst, ◌∙◌, [], arith}
+use Rattle.std.proofs.Common.{◌≡◌, ◌≢◌, inl, inr, ℕ, ◌<◌, false, Option, Some, List, length, ltb, sym, ap, subst, ◌∙◌, [], arith, slice_get, slice_index_or}
 use Rattle.std.specs.Global.{Vec}
-use Rattle.std.specs.List.{slice_get, slice_index_or}
 use Rattle.std.proofs.lemmas.Bool.{false≢true, lt-ltb}
-use Rattle.hp_model.specs.declared.entry.Asked.{Asked}
-use Rattle.hp_model.specs.declared.entry.PoolEntry.{PoolEntry}
-use Rattle.hp_model.specs.declared.entry.PoolEntry.TheVariants.{OfSlot}
-use Rattle.hp_model.specs.declared.entry.Receipt.{Receipt}
-use Rattle.hp_model.specs.declared.entry.SlotEntry.{SlotEntry}
-use Rattle.hp_model.specs.threads.JointRun.{Entry}
+use Rattle.hp_laws.proofs.Variants.{Asked, OfSlot, PoolEntry, Receipt, SlotEntry}
+use Rattle.hp_model.proofs.Words.{Entry}
 use Rattle.hp_trail.specs.Tellers.{AddsEntry, Claims, ClaimsSection, Finds, Misses, RefusesEntry, RefusesSection, Stands, TellsOf, entry_of_slot}
 use Rattle.hp_trail.specs.Walk.{lists}
 use Rattle.hp_trail.proofs.Indexing.{element_at, get_there, lists_read, some_is}

@@ -1,15 +1,11 @@
 -- Each session is to be tried, or waits.
 use Rattle.std.proofs.lemmas.Grind.{common_steps}
-use Rattle.std.proofs.Common.{◌≡◌, ◌≢◌, ◌⊎◌, inl, inr, ℕ, zero, suc, ◌+◌, ◌<◌, Bool, cond, Option, None, Some, List, [], ◌∷◌, ◌++◌, length, refl, sym, ap, ◌∙◌, subst, arith}
-use Rattle.std.specs.List.{Contains, slice_get}
+use Rattle.std.proofs.Common.{◌≡◌, ◌≢◌, ◌⊎◌, inl, inr, ℕ, zero, suc, ◌+◌, ◌<◌, Bool, cond, Option, None, Some, List, [], ◌∷◌, ◌++◌, length, refl, sym, ap, ◌∙◌, subst, arith, Contains, slice_get}
 use Rattle.std.proofs.lemmas.Bool.{eq-eqb}
 use Rattle.std.proofs.lemmas.Bool.Decides.{eqb_tells}
 use Rattle.std.proofs.lemmas.List.Elements.{Contains-push_cases}
-use Rattle.hp_model.specs.declared.entry.Part.{Part}
-use Rattle.hp_model.specs.declared.entry.Part.TheVariants.{Pool as AtPool}
-use Rattle.hp_model.specs.declared.entry.Receipt.{Receipt}
-use Rattle.hp_model.specs.threads.Differ.{HasReceipt, entry_at}
-use Rattle.hp_model.specs.threads.JointRun.{Trails, Entry, Item, part_of, receipt_of}
+use Rattle.hp_laws.proofs.Variants.{AtPool, Part, Receipt}
+use Rattle.hp_model.proofs.Words.{Entry, HasReceipt, Item, Trails, entry_at, part_of, receipt_of}
 use Rattle.hp_trail.specs.Tellers.{AreTold, TellerRows, teller}
 use Rattle.hp_trail.specs.Walk.{AreCovered, Cursors, GoesOn, IsBlocked, Passes, Took, Waits, cursor, cursor_at, receipts_left, session}
 use Rattle.hp_trail.proofs.Indexing.{get_there, row_there, some_is}

@@ -1,14 +1,13 @@
 -- Taking the events out of the receipts, from the last on.
 use Rattle.std.proofs.lemmas.Grind.{common_steps}
-use Rattle.std.proofs.Common.{◌≡◌, inl, inr, ℕ, ◌<◌, ◌==◌, cond, None, Some, List, [], ◌∷◌, ◌++◌, length, map, reverse, refl, sym, ap, ◌∙◌, subst, arith, append-nil, append_assoc}
-use Rattle.std.specs.List.{Contains, slice_index_or, slice_set}
+use Rattle.std.proofs.Common.{◌≡◌, inl, inr, ℕ, ◌<◌, ◌==◌, cond, None, Some, List, [], ◌∷◌, ◌++◌, length, map, reverse, refl, sym, ap, ◌∙◌, subst, arith, append-nil, append_assoc, Contains}
+use Rattle.std.proofs.Common.{slice_index_or, slice_set}
 use Rattle.std.proofs.lemmas.Bool.{eq-eqb}
 use Rattle.std.proofs.lemmas.Bool.Decides.{eqb_tells}
 use Rattle.std.proofs.lemmas.List.{get_or-set_same, get_or-set_other, length-set, reverse-append}
 use Rattle.std.proofs.lemmas.List.Elements.{All-contains, Contains-append_left, Contains-push}
-use Rattle.hp_model.specs.declared.entry.Receipt.{Receipt}
-use Rattle.hp_model.specs.declared.event.Event.{Event}
-use Rattle.hp_model.specs.threads.JointRun.{Item, IsTold, event_of, keep, option_cons, receipt_of, told}
+use Rattle.hp_laws.proofs.Variants.{Event, Receipt}
+use Rattle.hp_model.proofs.Words.{IsTold, Item, event_of, keep, option_cons, receipt_of, told}
 use Rattle.hp_trail.proofs.Walking.{keep_snoc}
 
 abbrev pub session_of : Item → ℕ

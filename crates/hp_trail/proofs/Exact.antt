@@ -1,18 +1,13 @@
 -- Where trails and receipts differ, no list joins them.
 use Rattle.std.proofs.lemmas.Grind.{common_steps}
-use Rattle.std.proofs.Common.{◌≡◌, ◌≢◌, inl, inr, ℕ, zero, suc, ◌+◌, ◌<◌, true, cond, Option, None, Some, List, [], ◌∷◌, length, refl, sym, ap, ◌∙◌, subst, arith}
-use Rattle.std.specs.List.{slice_get, slice_index_or}
-use Rattle.std.specs.Option.{option_map}
+use Rattle.std.proofs.Common.{◌≡◌, ◌≢◌, inl, inr, ℕ, zero, suc, ◌+◌, ◌<◌, true, cond, Option, None, Some, List, [], ◌∷◌, length, refl, sym, ap, ◌∙◌, subst, arith, slice_get, slice_index_or}
+use Rattle.std.proofs.Common.{option_map}
 use Rattle.std.proofs.lemmas.Bool.{cases_lt, eq-eqb}
-use Rattle.hp_model.specs.declared.entry.Asked.{Asked}
-use Rattle.hp_model.specs.declared.entry.Part.{Part}
-use Rattle.hp_model.specs.declared.entry.Part.TheVariants.{Tasks, Slot as AtSlot, Pool as AtPool}
-use Rattle.hp_model.specs.declared.entry.PoolEntry.{PoolEntry}
-use Rattle.hp_model.specs.declared.entry.PoolEntry.TheVariants.{OfSlot, OfPool}
-use Rattle.hp_model.specs.declared.entry.Receipt.{Receipt}
-use Rattle.hp_model.specs.threads.Differ.{Asks, Differ, HasReceipt, HasCircle, InPoolAt, IsBefore, LostSection, SharedSection, ToldTwice, Untold, WrongReceipt, WrongSection, entry_at}
-use Rattle.hp_model.specs.threads.JointRun.{Trails, slot_trail, Entry, InTasks, InSlot, InPool, Item, Joins, IsThere, keep, numbered, option_cons}
-use Rattle.hp_model.specs.threads.JointRun.{event_of, part_of, placed, pool_entry, pool_part, receipt_of, section_entry, slot_entry, slot_part, task_part, told}
+use Rattle.hp_laws.proofs.Variants.{Asked, AtPool, AtSlot, OfPool, OfSlot, Part, PoolEntry, Receipt}
+use Rattle.hp_model.specs.declared.entry.Part.TheVariants.{Tasks}
+use Rattle.hp_model.proofs.Words.{Asks, Differ, Entry, HasCircle, HasReceipt, InPool, InPoolAt, InSlot, InTasks, IsBefore, IsThere, Item, Joins, LostSection, SharedSection, ToldTwice, Trails, Untold}
+use Rattle.hp_model.proofs.Words.{WrongReceipt, WrongSection, entry_at, event_of, keep, numbered, option_cons, part_of, placed, pool_entry, pool_part, receipt_of, section_entry, slot_entry, slot_part}
+use Rattle.hp_model.proofs.Words.{slot_trail, task_part, told}
 use Rattle.hp_trail.proofs.Indexing.{get_there, row_there, some_is}
 use Rattle.hp_trail.proofs.Passing.{all_at, kept, kept_from, numbered_at, numbered_is, own_slot, pool_is, slot_is, task_is, told_is}
 use Rattle.std.proofs.Math.Seq.{take-length}

@@ -1,13 +1,9 @@
 -- What comes next in a list of lists, read or not there.
 use Rattle.std.proofs.lemmas.Grind.{common_steps}
-use Rattle.std.proofs.Common.{◌≡◌, ℕ, ◌<◌, ◌≤◌, Option, None, Some, List, [], length, sym, ap, ◌∙◌, arith}
+use Rattle.std.proofs.Common.{◌≡◌, ℕ, ◌<◌, ◌≤◌, Option, None, Some, List, [], length, sym, ap, ◌∙◌, arith, slice_get, slice_index_or, option_and_then, option_map}
 use Rattle.std.specs.Global.{Vec}
-use Rattle.std.specs.List.{slice_get, slice_index_or}
-use Rattle.std.specs.Option.{option_and_then, option_map}
-use Rattle.hp_model.specs.declared.entry.Part.{Part}
-use Rattle.hp_model.specs.declared.entry.Part.TheVariants.{Slot as AtSlot}
-use Rattle.hp_model.specs.declared.entry.SlotEntry.{SlotEntry}
-use Rattle.hp_model.specs.threads.JointRun.{InSlot, Trails, slot_trail}
+use Rattle.hp_laws.proofs.Variants.{AtSlot, Part, SlotEntry}
+use Rattle.hp_model.proofs.Words.{InSlot, Trails, slot_trail}
 use Rattle.hp_trail.specs.Tellers.{asked_section}
 use Rattle.hp_trail.specs.Walk.{Cursors, Walking, cursor_at, lists, next_section}
 use Rattle.hp_trail.proofs.Indexing.{get_there, lists_read, read_at}

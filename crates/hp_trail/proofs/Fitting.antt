@@ -1,7 +1,6 @@
 -- A place within a trail can be counted up.
-use Rattle.std.proofs.Common.{◌≡◌, ℕ, zero, suc, ◌+◌, ◌<◌, List, [], ◌∷◌, length, subst, arith, Fits, w64}
+use Rattle.std.proofs.Common.{◌≡◌, ℕ, zero, suc, ◌+◌, ◌<◌, List, [], ◌∷◌, length, subst, arith, Fits, w64, slice_index_or}
 use Rattle.std.specs.Global.{Vec}
-use Rattle.std.specs.List.{slice_index_or}
 use Rattle.hp_trail.specs.Walk.{lists}
 use Rattle.hp_trail.proofs.Indexing.{lists_long, number_at, row_there}
 

@@ -1,8 +1,8 @@
 -- What an index reads.
 use Rattle.std.proofs.lemmas.Grind.{common_steps}
-use Rattle.std.proofs.Common.{◌≡◌, ◌≢◌, ◌⊎◌, ℕ, zero, suc, ◌+◌, ◌<◌, ◌≤◌, true, false, Some, List, [], ◌∷◌, ◌++◌, length, map, take, replicate, refl, sym, ap, ◌∙◌, arith, eqb}
+use Rattle.std.proofs.Common.{◌≡◌, ◌≢◌, ◌⊎◌, ℕ, zero, suc, ◌+◌, ◌<◌, ◌≤◌, true, false, Some, List, [], ◌∷◌, ◌++◌, length, map, take, replicate, refl, sym, ap, ◌∙◌, arith, eqb, slice_get}
+use Rattle.std.proofs.Common.{slice_index_or, slice_set}
 use Rattle.std.specs.Global.{Vec}
-use Rattle.std.specs.List.{slice_get, slice_index_or, slice_set}
 use Rattle.std.proofs.lemmas.Bool.{eq-eqb, eqb-true, false≢true}
 use Rattle.std.proofs.lemmas.List.{get_or-set_same, length-set, map_more}
 use Rattle.hp_trail.specs.Tellers.{Claims, blank}

@@ -1,13 +1,10 @@
 -- One turn of the loop that joins.
 use Rattle.std.proofs.lemmas.Grind.{common_steps}
-use Rattle.std.proofs.Common.{◌≡◌, ◌⊎◌, ℕ, ◌+◌, ◌*◌, ◌<◌, None, Some, List, [], ◌∷◌, ◌++◌, length, sym, ap, ◌∙◌, subst, arith}
-use Rattle.std.specs.List.{Contains}
+use Rattle.std.proofs.Common.{◌≡◌, ◌⊎◌, ℕ, ◌+◌, ◌*◌, ◌<◌, None, Some, List, [], ◌∷◌, ◌++◌, length, sym, ap, ◌∙◌, subst, arith, Contains}
 use Rattle.std.proofs.lemmas.List.{length-append}
 use Rattle.std.proofs.lemmas.List.Elements.{Contains-append_left, Contains-push}
-use Rattle.hp_model.specs.declared.entry.Part.{Part}
-use Rattle.hp_model.specs.declared.entry.Part.TheVariants.{Pool as AtPool}
-use Rattle.hp_model.specs.declared.entry.Receipt.{Receipt}
-use Rattle.hp_model.specs.threads.JointRun.{Trails}
+use Rattle.hp_laws.proofs.Variants.{AtPool, Part, Receipt}
+use Rattle.hp_model.proofs.Words.{Trails}
 use Rattle.hp_trail.specs.Tellers.{AreTold, TellerRows, teller}
 use Rattle.hp_trail.specs.Walk.{AreCovered, IsWoken, Passed, Took, Waits, Walking, WalkedBy, cursor_at, cursor, receipts_left}
 use Rattle.hp_trail.proofs.Covering.{covered_on, covered_without, one_fewer}

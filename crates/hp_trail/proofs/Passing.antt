@@ -1,23 +1,12 @@
 -- What was passed: a receipt that was passed tells of a place that was, and a place that was passed is told by a receipt that was.
 use Rattle.std.proofs.lemmas.Grind.{common_steps}
-use Rattle.std.proofs.Common.{◌≡◌, ℕ, zero, suc, ◌+◌, ◌<◌, ◌==◌, Bool, true, false, cond, Option, None, Some, List, [], ◌∷◌, length, take, refl, sym, ap, ◌∙◌, subst, arith}
-use Rattle.std.specs.List.{All, slice_get, slice_index_or}
+use Rattle.std.proofs.Common.{◌≡◌, ℕ, zero, suc, ◌+◌, ◌<◌, ◌==◌, Bool, true, false, cond, Option, None, Some, List, [], ◌∷◌, length, take, refl, sym, ap, ◌∙◌, subst, arith, All, slice_get}
+use Rattle.std.proofs.Common.{slice_index_or}
 use Rattle.std.proofs.lemmas.Bool.{eq-eqb, eqb-true}
-use Rattle.hp_model.specs.declared.entry.Part.{Part}
-use Rattle.hp_model.specs.declared.entry.Part.TheVariants.{Tasks, Slot as AtSlot, Pool as AtPool}
-use Rattle.hp_model.specs.declared.entry.Asked.{Asked}
-use Rattle.hp_model.specs.declared.entry.PoolEntry.{PoolEntry}
-use Rattle.hp_model.specs.declared.entry.PoolEntry.TheVariants.{OfSlot, OfPool}
-use Rattle.hp_model.specs.declared.entry.Receipt.{Receipt}
-use Rattle.hp_model.specs.declared.entry.SlotEntry.{SlotEntry}
-use Rattle.hp_model.specs.declared.entry.TableEntry.{TableEntry}
-use Rattle.hp_model.specs.declared.event.PoolEvent.{PoolEvent}
-use Rattle.hp_model.specs.declared.section.PoolAnswer.{PoolAnswer}
-use Rattle.hp_model.specs.declared.section.Section.{Section}
-use Rattle.hp_model.specs.threads.Differ.{HasReceipt}
-use Rattle.hp_model.specs.machine.Plan.{Reply}
-use Rattle.hp_model.specs.threads.JointRun.{Trails, slot_trail, Entry, InTasks, InSlot, InPool, Item, option_cons, keep, numbered, placed}
-use Rattle.hp_model.specs.threads.JointRun.{task_entry, slot_entry, section_entry, pool_entry, task_part, slot_part, pool_part, told, part_of, receipt_of, IsThere}
+use Rattle.hp_laws.proofs.Variants.{Asked, AtPool, AtSlot, OfPool, OfSlot, Part, PoolAnswer, PoolEntry, PoolEvent, Receipt, Section, SlotEntry, TableEntry}
+use Rattle.hp_model.specs.declared.entry.Part.TheVariants.{Tasks}
+use Rattle.hp_model.proofs.Words.{Entry, HasReceipt, InPool, InSlot, InTasks, IsThere, Item, Reply, Trails, keep, numbered, option_cons, part_of, placed, pool_entry, pool_part, receipt_of}
+use Rattle.hp_model.proofs.Words.{section_entry, slot_entry, slot_part, slot_trail, task_entry, task_part, told}
 use Rattle.hp_trail.specs.Walk.{Cursors, cursor_at, cursor, session, Walked}
 use Rattle.hp_trail.proofs.Indexing.{some_is}
 

@@ -1,21 +1,10 @@
 -- Where the walk can't go on: what is left of trails and receipts goes round in a circle.
 use Rattle.std.proofs.lemmas.Grind.{common_steps}
-use Rattle.std.proofs.Common.{◌≡◌, ◌≢◌, inl, inr, ℕ, ◌<◌, ◌≤◌, Option, None, Some, List, length, refl, sym, ap, subst, arith}
-use Rattle.std.specs.List.{slice_get}
-use Rattle.std.specs.Option.{option_map, option_and_then}
+use Rattle.std.proofs.Common.{◌≡◌, ◌≢◌, inl, inr, ℕ, ◌<◌, ◌≤◌, Option, None, Some, List, length, refl, sym, ap, subst, arith, slice_get, option_map, option_and_then}
 use Rattle.std.proofs.lemmas.Bool.{cases_lt}
-use Rattle.hp_model.specs.declared.entry.Asked.{Asked}
-use Rattle.hp_model.specs.declared.entry.Part.{Part}
-use Rattle.hp_model.specs.declared.entry.Part.TheVariants.{Tasks, Slot as AtSlot, Pool as AtPool}
-use Rattle.hp_model.specs.declared.entry.PoolEntry.{PoolEntry}
-use Rattle.hp_model.specs.declared.entry.PoolEntry.TheVariants.{OfSlot, OfPool}
-use Rattle.hp_model.specs.declared.entry.Receipt.{Receipt}
-use Rattle.hp_model.specs.declared.entry.SlotEntry.{SlotEntry}
-use Rattle.hp_model.specs.declared.entry.TableEntry.{TableEntry}
-use Rattle.hp_model.specs.declared.section.PoolAnswer.{PoolAnswer}
-use Rattle.hp_model.specs.declared.section.Section.{Section}
-use Rattle.hp_model.specs.threads.Differ.{Asks, Differ, HasReceipt, entry_at, of_pool}
-use Rattle.hp_model.specs.threads.JointRun.{Trails, slot_trail, InTasks, InSlot, InPool, Item}
+use Rattle.hp_laws.proofs.Variants.{Asked, AtPool, AtSlot, OfPool, OfSlot, Part, PoolAnswer, PoolEntry, Receipt, Section, SlotEntry, TableEntry}
+use Rattle.hp_model.specs.declared.entry.Part.TheVariants.{Tasks}
+use Rattle.hp_model.proofs.Words.{Asks, Differ, HasReceipt, InPool, InSlot, InTasks, Item, Trails, entry_at, of_pool, slot_trail}
 use Rattle.hp_trail.specs.Tellers.{AreTold, TellerRows}
 use Rattle.hp_trail.specs.Walk.{Cursors, HasReceiptsLeft, HaveEnded, JoinsBy, Waits, Walked, WalkedBy, cursor, cursor_at, session}
 use Rattle.hp_trail.proofs.Circle.{IsStuck, circle}

@@ -1,16 +1,8 @@
 -- The session's next receipt with the event that it tells of is the next item of the walk.
 use Rattle.std.proofs.lemmas.Grind.{common_steps}
-use Rattle.std.proofs.Common.{◌≡◌, inr, ℕ, ◌+◌, ◌<◌, ◌==◌, cond, Option, None, Some, List, length, refl, sym, ap, ◌∙◌, subst, arith}
-use Rattle.std.specs.List.{slice_get, slice_index_or, slice_set}
-use Rattle.std.specs.Option.{option_and_then}
-use Rattle.hp_model.specs.declared.entry.Asked.{Asked}
-use Rattle.hp_model.specs.declared.entry.Part.{Part}
-use Rattle.hp_model.specs.declared.entry.Part.TheVariants.{Slot as AtSlot}
-use Rattle.hp_model.specs.declared.entry.PoolEntry.TheVariants.{OfPool}
-use Rattle.hp_model.specs.declared.entry.Receipt.{Receipt}
-use Rattle.hp_model.specs.declared.entry.SlotEntry.{SlotEntry}
-use Rattle.hp_model.specs.threads.Differ.{HasReceipt, entry_at}
-use Rattle.hp_model.specs.threads.JointRun.{Trails, slot_trail, Entry, InTasks, InSlot, InPool, Item, part_of, event_of, receipt_of}
+use Rattle.std.proofs.Common.{◌≡◌, inr, ℕ, ◌+◌, ◌<◌, ◌==◌, cond, Option, None, Some, List, length, refl, sym, ap, ◌∙◌, subst, arith, slice_get, slice_index_or, slice_set, option_and_then}
+use Rattle.hp_laws.proofs.Variants.{Asked, AtSlot, OfPool, Part, Receipt, SlotEntry}
+use Rattle.hp_model.proofs.Words.{Entry, HasReceipt, InPool, InSlot, InTasks, Item, Trails, entry_at, event_of, part_of, receipt_of, slot_trail}
 use Rattle.hp_trail.specs.Tellers.{AreRight, HaveSections, Stands, TellsEntry, asked_section}
 use Rattle.hp_trail.specs.Walk.{ComesNext, Cursors, GoesOn, IsBlocked, IsLater, Passes, Waits, SectionStands, Took}
 use Rattle.hp_trail.specs.Walk.{cursor_at, cursor, next_section, part_length, past, past_section, session}

@@ -1,11 +1,9 @@
 -- One item more, and the end of the walk.
 use Rattle.std.proofs.lemmas.Grind.{common_steps}
-use Rattle.std.proofs.Common.{◌≡◌, ℕ, zero, suc, ◌+◌, ◌<◌, ◌≤◌, Option, None, Some, List, [], ◌∷◌, ◌++◌, length, take, refl, sym, ap, ◌∙◌, subst, arith}
-use Rattle.std.specs.List.{slice_get}
+use Rattle.std.proofs.Common.{◌≡◌, ℕ, zero, suc, ◌+◌, ◌<◌, ◌≤◌, Option, None, Some, List, [], ◌∷◌, ◌++◌, length, take, refl, sym, ap, ◌∙◌, subst, arith, slice_get}
 use Rattle.std.proofs.lemmas.List.Elements.{All-append, All-cons, All-nil}
-use Rattle.hp_model.specs.declared.entry.Receipt.{Receipt}
-use Rattle.hp_model.specs.threads.JointRun.{Trails, slot_trail, Item, option_cons, keep, numbered, Joins}
-use Rattle.hp_model.specs.declared.entry.Part.{Part}
+use Rattle.hp_laws.proofs.Variants.{Part, Receipt}
+use Rattle.hp_model.proofs.Words.{Item, Joins, Trails, keep, numbered, option_cons, slot_trail}
 use Rattle.hp_trail.specs.Walk.{Cursors, cursor_at, Walked, GoesNumbered, GoesOn, Passes, HaveEnded, Took, at_start, WalkedBy}
 use Rattle.hp_trail.proofs.Indexing.{map_snoc, some_is, zeros_at}
 

@@ -2,9 +2,7 @@
 use Rattle.std.proofs.Common.{◌≡◌, ◌++◌, Result, Ok, Err, refl, subst}
 use Rattle.hp_model.specs.declared.refusal.Refusal.{Refusal}
 use Rattle.hp_model.specs.declared.step.Step.{Step}
-use Rattle.hp_model.specs.machine.Plan.{Reply}
-use Rattle.hp_model.specs.text.Text.{AnswersStep}
-use Rattle.hp_model.specs.text.Writing.{line_of}
+use Rattle.hp_model.proofs.Words.{AnswersStep, Reply, line_of}
 use Rattle.hp_wire.specs.Added.{AddsAnswer, AddsReply}
 use Rattle.hp_wire.specs.Waiting.{Waiting}
 

@@ -1,21 +1,15 @@
 -- The end of an input.
-use Rattle.std.proofs.Common.{◌≡◌, ◌≤◌, ℕ, zero, suc, List, [], ◌∷◌, ◌++◌, ◌+◌, ◌<◌, length, refl, sym, ◌∙◌, ap, subst}
-use Rattle.std.proofs.Common.{arith, Option, Result, Ok, Err, Bool, true, false, nat_le, inl, inr, append-nil, length-append, cond, IfOk, IfErr, OnOk}
+use Rattle.std.proofs.Common.{◌≡◌, ◌≤◌, ℕ, zero, suc, List, [], ◌∷◌, ◌++◌, ◌+◌, ◌<◌, length, refl, sym, ◌∙◌, ap, subst, arith, Option, Result, Ok, Err, Bool, true, false, nat_le, inl, inr, append-nil}
+use Rattle.std.proofs.Common.{length-append, cond, IfOk, IfErr, OnOk}
 use Rattle.std.proofs.lemmas.Bool.Decides.{nat_tests}
 use Rattle.std.proofs.lemmas.List.{nil_from_length}
 use Rattle.std.specs.Io.KnownBytes.{Consumes, Appends}
-use Rattle.hp_model.specs.machine.Plan.{Reply}
-use Rattle.hp_model.specs.text.Lines.{Line, unended, lines, ended_lines, after_lines}
-use Rattle.hp_model.specs.text.Text.{AnswersLines}
+use Rattle.hp_model.proofs.Words.{AnswersLines, AppendsFront, Line, Ran, RanInPart, Reply, Serves, after_lines, ended_lines, line_of, lines, text, text_of_refusals, unended, unended_by}
 use Rattle.hp_model.specs.declared.step.Step.{Step}
 use Rattle.hp_model.specs.declared.refusal.Refusal.{Refusal}
 use Rattle.hp_model.specs.declared.refusal.Refusal.TheVariants.{BadLine, LineTooLong}
-use Rattle.hp_model.specs.text.Writing.{text, line_of}
-use Rattle.hp_model.specs.run.Ran.{Ran, RanInPart}
-use Rattle.hp_model.specs.run.Ran.{AppendsFront}
 use Rattle.hp_wire.specs.Sent.{IsWriteCut}
 use Rattle.hp_wire.specs.Unanswered.{Gets}
-use Rattle.hp_model.specs.run.Served.{Serves, unended_by, text_of_refusals}
 use Rattle.hp_model.specs.declared.fault.RunFault.{RunFault}
 use Rattle.hp_wire.proofs.Known.{ran_then, ran_cut}
 use Rattle.hp_wire.proofs.Stands.{StandsFor}

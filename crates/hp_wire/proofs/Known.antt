@@ -1,19 +1,12 @@
 -- Known bytes that grow again, and replies to lines after lines.
-use Rattle.std.proofs.Common.{◌≡◌, ℕ, List, [], ◌∷◌, ◌++◌, ◌+◌, ◌≤◌, length, take, drop, refl, sym, ◌∙◌, ap, subst, arith, append_assoc, Option, Some, None, take-add, append-nil}
+use Rattle.std.proofs.Common.{◌≡◌, ℕ, List, [], ◌∷◌, ◌++◌, ◌+◌, ◌≤◌, length, take, drop, refl, sym, ◌∙◌, ap, subst, arith, append_assoc, Option, Some, None, take-add, append-nil, ◌-◌, length-drop}
 use Rattle.std.proofs.Math.Seq.{take-append-add, take-append_seam, take-length}
 use Rattle.std.proofs.lemmas.List.{take-append-drop}
-use Rattle.std.proofs.Common.{◌-◌, length-drop}
 use Rattle.std.proofs.lemmas.Grind.{flat_map-append}
 use Rattle.std.specs.Io.KnownBytes.{Appends}
-use Rattle.hp_model.specs.machine.Plan.{Reply}
-use Rattle.hp_model.specs.text.Lines.{Line}
-use Rattle.hp_model.specs.text.Reading.{step_of}
-use Rattle.hp_model.specs.text.Writing.{text, line_of}
-use Rattle.hp_model.specs.text.Text.{AnswersStep, AnswersLines, IsTextOfReplies}
+use Rattle.hp_model.proofs.Words.{AnswersLines, AnswersStep, AppendsFront, IsTextOfReplies, Line, Ran, RanInPart, Reply, line_of, step_of, text}
 use Rattle.hp_model.specs.declared.step.Step.{Step}
 use Rattle.hp_wire.specs.Answered.{Gains, Answered, AnsweredInPart}
-use Rattle.hp_model.specs.run.Ran.{Ran, RanInPart}
-use Rattle.hp_model.specs.run.Ran.{AppendsFront}
 use Rattle.hp_text.proofs.Cuts.{rest_is}
 
 pub appends_then : (a b c : Option (List ℕ)) (xs ys : List ℕ) → Appends a b xs → Appends b c ys → Appends a c (xs ++ ys)

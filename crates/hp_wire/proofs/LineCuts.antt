@@ -1,9 +1,8 @@
 -- The lines of bytes that are cut at a newline.
-use Rattle.std.proofs.Common.{◌≡◌, ℕ, List, [], ◌∷◌, ◌++◌, refl, sym, ◌∙◌, ap, ◌==◌, append_assoc}
-use Rattle.hp_model.specs.text.Lines.{Line, ended, pieces, ended_pieces, last_piece, ended_lines, after_lines}
+use Rattle.std.proofs.Common.{◌≡◌, ℕ, List, [], ◌∷◌, ◌++◌, refl, sym, ◌∙◌, ap, ◌==◌, append_assoc, nat_eq, Bool, true, false}
+use Rattle.hp_model.proofs.Words.{Line, after_lines, ended, ended_lines, ended_pieces, last_piece, pieces}
 use Rattle.hp_wire_lines.proofs.Pieces.{first_piece, joined, slice_split-append}
 use Rattle.std.specs.List.{onto_first}
-use Rattle.std.specs.Prelude.{nat_eq, Bool, true, false}
 use Rattle.std.proofs.lemmas.List.Splits.{slice_split-cons_yes, slice_split-cons_no}
 
 ended_front : (line : List ℕ) (ps : List (List ℕ)) (f : List ℕ) (m : List (List ℕ)) → ps ≡ f ∷ m → ended_pieces (line ∷ ps) ≡ ended line ∷ ended_pieces ps

@@ -1,10 +1,10 @@
 -- The bytes that are held of an unended line stand for all of it.
-use Rattle.std.proofs.Common.{◌≡◌, ℕ, zero, suc, List, [], ◌∷◌, ◌++◌, ◌<◌, ◌≤◌, length, take, refl, sym, ◌∙◌}
-use Rattle.std.proofs.Common.{ap, arith, Bool, true, false, nat_eq, ◌==◌, ◌⊎◌, inl, inr, Err, length-append, length-take, nat_le, take_all}
+use Rattle.std.proofs.Common.{◌≡◌, ℕ, zero, suc, List, [], ◌∷◌, ◌++◌, ◌<◌, ◌≤◌, length, take, refl, sym, ◌∙◌, ap, arith, Bool, true, false, nat_eq, ◌==◌, ◌⊎◌, inl, inr, Err, length-append}
+use Rattle.std.proofs.Common.{length-take, nat_le, take_all}
 use Rattle.std.proofs.lemmas.Bool.Decides.{nat_tests}
 use Rattle.std.proofs.lemmas.List.Splits.{slice_split-cons_yes, slice_split-cons_no}
 use Rattle.std.specs.List.{onto_first}
-use Rattle.hp_model.specs.text.Lines.{Line, ended, pieces, ended_pieces, last_piece, ended_lines, after_lines}
+use Rattle.hp_model.proofs.Words.{Line, after_lines, ended, ended_lines, ended_pieces, last_piece, pieces}
 use Rattle.hp_model.specs.declared.refusal.Refusal.TheVariants.{LineTooLong}
 use Rattle.hp_wire_lines.proofs.Pieces.{first_piece, joined, slice_split-append}
 use Rattle.hp_wire.proofs.LineCuts.{last_whole}

@@ -1,17 +1,10 @@
 -- Lines that wait, and are answered together.
-use Rattle.std.proofs.Common.{◌≡◌, ℕ, List, [], ◌∷◌, ◌++◌, length, take, drop, ◌+◌, ◌<◌, Option, Result, Ok, Err, refl, sym, ◌∙◌, ap, subst, append_assoc, append-nil}
-use Rattle.std.specs.Prelude.{IfErr, OnOk}
+use Rattle.std.proofs.Common.{◌≡◌, ℕ, List, [], ◌∷◌, ◌++◌, length, take, drop, ◌+◌, ◌<◌, Option, Result, Ok, Err, refl, sym, ◌∙◌, ap, subst, append_assoc, append-nil, IfErr, OnOk}
 use Rattle.std.proofs.lemmas.Grind.{flat_map-append}
 use Rattle.std.proofs.lemmas.List.{take-append-drop, take_more}
 use lib.ListN.{get_or}
-use Rattle.hp_model.specs.beside.Queue.{DoesAll, QueuedView}
+use Rattle.hp_model.proofs.Words.{AnswersStep, AppendsFront, DoesAll, IsTextOfReplies, Line, QueuedView, Reply, ended_lines, ended_pieces, line_of, pieces, step_of}
 use Rattle.hp_model.specs.declared.step.Step.{Step}
-use Rattle.hp_model.specs.machine.Plan.{Reply}
-use Rattle.hp_model.specs.run.Ran.{AppendsFront}
-use Rattle.hp_model.specs.text.Lines.{Line, ended_lines, ended_pieces, pieces}
-use Rattle.hp_model.specs.text.Reading.{step_of}
-use Rattle.hp_model.specs.text.Text.{AnswersStep, IsTextOfReplies}
-use Rattle.hp_model.specs.text.Writing.{line_of}
 use Rattle.hp_wire.specs.Answered.{Answered, AnsweredInPart, Gains}
 use Rattle.hp_wire.specs.Queues.{AreRead, IsLineTaken, queued_text}
 use Rattle.hp_wire.proofs.LineCuts.{CutOff}

@@ -1,16 +1,12 @@
 -- A run, read after read.
-use Rattle.std.proofs.Common.{◌≡◌, ℕ, List, [], ◌∷◌, ◌++◌, ◌+◌, ◌-◌, ◌<◌, ◌≤◌, length, take, drop, refl, sym, ◌∙◌, ap, subst, arith, append_assoc, length-append, Option, Some, None, append-nil}
-use Rattle.std.proofs.Common.{◌==◌}
+use Rattle.std.proofs.Common.{◌≡◌, ℕ, List, [], ◌∷◌, ◌++◌, ◌+◌, ◌-◌, ◌<◌, ◌≤◌, length, take, drop, refl, sym, ◌∙◌, ap, subst, arith, append_assoc, length-append, Option, Some, None, append-nil, ◌==◌}
 use Rattle.std.proofs.lemmas.List.{take-append-drop}
 use Rattle.std.proofs.lemmas.List.Sums.{count_by-le-length}
 use Rattle.std.proofs.lemmas.List.Splits.{length-slice_split}
-use Rattle.hp_model.specs.text.Lines.{pieces, ended_pieces}
+use Rattle.hp_model.proofs.Words.{Line, Ran, RanInPart, Reply, after_lines, ended_lines, ended_pieces, lines, pieces, unended}
 use Rattle.std.proofs.Math.Seq.{take-append-add, take-append_seam}
 use Rattle.std.specs.Io.KnownBytes.{Consumes}
-use Rattle.hp_model.specs.machine.Plan.{Reply}
-use Rattle.hp_model.specs.text.Lines.{Line, lines, ended_lines, after_lines, unended}
 use Rattle.hp_model.specs.declared.step.Step.{Step}
-use Rattle.hp_model.specs.run.Ran.{Ran, RanInPart}
 use Rattle.hp_wire.specs.Unanswered.{CountsLines, Gets}
 use Rattle.hp_wire.proofs.Known.{ran_none, ran_then, ran_cut}
 use Rattle.hp_wire.proofs.LineCuts.{join_ended, join_after}

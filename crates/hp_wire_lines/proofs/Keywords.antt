@@ -1,7 +1,7 @@
 -- The end of a line that makes a map.
 use Rattle.std.proofs.Common.{◌≡◌, ℕ, List, [], ◌∷◌, refl, ap, ◌∙◌, Ok, Err, codes, if◌then◌else◌}
 use Rattle.std.specs.Str.{bytes_eq}
-use Rattle.hp_model.specs.text.Words.{Read, piece_at, end_at, reserving_at}
+use Rattle.hp_model.proofs.Words.{Read, end_at, piece_at, reserving_at}
 use Rattle.hp_model.specs.declared.refusal.Refusal.{Refusal}
 use Rattle.hp_model.specs.declared.refusal.Refusal.TheVariants.{BadLine}
 use Rattle.hp_model.specs.declared.step.Reserving.TheVariants.{Reserve, NoReserve}

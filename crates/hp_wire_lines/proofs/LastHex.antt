@@ -6,7 +6,7 @@ use Rattle.std.specs.List.{onto_first}
 use Rattle.hex.specs.Hex.{decode_of, decode_pairs, pair_value, value_at, ◌>>=◌ as ◌then◌}
 use Rattle.hex.specs.declared.error.FromHexError.{FromHexError}
 use Rattle.hex.specs.declared.error.FromHexError.TheVariants.{InvalidHexCharacter, OddLength}
-use Rattle.hp_model.specs.text.Words.{Read, bytes_of_hex, end_at, hex_at, piece_at, pieces_of_line, ◌>>=◌}
+use Rattle.hp_model.proofs.Words.{Read, bytes_of_hex, end_at, hex_at, piece_at, pieces_of_line, ◌>>=◌}
 use Rattle.hp_model.specs.declared.refusal.Refusal.{Refusal}
 use Rattle.hp_model.specs.declared.refusal.Refusal.TheVariants.{BadLine}
 use Rattle.hp_wire_lines.proofs.Pieces.{first_piece}

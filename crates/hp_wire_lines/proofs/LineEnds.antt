@@ -3,7 +3,7 @@ use Rattle.std.proofs.Common.{◌≡◌, ℕ, ◌≤◌, List, length, drop, sym
 use Rattle.hp_wire_lines.proofs.Fronts.{within}
 use Rattle.hp_wire_lines.proofs.Pieces.{first_piece}
 use Rattle.hp_wire_lines.specs.Words.{pieces_from}
-use Rattle.hp_model.specs.text.Words.{end_at}
+use Rattle.hp_model.proofs.Words.{end_at}
 use Rattle.hp_model.specs.declared.refusal.Refusal.TheVariants.{BadLine}
 
 pub end_left : (line : List ℕ) (at : ℕ) (left : List (List ℕ)) → at ≤ length line → pieces_from at line ≡ left → end_at left ≡ Err BadLine

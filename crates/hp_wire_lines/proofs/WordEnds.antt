@@ -1,6 +1,6 @@
 -- Pieces whose first bytes were looked at.
-use Rattle.std.proofs.Common.{◌≡◌, ℕ, List, [], ◌∷◌, ◌++◌, ◌+◌, ◌-◌, ◌<◌, ◌≤◌, length, refl, sym, ◌∙◌, ap, arith, ◌⊎◌, inl, inr}
-use Rattle.std.proofs.Common.{Bool, true, false, ◌&&◌, ◌==◌, nat_lt, if◌then◌else◌, Ok, Err, take, drop, get_or, append-nil, append_assoc, length-drop, drop_of_length-le}
+use Rattle.std.proofs.Common.{◌≡◌, ℕ, List, [], ◌∷◌, ◌++◌, ◌+◌, ◌-◌, ◌<◌, ◌≤◌, length, refl, sym, ◌∙◌, ap, arith, ◌⊎◌, inl, inr, Bool, true, false, ◌&&◌, ◌==◌, nat_lt, if◌then◌else◌, Ok, Err, take}
+use Rattle.std.proofs.Common.{drop, get_or, append-nil, append_assoc, length-drop, drop_of_length-le}
 use Rattle.std.proofs.lemmas.Bool.Decides.{nat_tests}
 use Rattle.std.proofs.lemmas.List.{drop_more, get_or-drop, take-append-drop, take_more}
 use Rattle.std.proofs.lemmas.List.Folds.{list_all-append}
@@ -8,7 +8,7 @@ use Rattle.std.proofs.lemmas.Slice.Eq.{bytes_eq-Decides}
 use Rattle.std.proofs.lemmas.List.Splits.{slice_split-cons_no, slice_split-cons_yes}
 use Rattle.std.specs.List.{list_all, onto_first}
 use Rattle.std.specs.Str.{bytes_eq}
-use Rattle.hp_model.specs.text.Words.{Read, is_word, is_word_byte, piece_at, pieces_of_line, word_at, word_of, ◌>>=◌}
+use Rattle.hp_model.proofs.Words.{Read, is_word, is_word_byte, piece_at, pieces_of_line, word_at, word_of, ◌>>=◌}
 use Rattle.hp_model.specs.declared.refusal.Refusal.TheVariants.{BadLine}
 use Rattle.hp_wire_lines.proofs.Fronts.{past, within}
 use Rattle.hp_wire_lines.proofs.Pieces.{first_piece}

@@ -4,9 +4,8 @@ use Rattle.std.proofs.Math.ListN.{get_or-map}
 use Rattle.std.proofs.Math.Seq.{get_or-append_seam}
 use Rattle.std.proofs.lemmas.List.{length-append, length-map}
 use Rattle.std.proofs.lemmas.List.Splits.{length-slice_split}
-use Rattle.hp_model.specs.text.Words.{number_read}
+use Rattle.hp_model.proofs.Words.{most_frames, number_read}
 use Rattle.hp_model.specs.declared.refusal.Refusal.{Refusal}
-use Rattle.hp_model.specs.Profile.{most_frames}
 use Rattle.hp_words.specs.Asked.{CanBe, comma_pieces, node_frames}
 
 one_more : (frames : List ℕ) (n : ℕ) (left : List (Result ℕ Refusal)) → map Ok frames ++ Ok n ∷ left ≡ map Ok (frames ++ n ∷ []) ++ left

@@ -1,6 +1,5 @@
 -- Words that ask for nothing.
-use Rattle.std.proofs.Common.{◌≡◌, ◌∙◌, ◌&&◌, ◌++◌, ◌∷◌, ℕ, List, [], map, Bool, true, false, if◌then◌else◌, Option, Some, None, is_some, Ok}
-use Rattle.std.proofs.Common.{MatchOption, IsSomeAnd, refl, sym, ap, subst, inl, inr}
+use Rattle.std.proofs.Common.{◌≡◌, ◌∙◌, ◌&&◌, ◌++◌, ◌∷◌, ℕ, List, [], map, Bool, true, false, if◌then◌else◌, Option, Some, None, is_some, Ok, MatchOption, IsSomeAnd, refl, sym, ap, subst, inl, inr}
 use Rattle.std.specs.Option.{option_map_or}
 use Rattle.clap.specs.Faults.{fault_of, is_simple_and_free}
 use Rattle.clap.specs.Kinds.{HasKind, IsAmong}
@@ -11,8 +10,7 @@ use Rattle.clap.specs.declared.error.Error.{Error}
 use Rattle.clap.specs.declared.error.kind.ErrorKind.{ErrorKind}
 use Rattle.clap.specs.declared.error.kind.ErrorKind.TheVariants.{OutOfMemory}
 use Rattle.hp_words.proofs.Commands.{Found, is_right, options_are}
-use Rattle.hp_model.specs.text.Words.{number_read}
-use Rattle.hp_model.specs.Profile.{most_places}
+use Rattle.hp_model.proofs.Words.{most_places, number_read}
 use Rattle.hp_words.specs.Asked.{AsksForScript, AsksToServe, CanBe, HasBadValue, IsGood, IsRefusedFor, IsRight, IsWrongIn, IsWrongOf, Sets, SetsServing, Setting}
 use Rattle.hp_words.specs.Asked.{comma_pieces, has_options, hugetlbd, is_serve, machine_options, node_frames, options_given, serving_options, settings_of}
 use Rattle.hp_words.specs.Config.{IsFrames, IsMachineWithin, IsPageSize, IsServing, IsWithin, MachineChoice, most_port, most_sessions, most_workers}

@@ -4,7 +4,7 @@ use Rattle.std.proofs.lemmas.List.{length-map}
 use lib.Count.{ones}
 use Rattle.clap.proofs.OnLiterals.{clap_on_literals}
 use Rattle.clap.specs.Words.{Text}
-use Rattle.hp_model.specs.machine.Machine.{start}
+use Rattle.hp_model.proofs.Words.{start}
 use Rattle.hp_words.specs.Asked.{AsksForScript, AsksToServe, Sets}
 use Rattle.hp_words.specs.Config.{IsMachineWithin, MachineChoice, chosen, usual}
 use Rattle.hp_words.specs.declared.settings.Serving.{Serving}

@@ -4,7 +4,7 @@ use Rattle.std.specs.Borrow.{Bor}
 use Rattle.std.specs.Int.{is_power_of_two}
 use lib.Count.{ones}
 use Rattle.clap.specs.Words.{Text}
-use Rattle.hp_model.specs.text.Words.{number_read}
+use Rattle.hp_model.proofs.Words.{number_read}
 use Rattle.hp_words.specs.Asked.{CanBe, page_bytes}
 
 bad_shown : (given : Option (Bor Text)) (Fits : Text → Type 0) → IsSomeAnd given (λ text. Fits text.now → ⊥)

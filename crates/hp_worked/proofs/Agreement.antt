@@ -1,23 +1,10 @@
 -- Tests that the pool's numbers after a section are the sums over the mounts, and that the rows add up.
-use Rattle.std.proofs.Common.{ℕ, ◌-◌, Bool, true, false, ◌&&◌, ◌==◌, nat_eq, nat_le, List, [], ◌∷◌, max, length}
-use Rattle.std.specs.List.{list_all, flat_map, filter_map, starts_with}
-use Rattle.std.specs.Prelude.{Option, None, Some, Ok, Err}
-use Rattle.hp_model.specs.text.Lines.{Line, lines}
-use Rattle.hp_model.specs.text.Reading.{step_of}
-use Rattle.hp_model.specs.declared.event.Event.{Event}
-use Rattle.hp_model.specs.declared.event.Event.TheVariants.{Tasks, Slot as OnSlot, Pool as OnPool}
-use Rattle.hp_model.specs.declared.node.NodeRow.{NodeRow}
-use Rattle.hp_model.specs.declared.step.Step.{Step}
-use Rattle.hp_model.specs.machine.Event.{planned, has_maps_of}
-use Rattle.hp_model.specs.machine.Machine.{pool_of, used_pages}
-use Rattle.hp_model.specs.pool.NodeRows.{total_of, surp_of}
-use Rattle.hp_model.specs.beside.Plain.{plain_choice, plain_event, plain_step}
-use Rattle.hp_model.specs.machine.Plan.{Plan, Finish, Ask, Reply}
-use Rattle.hp_model.specs.pool.Pool.{section}
-use Rattle.hp_model.specs.pool.PoolCounts.{Pool, used}
-use Rattle.hp_model.specs.machine.SlotEvent.{slot_event}
-use Rattle.hp_model.specs.machine.State.{State, slot_at}
-use Rattle.hp_model.specs.machine.Step.{Script, Answer_with, Do, Where_mapped, script}
+use Rattle.std.proofs.Common.{ℕ, ◌-◌, Bool, true, false, ◌&&◌, ◌==◌, nat_eq, nat_le, List, [], ◌∷◌, max, length, flat_map, filter_map, Option, None, Some, Ok, Err}
+use Rattle.std.specs.List.{list_all, starts_with}
+use Rattle.hp_model.proofs.Words.{Answer_with, Ask, Do, Finish, Line, Plan, Pool, Reply, Script, State, Where_mapped, has_maps_of, lines, plain_choice, plain_event, plain_step, planned, pool_of}
+use Rattle.hp_model.proofs.Words.{script, section, slot_at, slot_event, step_of, surp_of, total_of, used_pages}
+use Rattle.hp_laws.proofs.Variants.{Event, NodeRow, Pool as OnPool, Slot as OnSlot, Step, Tasks}
+use Rattle.hp_model.specs.pool.PoolCounts.{used}
 
 abbrev row_numbers : NodeRow → List ℕ
 row_numbers r = r.frames ∷ r.total ∷ r.free ∷ r.surp ∷ []

@@ -2,11 +2,9 @@
 use Rattle.std.proofs.Common.{◌≡◌, true, List, [], ◌∷◌, refl}
 use Rattle.std.specs.Fmt.{digits}
 use Rattle.hex.specs.Hex.{encode_with, decode_pairs}
-use Rattle.hp_model.specs.beside.Plain.{plain_text}
-use Rattle.hp_model.specs.text.Reading.{step_of_bytes, step_of_command, slot_command, pool_command, connect_of, attach_of, fork_of, exit_of, mount_of, remount_of, umount_of}
-use Rattle.hp_model.specs.text.Reading.{create_of, unlink_of, truncate_of, punch_of, preallocate_of, read_of, ls_of, stat_of, map_of, anon_of, unmap_of}
-use Rattle.hp_model.specs.text.Reading.{fault_of, load_of, store_of, nr_of, overcommit_of, meminfo_of, nodes_of, df_of}
-use Rattle.hp_model.specs.text.Words.{piece_at, end_at, word_at, number_at, hex_at, sharing_at, intent_at, reserving_at}
+use Rattle.hp_model.proofs.Words.{anon_of, attach_of, connect_of, create_of, df_of, end_at, exit_of, fault_of, fork_of, hex_at, intent_at, load_of, ls_of, map_of, meminfo_of, mount_of, nodes_of}
+use Rattle.hp_model.proofs.Words.{nr_of, number_at, overcommit_of, piece_at, plain_text, pool_command, preallocate_of, punch_of, read_of, remount_of, reserving_at, sharing_at, slot_command, stat_of}
+use Rattle.hp_model.proofs.Words.{step_of_bytes, step_of_command, store_of, truncate_of, umount_of, unlink_of, unmap_of, word_at}
 use Rattle.hp_worked.proofs.Agreement.{text_agrees}
 use Rattle.hp_worked.proofs.WorkedSharing.{empty_pool_counts, empty_pool_meminfo, grow_and_shrink_go_round_the_nodes, lower_nr_below_pages_in_use}
 use Rattle.hp_worked.proofs.WorkedSharing.{nr_up_and_down_with_surplus, one_node_of_one_frame, overcommit_makes_surplus, overcommit_past_its_limit}

@@ -1,27 +1,10 @@
 -- Wrong machines that the record refuses: of surplus pages, of copies taken back, of pages that nobody has, and of names and numbers
 -- that nobody asked for. A user would be hurt by each.
 use Rattle.std.proofs.lemmas.Grind.{common_steps}
-use Rattle.std.proofs.Common.{◌≡◌, ℕ, ◌≤◌, true, false, None, Some, Ok, Err, List, [], ◌∷◌, refl, ap, arith}
-use Rattle.std.specs.Prelude.{codes, is_some}
-use Rattle.hp_model.specs.declared.answer.Answer.TheVariants.{Done, MapNo}
-use Rattle.hp_model.specs.declared.cell.Cell.{Cell}
-use Rattle.hp_model.specs.declared.cell.Cell.TheVariants.{Entered, Hole}
-use Rattle.hp_model.specs.declared.refusal.Refusal.TheVariants.{BadName, MinOverSize, SlotTaken, TaskExists}
-use Rattle.hp_model.specs.declared.step.Intent.TheVariants.{Read, Write}
-use Rattle.hp_model.specs.declared.step.Reserving.TheVariants.{NoReserve, Reserve}
-use Rattle.hp_model.specs.declared.step.Sharing.TheVariants.{Private, Shared}
-use Rattle.hp_model.specs.declared.step.Step.{Step}
-use Rattle.hp_model.specs.declared.step.Step.TheVariants.{Anon, Connect, Create, Exit, Fault, Fork, Map, Mount, Nr, Preallocate, Punch, Store, Truncate, Unlink, Unmap}
-use Rattle.hp_model.specs.beside.Plain.{plain_step}
-use Rattle.hp_model.specs.files.File.{File, file_in, has_page, is_entered, map_in, new_file, with_file}
-use Rattle.hp_model.specs.files.MakeMap.{with_new}
-use Rattle.hp_model.specs.files.Mapping.{map_for}
-use Rattle.hp_model.specs.files.Page.{Page}
-use Rattle.hp_model.specs.machine.Machine.{start}
-use Rattle.hp_model.specs.machine.Named.{map_named}
-use Rattle.hp_model.specs.machine.Plan.{Slot}
-use Rattle.hp_model.specs.machine.Promises.{IsPromised}
-use Rattle.hp_model.specs.machine.State.{State, slot_at, with_slot}
+use Rattle.std.proofs.Common.{◌≡◌, ℕ, ◌≤◌, true, false, None, Some, Ok, Err, List, [], ◌∷◌, refl, ap, arith, codes, is_some}
+use Rattle.hp_laws.proofs.Variants.{Anon, BadName, Cell, Connect, Create, Done, Entered, Exit, Fault, Fork, Hole, Map, MapNo, MinOverSize, Mount, NoReserve, Nr, Preallocate, Private, Punch, Read}
+use Rattle.hp_laws.proofs.Variants.{Reserve, Shared, SlotTaken, Step, Store, TaskExists, Truncate, Unlink, Unmap, Write}
+use Rattle.hp_model.proofs.Words.{File, IsPromised, Page, Slot, State, file_in, has_page, is_entered, map_for, map_in, map_named, new_file, plain_step, slot_at, start, with_file, with_new, with_slot}
 use Rattle.hp_worked.proofs.WorkedPromises.{after_all, child_in, forked, mounted, robbed}
 use Rattle.hp_worked.proofs.WorkedRecord.{refusal_of}
 use Rattle.hp_worked.proofs.WorkedWords.{machine}

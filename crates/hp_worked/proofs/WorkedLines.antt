@@ -1,6 +1,5 @@
 -- Worked scripts of lines at their limits.
-use Rattle.std.proofs.Common.{◌++◌, replicate}
-use Rattle.std.specs.Prelude.{codes}
+use Rattle.std.proofs.Common.{◌++◌, replicate, codes}
 use Rattle.hp_worked.proofs.WorkedWords.{machine, Worked}
 
 abbrev pub last_line_without_its_end : Worked

@@ -1,7 +1,6 @@
 -- Worked scripts of mounts, names and refusals.
-use Rattle.std.proofs.Common.{◌++◌, [], ◌∷◌}
-use Rattle.std.specs.Prelude.{codes}
-use Rattle.hp_model.specs.machine.Machine.{start}
+use Rattle.std.proofs.Common.{◌++◌, [], ◌∷◌, codes}
+use Rattle.hp_model.proofs.Words.{start}
 use Rattle.hp_worked.proofs.WorkedWords.{machine, Worked}
 
 abbrev pub file_names_and_inodes : Worked

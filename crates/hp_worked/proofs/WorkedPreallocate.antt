@@ -1,28 +1,10 @@
 -- Wrong machines of a preallocation, each refused by what is promised or by what a step is.
 use Rattle.std.proofs.lemmas.Grind.{common_steps}
-use Rattle.std.proofs.Common.{◌≡◌, ⊎_elim, ℕ, ◌∙◌, Bool, true, false, None, Some, Ok, Err, Option, List, [], ◌∷◌, refl, ap, arith}
-use Rattle.std.specs.List.{count_by, slice_index_or, slice_set}
-use Rattle.std.specs.Prelude.{codes}
-use Rattle.hp_model.specs.declared.answer.Answer.TheVariants.{Done}
-use Rattle.hp_model.specs.declared.cell.Cell.{Cell}
-use Rattle.hp_model.specs.declared.cell.Cell.TheVariants.{Entered, Hole, Present}
-use Rattle.hp_model.specs.declared.event.Event.{Event}
-use Rattle.hp_model.specs.declared.event.Event.TheVariants.{Slot as OnSlot}
+use Rattle.std.proofs.Common.{◌≡◌, ⊎_elim, ℕ, ◌∙◌, Bool, true, false, None, Some, Ok, Err, Option, List, [], ◌∷◌, refl, ap, arith, count_by, slice_index_or, slice_set, codes}
+use Rattle.hp_laws.proofs.Variants.{Cell, Connect, Create, Done, Entered, Event, Hole, Map, MountFull, NoPages, Nr, OutOfRange, Preallocate, Present, Reserve, Shared, Slot as OnSlot, Step, Store}
+use Rattle.hp_laws.proofs.Variants.{TooMany}
 use Rattle.hp_model.specs.declared.event.SlotEvent.TheVariants as slot
-use Rattle.hp_model.specs.declared.refusal.Refusal.TheVariants.{MountFull, NoPages, OutOfRange, TooMany}
-use Rattle.hp_model.specs.declared.step.Reserving.TheVariants.{Reserve}
-use Rattle.hp_model.specs.declared.step.Sharing.TheVariants.{Shared}
-use Rattle.hp_model.specs.declared.step.Step.{Step}
-use Rattle.hp_model.specs.declared.step.Step.TheVariants.{Connect, Create, Map, Nr, Preallocate, Store}
-use Rattle.hp_model.specs.files.Fill.{zero_page}
-use Rattle.hp_model.specs.files.File.{File, cell_at, file_in, has_page, new_file, with_file}
-use Rattle.hp_model.specs.files.Page.{Page}
-use Rattle.hp_model.specs.files.Value.{shown}
-use Rattle.hp_model.specs.beside.Plain.{plain_step}
-use Rattle.hp_model.specs.machine.Plan.{Slot}
-use Rattle.hp_model.specs.machine.Promises.{IsPromised, takes_memory}
-use Rattle.hp_model.specs.machine.State.{State, slot_at, with_slot}
-use Rattle.hp_model.specs.machine.Step.{IsStep}
+use Rattle.hp_model.proofs.Words.{File, IsPromised, IsStep, Page, Slot, State, cell_at, file_in, has_page, new_file, plain_step, shown, slot_at, takes_memory, with_file, with_slot, zero_page}
 use Rattle.hp_worked.proofs.WorkedPromises.{after_all, mounted}
 use Rattle.hp_worked.proofs.WorkedRecord.{refusal_of}
 use Rattle.hp_worked.proofs.WorkedWords.{machine}

@@ -1,6 +1,5 @@
 -- Worked scripts of private maps, copies and forks.
-use Rattle.std.proofs.Common.{◌++◌}
-use Rattle.std.specs.Prelude.{codes}
+use Rattle.std.proofs.Common.{◌++◌, codes}
 use Rattle.hp_worked.proofs.WorkedWords.{machine, Worked}
 
 abbrev pub child_copy_refused : Worked

@@ -1,29 +1,12 @@
 -- What is promised of some steps, by computation: the tests and the bytes that the promises speak of.
 use Rattle.std.proofs.lemmas.Grind.{common_steps}
-use Rattle.std.proofs.Common.{◌≡◌, subst, ℕ, ◌+◌, ◌==◌, ◌∙◌, true, false, None, Option, Some, Ok, Err, List, [], ◌∷◌, length, take, map, nat_le, refl, sym, ap, arith, option_map, ◌++◌}
-use Rattle.std.specs.List.{slice_index_or}
-use Rattle.std.specs.Prelude.{codes, is_some}
-use Rattle.hp_model.specs.declared.answer.Answer.{Answer}
-use Rattle.hp_model.specs.declared.answer.Answer.TheVariants.{Done, Home, MapNo, Names, Numbers, Stat as StatAnswer, Usage}
-use Rattle.hp_model.specs.declared.limits.Limits.{Limits}
-use Rattle.hp_model.specs.declared.refusal.Refusal.TheVariants.{BadName, NoPages, TakenByOwner}
-use Rattle.hp_model.specs.declared.step.Reserving.TheVariants.{Reserve, NoReserve}
-use Rattle.hp_model.specs.declared.step.Sharing.TheVariants.{Shared, Private}
-use Rattle.hp_model.specs.declared.step.Step.{Step}
-use Rattle.hp_model.specs.declared.step.Step.TheVariants.{Anon, Attach, Connect, Create, Df, Fork, Load, Ls, Map, Meminfo, Mount, Nr, Punch, Stat, Store, Truncate, Unmap}
-use Rattle.hp_model.specs.declared.place.Place.TheVariants.{Gone, Live}
-use Rattle.hp_model.specs.files.File.{File, new_file, with_file, with_map}
-use Rattle.hp_model.specs.machine.Machine.{committed_pages, counts_in, pool_of}
-use Rattle.hp_model.specs.files.Mapping.{Map as MapOf, copy_of, is_shared, no_map, place_at, with_place}
-use Rattle.hp_model.specs.pool.NodeRows.{free_of, total_of}
-use Rattle.hp_model.specs.beside.Plain.{plain_step}
-use Rattle.hp_model.specs.machine.Plan.{Slot}
-use Rattle.hp_model.specs.machine.Promises.{LeavesAll, LosesTo, Makes, SameFiles, SameLimits, Shape, StillMapped, StillNamed}
-use Rattle.hp_model.specs.machine.Promises.{AnswersWhatWas, file_in, is_backed_step, is_cut_off_step, is_ended_number, least_of, map_at, map_named}
-use Rattle.hp_model.specs.machine.Promises.{seen_in, seen_over, shown_in, stored_over, named_on, map_in}
-use Rattle.hp_model.specs.files.Spot.{Spot}
-use Rattle.hp_model.specs.machine.State.{Node, State, slot_at, with_slot}
-use Rattle.hp_model.specs.files.Value.{value}
+use Rattle.std.proofs.Common.{◌≡◌, subst, ℕ, ◌+◌, ◌==◌, ◌∙◌, true, false, None, Option, Some, Ok, Err, List, [], ◌∷◌, length, take, map, nat_le, refl, sym, ap, arith, option_map, ◌++◌, slice_index_or}
+use Rattle.std.proofs.Common.{codes, is_some}
+use Rattle.hp_laws.proofs.Variants.{Anon, Answer, Attach, BadName, Connect, Create, Df, Done, Fork, Gone, Home, Limits, Live, Load, Ls, Map, MapNo, Meminfo, Mount, Names, NoPages, NoReserve, Nr}
+use Rattle.hp_laws.proofs.Variants.{Numbers, Private, Punch, Reserve, Shared, Stat, StatAnswer, Step, Store, TakenByOwner, Truncate, Unmap, Usage}
+use Rattle.hp_model.proofs.Words.{AnswersWhatWas, File, LeavesAll, LosesTo, Makes, Map as MapOf, Node, SameFiles, SameLimits, Shape, Slot, Spot, State, StillMapped, StillNamed, committed_pages}
+use Rattle.hp_model.proofs.Words.{copy_of, counts_in, file_in, free_of, is_backed_step, is_cut_off_step, is_ended_number, is_shared, least_of, map_at, map_in, map_named, named_on, new_file, no_map}
+use Rattle.hp_model.proofs.Words.{place_at, plain_step, pool_of, seen_in, seen_over, shown_in, slot_at, stored_over, total_of, value, with_file, with_map, with_place, with_slot}
 use Rattle.hp_worked.proofs.WorkedWords.{machine}
 
 abbrev pub after_all : State → List Step → State

@@ -1,26 +1,11 @@
 -- For the fields of the promises a wrong machine that the record refuses: a reply, or a state after the step.
 use Rattle.std.proofs.lemmas.Grind.{common_steps}
-use Rattle.std.proofs.Common.{◌≡◌, ⊎_elim, ℕ, ◌≤◌, ◌∙◌, Bool, true, false, None, Option, Some, Ok, Err, [], ◌∷◌, length, replicate, refl, ap, arith}
-use Rattle.std.specs.List.{count_by}
-use Rattle.std.specs.Prelude.{codes, is_some}
-use Rattle.hp_model.specs.declared.answer.Answer.TheVariants.{Done, MapNo, Number, Stat as StatAnswer}
-use Rattle.hp_model.specs.declared.cell.Cell.TheVariants.{Entered, Hole}
-use Rattle.hp_model.specs.declared.limits.Limits.{Limits}
-use Rattle.hp_model.specs.declared.place.Place.TheVariants.{Gone, Live}
-use Rattle.hp_model.specs.files.Mapping.{copy_of, is_live, is_unconsumed, place_at, with_place}
-use Rattle.hp_model.specs.files.Spot.{Spot}
-use Rattle.hp_model.specs.declared.refusal.Refusal.{Refusal}
-use Rattle.hp_model.specs.declared.refusal.Refusal.TheVariants.{Busy, MinOverSize, MountFull, NoPages, NoSuchMap, OutOfMemory, OutOfRange, SlotTaken, TakenByOwner}
-use Rattle.hp_model.specs.declared.step.Reserving.TheVariants.{NoReserve, Reserve}
-use Rattle.hp_model.specs.declared.step.Sharing.TheVariants.{Private, Shared}
-use Rattle.hp_model.specs.declared.step.Step.{Step}
-use Rattle.hp_model.specs.declared.step.Step.TheVariants.{Connect, Create, Df, Exit, Fault, Fork, Load, Map, Mount, Nr, Punch, Remount, Stat, Store, Umount, Unlink, Unmap}
-use Rattle.hp_model.specs.declared.step.Intent.TheVariants.{Read}
-use Rattle.hp_model.specs.files.File.{File, file_in, is_entered, new_file, with_file}
-use Rattle.hp_model.specs.beside.Plain.{plain_step}
-use Rattle.hp_model.specs.machine.Plan.{Reply, Slot}
-use Rattle.hp_model.specs.machine.Promises.{IsPromised, IsPromisedStep}
-use Rattle.hp_model.specs.machine.State.{State, slot_at, with_slot}
+use Rattle.std.proofs.Common.{◌≡◌, ⊎_elim, ℕ, ◌≤◌, ◌∙◌, Bool, true, false, None, Option, Some, Ok, Err, [], ◌∷◌, length, replicate, refl, ap, arith, count_by, codes, is_some}
+use Rattle.hp_laws.proofs.Variants.{Busy, Connect, Create, Df, Done, Entered, Exit, Fault, Fork, Gone, Hole, Limits, Live, Load, Map, MapNo, MinOverSize, Mount, MountFull, NoPages, NoReserve}
+use Rattle.hp_laws.proofs.Variants.{NoSuchMap, Nr, Number, OutOfMemory, OutOfRange, Private, Punch, Read, Refusal, Remount, Reserve, Shared, SlotTaken, Stat, StatAnswer, Step, Store, TakenByOwner}
+use Rattle.hp_laws.proofs.Variants.{Umount, Unlink, Unmap}
+use Rattle.hp_model.proofs.Words.{File, IsPromised, IsPromisedStep, Reply, Slot, Spot, State, copy_of, file_in, is_entered, is_live, is_unconsumed, new_file, place_at, plain_step, slot_at, with_file}
+use Rattle.hp_model.proofs.Words.{with_place, with_slot}
 use Rattle.hp_worked.proofs.WorkedPromises.{after_all, child_in, forked, into_first, mounted, parent_in, robbed, shared, spot_or, unmapped_first, with_map_of, without_pages}
 use Rattle.hp_worked.proofs.WorkedWords.{machine}
 

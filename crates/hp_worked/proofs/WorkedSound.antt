@@ -1,18 +1,8 @@
 -- What soundness refuses, by computation: a fork's copies in other states than those that events leave.
-use Rattle.std.proofs.Common.{◌≡◌, ℕ, ◌<◌, ◌≤◌, true, false, None, Some, [], ◌∷◌, length, refl, ap, arith}
-use Rattle.std.specs.Prelude.{codes}
-use Rattle.hp_model.specs.declared.place.Place.TheVariants.{Live}
-use Rattle.hp_model.specs.declared.step.Reserving.TheVariants.{Reserve}
-use Rattle.hp_model.specs.declared.step.Sharing.TheVariants.{Private, Shared}
-use Rattle.hp_model.specs.declared.step.Step.TheVariants.{Connect, Create, Fork, Map as MapStep, Nr, Store}
-use Rattle.hp_model.specs.files.File.{File, Mount, file_in, map_in, new_file, with_file, with_map}
-use Rattle.hp_model.specs.files.MakeMap.{with_new}
-use Rattle.hp_model.specs.machine.Machine.{open_mount}
-use Rattle.hp_model.specs.files.Mapping.{Map, copy_of, no_map, place_at, with_place}
-use Rattle.hp_model.specs.files.Page.{Copy}
-use Rattle.hp_model.specs.machine.Plan.{Slot}
-use Rattle.hp_model.specs.machine.Sound.{HasCopy, IsSoundMount}
-use Rattle.hp_model.specs.machine.State.{slot_at}
+use Rattle.std.proofs.Common.{◌≡◌, ℕ, ◌<◌, ◌≤◌, true, false, None, Some, [], ◌∷◌, length, refl, ap, arith, codes}
+use Rattle.hp_laws.proofs.Variants.{Connect, Create, Fork, Live, Map as MapStep, Nr, Private, Reserve, Shared, Store}
+use Rattle.hp_model.proofs.Words.{Copy, File, HasCopy, IsSoundMount, Map, Mount, Slot, copy_of, file_in, map_in, new_file, no_map, open_mount, place_at, slot_at, with_file, with_map, with_new}
+use Rattle.hp_model.proofs.Words.{with_place}
 use Rattle.hp_worked.proofs.WorkedPromises.{after_all}
 use Rattle.hp_worked.proofs.WorkedWords.{machine}
 

@@ -1,39 +1,15 @@
 -- Trails made by hand, and receipts that join them or do not, by computation.
 use Rattle.std.proofs.lemmas.Grind.{common_steps}
-use Rattle.std.proofs.Common.{◌≡◌, ◌≢◌, inl, inr, ℕ, zero, suc, ◌<◌, ◌≤◌, Bool, true, false, Option, None, Some, Ok, List, [], ◌∷◌, refl, ap, ◌∙◌, arith, is_some}
-use Rattle.std.specs.Option.{option_map, option_and_then}
-use Rattle.std.specs.List.{All, slice_get, slice_index_or}
+use Rattle.std.proofs.Common.{◌≡◌, ◌≢◌, inl, inr, ℕ, zero, suc, ◌<◌, ◌≤◌, Bool, true, false, Option, None, Some, Ok, List, [], ◌∷◌, refl, ap, ◌∙◌, arith, is_some, option_map, option_and_then, All}
+use Rattle.std.proofs.Common.{slice_get, slice_index_or}
 use Rattle.std.proofs.lemmas.List.Elements.{All-cons, All-nil}
-use Rattle.hp_model.specs.declared.answer.Answer.TheVariants.{Done, Home, MapNo, Number}
-use Rattle.hp_model.specs.declared.entry.Asked.{Asked}
-use Rattle.hp_model.specs.declared.entry.Part.{Part}
-use Rattle.hp_model.specs.declared.entry.Part.TheVariants.{Tasks, Slot as AtSlot, Pool as AtPool}
-use Rattle.hp_model.specs.declared.entry.PoolEntry.{PoolEntry}
-use Rattle.hp_model.specs.declared.entry.PoolEntry.TheVariants.{OfSlot, OfPool}
-use Rattle.hp_model.specs.declared.entry.Receipt.{Receipt}
-use Rattle.hp_model.specs.declared.entry.SlotEntry.{SlotEntry}
-use Rattle.hp_model.specs.declared.entry.TableEntry.{TableEntry}
-use Rattle.hp_model.specs.declared.event.Event.{Event}
-use Rattle.hp_model.specs.declared.event.Event.TheVariants.{Tasks as OnTasks, Slot as OnSlot, Pool as OnPool}
+use Rattle.hp_laws.proofs.Variants.{Add, Asked, AtPool, AtSlot, Done, Event, Find, Grant, Home, MapNo, Number, OfPool, OfSlot, Part, Pool as OnPool, PoolEntry, Receipt, Reserve, Shared}
+use Rattle.hp_laws.proofs.Variants.{Slot as OnSlot, SlotEntry, TableEntry, Tasks as OnTasks}
+use Rattle.hp_model.specs.declared.entry.Part.TheVariants.{Tasks}
 use Rattle.hp_model.specs.declared.event.PoolEvent.TheVariants.{Nr}
 use Rattle.hp_model.specs.declared.event.SlotEvent.TheVariants.{Create, Map as MapEvent}
-use Rattle.hp_model.specs.declared.event.TableEvent.TheVariants.{Add, Find}
-use Rattle.hp_model.specs.declared.step.Sharing.TheVariants.{Shared}
-use Rattle.hp_model.specs.declared.step.Reserving.TheVariants.{Reserve}
-use Rattle.hp_model.specs.threads.Differ.{Asks, IsBefore, Differ, HasReceipt, LostSection, SharedSection, entry_at}
-use Rattle.hp_model.specs.Profile.{most_frames}
-use Rattle.hp_model.specs.files.File.{with_file, new_file}
-use Rattle.hp_model.specs.threads.JointRun.{Trails, slot_trail, Entry, InTasks, InSlot, InPool, Item, Joins, AreRuns, IsJointRun}
-use Rattle.hp_model.specs.threads.LocalRun.{IsLocalRun}
-use Rattle.hp_model.specs.machine.Machine.{start, open_mount, pool_of}
-use Rattle.hp_model.specs.files.MakeMap.{mapped, with_new}
-use Rattle.hp_model.specs.machine.Plan.{Slot, Choice, Reply}
-use Rattle.hp_model.specs.pool.Pool.{section, granted_at}
-use Rattle.hp_model.specs.declared.section.Section.TheVariants.{Grant}
-use Rattle.hp_model.specs.pool.PoolCounts.{Pool}
-use Rattle.hp_model.specs.pool.Resize.{pool_event}
-use Rattle.hp_model.specs.machine.State.{State, slot_at}
-use Rattle.hp_model.specs.Profile.{most_frames}
+use Rattle.hp_model.proofs.Words.{AreRuns, Asks, Choice, Differ, Entry, HasReceipt, InPool, InSlot, InTasks, IsBefore, IsJointRun, IsLocalRun, Item, Joins, LostSection, Pool, Reply, SharedSection}
+use Rattle.hp_model.proofs.Words.{Slot, State, Trails, entry_at, granted_at, mapped, most_frames, new_file, open_mount, pool_event, pool_of, section, slot_at, slot_trail, start, with_file, with_new}
 use Rattle.hp_laws.proofs.settled.JoinedRun.{joined_law}
 use Rattle.hp_laws.proofs.settled.StaysSettled.{start_is_settled}
 

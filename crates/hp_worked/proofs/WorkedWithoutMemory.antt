@@ -1,15 +1,9 @@
 -- A fork that is refused on its second slot is undone, and a mount that is refused after its grant leaves nothing, by computation.
-use Rattle.std.proofs.Common.{◌≡◌, ℕ, ◌==◌, Bool, true, false, Ok, Err, [], ◌∷◌, refl}
-use Rattle.hp_model.specs.declared.event.Event.TheVariants.{Tasks, Slot as OnSlot, Pool as OnPool}
-use Rattle.hp_model.specs.declared.step.Step.TheVariants.{Attach, Fork, Mount, Create, Map, Load, Store, Anon, Meminfo, Stat, Df, Nr, Connect}
-use Rattle.hp_model.specs.declared.step.Sharing.TheVariants.{Private}
-use Rattle.hp_model.specs.declared.step.Reserving.TheVariants.{Reserve}
-use Rattle.hp_model.specs.declared.refusal.Refusal.TheVariants.{NoSuchTask, NoSuchSlot, OutOfMemory}
-use Rattle.hp_model.specs.declared.answer.Answer.TheVariants.{Done, MapNo, Number, Stat as StatAnswer}
-use Rattle.hp_model.specs.beside.Plain.{Chooser, plain_choice, run_by}
-use Rattle.hp_model.specs.declared.event.SlotEvent.TheVariants.{ForkMaps, Mount as MountEvent}
-use Rattle.hp_model.specs.declared.event.SlotEvent.{SlotEvent}
-use Rattle.std.specs.Prelude.{codes}
+use Rattle.std.proofs.Common.{◌≡◌, ℕ, ◌==◌, Bool, true, false, Ok, Err, [], ◌∷◌, refl, codes}
+use Rattle.hp_laws.proofs.Variants.{Anon, Attach, Connect, Create, Df, Done, Fork, ForkMaps, Load, Map, MapNo, Meminfo, Mount, NoSuchSlot, NoSuchTask, Nr, Number, OutOfMemory, Pool as OnPool, Private}
+use Rattle.hp_laws.proofs.Variants.{Reserve, Slot as OnSlot, SlotEvent, Stat, StatAnswer, Store, Tasks}
+use Rattle.hp_model.proofs.Words.{Chooser, plain_choice, run_by}
+use Rattle.hp_model.specs.declared.event.SlotEvent.TheVariants.{Mount as MountEvent}
 use Rattle.hp_worked.proofs.WorkedWords.{machine, counts}
 
 abbrev is_refused : ℕ → SlotEvent → Bool

@@ -1,11 +1,7 @@
 -- The words of the worked runs.
 use Rattle.std.proofs.Common.{ℕ, ◌-◌, Ok, List, [], ◌∷◌, ◌++◌, length, replicate}
-use Rattle.hp_model.specs.declared.answer.Answer.TheVariants.{Bytes, Numbers, PerNode}
-use Rattle.hp_model.specs.declared.answer.NodeCount.{NodeCount}
-use Rattle.hp_model.specs.machine.Machine.{start}
-use Rattle.hp_model.specs.machine.Plan.{Reply}
-use Rattle.hp_model.specs.pool.Resize.{no_count}
-use Rattle.hp_model.specs.machine.State.{State}
+use Rattle.hp_laws.proofs.Variants.{Bytes, NodeCount, Numbers, PerNode}
+use Rattle.hp_model.proofs.Words.{Reply, State, no_count, start}
 
 -- two nodes of four frames, pages of 1,024 bytes, four slots
 abbrev pub machine : State

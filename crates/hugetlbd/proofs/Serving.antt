@@ -2,7 +2,7 @@
 use Rattle.std.proofs.Common.{◌≡◌, ◌==◌, ◌∙◌, ℕ, Bool, List, [], ◌∷◌, All, map, Some, nat_lt, ap, subst, sym}
 use Rattle.std.proofs.lemmas.List.Elements.{All-map}
 use Rattle.hp_model.specs.declared.entry.Receipt.{Receipt}
-use Rattle.hp_model.specs.machine.State.{State}
+use Rattle.hp_model.proofs.Words.{State}
 use Rattle.hp_server.specs.Left as left
 use Rattle.hp_serving.specs.Ended.{LeavesAsked}
 use Rattle.hp_serving.specs.Session.{IsOfConnection}

@@ -1,20 +1,10 @@
 -- An access whose page is kept for it is never refused for want of a huge page.
-use Rattle.std.proofs.Common.{arith}
-use Rattle.std.proofs.Common.{◌≡◌, ℕ, true, Option, None, Some, List, length}
-use Rattle.hp_model.specs.declared.answer.Answer.TheVariants.{Done}
+use Rattle.std.proofs.Common.{arith, ◌≡◌, ℕ, true, Option, None, Some, List, length}
+use Rattle.hp_laws.proofs.Variants.{Done, Intent, NoSuchMap, Read, Write}
 use Rattle.hp_model.specs.declared.event.SlotEvent.TheVariants as slot
-use Rattle.hp_model.specs.declared.refusal.Refusal.TheVariants.{NoSuchMap}
-use Rattle.hp_model.specs.declared.step.Intent.{Intent}
-use Rattle.hp_model.specs.declared.step.Intent.TheVariants.{Read, Write}
-use Rattle.hp_model.specs.files.Access.{access}
-use Rattle.hp_model.specs.files.File.{Mount}
+use Rattle.hp_model.proofs.Words.{Answered, Choice, Mount, Outcome, Slot, Spot, access, again, byte_access, bytes_answer, continued, is_backed, is_cut_off, is_map, is_refused, load, slot_event, spot}
+use Rattle.hp_model.proofs.Words.{spot_on, store, value, with_value, written}
 use Rattle.hp_laws.specs.Laws.{KeepsGoing}
-use Rattle.hp_model.specs.files.Mapping.{is_map}
-use Rattle.hp_model.specs.machine.Plan.{Slot, Outcome, Answered, Choice, continued, with_value}
-use Rattle.hp_model.specs.machine.Promises.{is_cut_off, is_refused, spot_on, is_backed}
-use Rattle.hp_model.specs.machine.SlotEvent.{byte_access, bytes_answer, load, slot_event, store}
-use Rattle.hp_model.specs.files.Spot.{Spot, again, spot, written}
-use Rattle.hp_model.specs.files.Value.{value}
 use Rattle.hp_laws.proofs.steps.Outcomes.{reply_of, Always, always_test, always_then}
 
 module _ (c : Choice) (size : ℕ) (m : Mount) (s : Spot) (home i : ℕ) where

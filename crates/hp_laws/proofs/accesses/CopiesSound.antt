@@ -1,23 +1,15 @@
 -- A mount stays sound where a place gets a copy whose stamp no other place holds: a new one, or one that is written.
 use Rattle.std.proofs.lemmas.Grind.{common_steps}
-use Rattle.std.proofs.Common.{◌≡◌, ⊎_elim, inl, inr, ◌⊎◌, ℕ, ◌<◌, ◌≤◌, Bool, true, false, ◌==◌, Option, None}
-use Rattle.std.proofs.Common.{Some, List, length, map, get_or, set, arith, refl, sym, ap, ◌∙◌, subst}
-use Rattle.std.specs.List.{count_by, list_any}
+use Rattle.std.proofs.Common.{◌≡◌, ⊎_elim, inl, inr, ◌⊎◌, ℕ, ◌<◌, ◌≤◌, Bool, true, false, ◌==◌, Option, None, Some, List, length, map, get_or, set, arith, refl, sym, ap, ◌∙◌, subst, count_by}
+use Rattle.std.specs.List.{list_any}
 use Rattle.std.proofs.lemmas.Bool.{and_from, and_parts, both_ways, cases_eq, cond_both, eq-eqb, eqb-true}
 use Rattle.std.proofs.lemmas.List.{get_or-map, get_or-set_other, get_or-set_same, length-map, length-set}
 use Rattle.std.proofs.lemmas.List.Elements.{All-set}
 use Rattle.std.proofs.lemmas.List.Folds.{list_any_at}
 use Rattle.std.proofs.lemmas.List.Sums.{get_or-le-sum_by, sum_by-set}
-use Rattle.hp_model.specs.declared.place.Place.{Place}
-use Rattle.hp_model.specs.declared.place.Place.TheVariants.{Live}
-use Rattle.hp_model.specs.files.CopyWrite.{drop_stamp, holds, is_held_once, robbed}
-use Rattle.hp_model.specs.files.File.{File, Mount, file_in, map_in, new_file, with_file, with_map}
-use Rattle.hp_model.specs.files.Mapping.{Map, copy_of, is_map, is_shared, is_unconsumed, no_map, place_at, with_place}
-use Rattle.hp_model.specs.files.MountCounts.{stamps_of}
-use Rattle.hp_model.specs.files.Page.{Copy}
-use Rattle.hp_model.specs.machine.SlotEvent.{has_name}
-use Rattle.hp_model.specs.machine.Sound.{HasCopy, IsCopyPlace, IsSoundFile, IsSoundMap, IsSoundMount, file_has, is_stamp, map_has, owns_stamp}
-use Rattle.hp_model.specs.files.Spot.{Spot}
+use Rattle.hp_laws.proofs.Variants.{Live, Place}
+use Rattle.hp_model.proofs.Words.{Copy, File, HasCopy, IsCopyPlace, IsSoundFile, IsSoundMap, IsSoundMount, Map, Mount, Spot, copy_of, drop_stamp, file_has, file_in, has_name, holds, is_held_once}
+use Rattle.hp_model.proofs.Words.{is_map, is_shared, is_stamp, is_unconsumed, map_has, map_in, new_file, no_map, owns_stamp, place_at, robbed, stamps_of, with_file, with_map, with_place}
 use Rattle.hp_laws.proofs.counts.Copies.{file_copy, file_has_stamp, file_there, has_stamp, live_of, map_copy, map_there}
 use Rattle.hp_laws.proofs.counts.FileMoves.{held_in, live_at, maps_count}
 use Rattle.hp_laws.proofs.counts.FilesSound.{back_keeps}

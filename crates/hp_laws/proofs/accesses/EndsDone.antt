@@ -1,13 +1,7 @@
 -- A fault is refused, or answered that it is done.
-use Rattle.std.proofs.Common.{arith}
-use Rattle.std.proofs.Common.{ℕ, Some}
-use Rattle.hp_model.specs.declared.answer.Answer.TheVariants.{Done}
-use Rattle.hp_model.specs.declared.refusal.Refusal.{Refusal}
-use Rattle.hp_model.specs.declared.step.Intent.{Intent}
-use Rattle.hp_model.specs.files.File.{Mount}
-use Rattle.hp_model.specs.files.Spot.{Spot}
-use Rattle.hp_model.specs.machine.Plan.{Answered, Choice, Outcome, Refused}
-use Rattle.hp_model.specs.machine.SlotEvent.{fault}
+use Rattle.std.proofs.Common.{arith, ℕ, Some}
+use Rattle.hp_laws.proofs.Variants.{Done, Intent, Refusal}
+use Rattle.hp_model.proofs.Words.{Answered, Choice, Mount, Outcome, Refused, Spot, fault}
 use Rattle.hp_laws.proofs.steps.Outcomes.{Always}
 
 -- what holds of all refusals, and of `Done` with any mount

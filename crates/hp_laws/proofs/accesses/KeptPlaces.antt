@@ -1,30 +1,14 @@
 -- What an access, and a store after it, makes of the places of maps and of the cells of files.
 use Rattle.std.proofs.lemmas.Grind.{common_steps}
-use Rattle.std.proofs.Common.{◌≡◌, ⊎_elim, inl, inr, ◌⊎◌, map, ℕ, suc, ◌+◌, ◌-◌, ◌<◌, Bool, true, false, ◌&&◌, ◌==◌, not}
-use Rattle.std.proofs.Common.{Option, None, Some, is_some, List, [], ◌∷◌, length, get_or, refl, sym, ap, ◌∙◌, subst, arith, if◌then◌else◌, nat_lt}
-use Rattle.std.specs.List.{slice_index_or, list_any}
+use Rattle.std.proofs.Common.{◌≡◌, ⊎_elim, inl, inr, ◌⊎◌, map, ℕ, suc, ◌+◌, ◌-◌, ◌<◌, Bool, true, false, ◌&&◌, ◌==◌, not, Option, None, Some, is_some, List, [], ◌∷◌, length, get_or, refl, sym, ap}
+use Rattle.std.proofs.Common.{◌∙◌, subst, arith, if◌then◌else◌, nat_lt, slice_index_or}
+use Rattle.std.specs.List.{list_any}
 use Rattle.std.proofs.lemmas.Bool.{cases_eq, cond_both, eq-eqb, ltb-true, or_cases}
 use Rattle.std.proofs.lemmas.List.{get_or-set_same, get_or-set_other}
-use Rattle.hp_model.specs.declared.cell.Cell.{Cell}
-use Rattle.hp_model.specs.declared.cell.Cell.TheVariants.{Hole, Present}
-use Rattle.hp_model.specs.declared.place.Place.{Place}
-use Rattle.hp_model.specs.declared.place.Place.TheVariants.{Gone, Live}
-use Rattle.hp_model.specs.declared.section.Section.TheVariants.{GrantPage}
-use Rattle.hp_model.specs.declared.step.Intent.{Intent}
-use Rattle.hp_model.specs.declared.step.Intent.TheVariants.{Write}
-use Rattle.hp_model.specs.files.Access.{shared_access, new_copy, uncopied_access, private_access, access}
-use Rattle.hp_model.specs.files.CopyWrite.{holds, drop_stamp, robbed, taken_back, is_held_once, copy_write}
-use Rattle.hp_model.specs.files.File.{File, Mount, cell_at, has_page, new_file, with_cell, with_file, with_map}
-use Rattle.hp_model.specs.Lists.{edit_at}
-use Rattle.hp_model.specs.files.Mapping.{Map, copy_of, is_shared, place_at, with_place, without_copy}
-use Rattle.hp_model.specs.files.Page.{Page, Copy}
-use Rattle.hp_model.specs.files.Spot.{Spot, cell_written, copied, file_written, map_written, place_written, written}
-use Rattle.hp_model.specs.files.Value.{value}
-use Rattle.hp_model.specs.machine.Kept.{IsFilled}
-use Rattle.hp_model.specs.machine.Plan.{Ask, Choice, Finish, Outcome}
-use Rattle.hp_model.specs.machine.Promises.{file_in, is_at, map_in, no_map}
-use Rattle.hp_model.specs.machine.Sound.{IsSoundMount}
-use Rattle.hp_model.specs.pool.Grant.{is_full, rise}
+use Rattle.hp_laws.proofs.Variants.{Cell, Gone, GrantPage, Hole, Intent, Live, Place, Present, Write}
+use Rattle.hp_model.proofs.Words.{Ask, Choice, Copy, File, Finish, IsFilled, IsSoundMount, Map, Mount, Outcome, Page, Spot, access, cell_at, cell_written, copied, copy_of, copy_write, drop_stamp}
+use Rattle.hp_model.proofs.Words.{edit_at, file_in, file_written, has_page, holds, is_at, is_full, is_held_once, is_shared, map_in, map_written, new_copy, new_file, no_map, place_at, place_written}
+use Rattle.hp_model.proofs.Words.{private_access, rise, robbed, shared_access, taken_back, uncopied_access, value, with_cell, with_file, with_map, with_place, without_copy, written}
 use Rattle.hp_laws.proofs.lists.Looks.{edit_here, edit_other, same_edit}
 use Rattle.hp_laws.proofs.counts.MountMoves.{IsSpot}
 use Rattle.hp_laws.proofs.steps.Outcomes.{Always, always_if, always_test, outcome_if}

@@ -1,26 +1,12 @@
 -- What files and maps show after an access.
 use Rattle.std.proofs.lemmas.Grind.{common_steps}
-use Rattle.std.proofs.Common.{◌≡◌, inl, inr, ◌⊎◌, map, ℕ, ◌<◌, Bool, true, false, ◌&&◌, not, Option, None, Some, List, length, refl, sym, ap, ◌∙◌, subst, arith, if◌then◌else◌}
-use Rattle.std.specs.List.{slice_index_or}
+use Rattle.std.proofs.Common.{◌≡◌, inl, inr, ◌⊎◌, map, ℕ, ◌<◌, Bool, true, false, ◌&&◌, not, Option, None, Some, List, length, refl, sym, ap, ◌∙◌, subst, arith, if◌then◌else◌, slice_index_or}
 use Rattle.std.proofs.lemmas.Bool.{cases_eq}
 use Rattle.std.proofs.lemmas.List.{get_or-set_same}
-use Rattle.hp_model.specs.declared.answer.Answer.TheVariants.{Done}
-use Rattle.hp_model.specs.declared.cell.Cell.{Cell}
-use Rattle.hp_model.specs.declared.cell.Cell.TheVariants.{Hole, Entered, Present}
-use Rattle.hp_model.specs.declared.place.Place.{Place}
-use Rattle.hp_model.specs.declared.place.Place.TheVariants.{Gone, Live}
-use Rattle.hp_model.specs.declared.step.Intent.TheVariants.{Read, Write}
-use Rattle.hp_model.specs.files.Access.{shared_access, new_copy, uncopied_access, private_access, access}
-use Rattle.hp_model.specs.files.CopyWrite.{robbed, taken_back, is_held_once, owner_write, copy_write}
-use Rattle.hp_model.specs.files.File.{File, Mount, cell_at, has_page, new_file, with_cell, with_file, with_map}
-use Rattle.hp_model.specs.pool.Grant.{is_full, rise}
-use Rattle.hp_model.specs.files.Mapping.{Map, copy_of, is_shared, place_at, with_place}
-use Rattle.hp_model.specs.files.Page.{Page, Copy, zeros}
-use Rattle.hp_model.specs.machine.Plan.{Outcome, Refused, Answered, Plan, Finish, Ask, Choice, continued, grant_page, reserved_page}
-use Rattle.hp_model.specs.declared.section.Section.TheVariants.{GrantPage}
-use Rattle.hp_model.specs.machine.Promises.{file_in, map_in, no_map}
-use Rattle.hp_model.specs.files.Spot.{Spot, again, copied}
-use Rattle.hp_model.specs.files.Value.{shown, value}
+use Rattle.hp_laws.proofs.Variants.{Cell, Done, Entered, Gone, GrantPage, Hole, Live, Place, Present, Read, Write}
+use Rattle.hp_model.proofs.Words.{Answered, Ask, Choice, Copy, File, Finish, Map, Mount, Outcome, Page, Plan, Refused, Spot, access, again, cell_at, continued, copied, copy_of, copy_write, file_in}
+use Rattle.hp_model.proofs.Words.{grant_page, has_page, is_full, is_held_once, is_shared, map_in, new_copy, new_file, no_map, owner_write, place_at, private_access, reserved_page, rise, robbed}
+use Rattle.hp_model.proofs.Words.{shared_access, shown, taken_back, uncopied_access, value, with_cell, with_file, with_map, with_place, zeros}
 use Rattle.hp_laws.proofs.counts.FileMoves.{IsMapAt}
 use Rattle.hp_laws.proofs.lists.Looks.{same_put}
 use Rattle.hp_laws.proofs.counts.MountMoves.{IsSpot}

@@ -1,40 +1,15 @@
 -- What a slot's files show after a file or a map is made, a load and a store, and what a load answers.
-use Rattle.std.proofs.Common.{arith}
+use Rattle.std.proofs.Common.{arith, ◌≡◌, ◌⊎◌, ℕ, ◌+◌, ◌<◌, Bool, true, false, ◌&&◌, ◌==◌, not, Option, None, Some, Result as ResultOf, Ok, Err, List, [], ◌∷◌, length, replicate, refl, sym, ap, ◌∙◌}
+use Rattle.std.proofs.Common.{if◌then◌else◌, nat_lt, ◌-◌}
 use Rattle.std.proofs.lemmas.Grind.{common_steps}
-use Rattle.std.proofs.Common.{◌≡◌, ◌⊎◌, ℕ, ◌+◌, ◌<◌, Bool, true, false, ◌&&◌, ◌==◌, not, Option, None, Some}
-use Rattle.std.proofs.Common.{Result as ResultOf, Ok, Err, List, [], ◌∷◌, length, replicate, refl, sym, ap, ◌∙◌, if◌then◌else◌, nat_lt, ◌-◌}
 use Rattle.std.proofs.lemmas.Bool.{cond_both}
-use Rattle.hp_model.specs.declared.answer.Answer.{Answer}
-use Rattle.hp_model.specs.declared.answer.Answer.TheVariants.{Done}
-use Rattle.hp_model.specs.declared.cell.Cell.{Cell}
-use Rattle.hp_model.specs.declared.cell.Cell.TheVariants.{Hole}
+use Rattle.hp_laws.proofs.Variants.{Answer, Cell, Done, FillPages, Gone, Hole, Intent, Limits, NoPages, NoSuchMap, OutOfMemory, Place, Read, Refusal, Reserving, Sharing, Write}
 use Rattle.hp_model.specs.declared.event.SlotEvent.TheVariants as slot
-use Rattle.hp_model.specs.declared.limits.Limits.{Limits}
-use Rattle.hp_model.specs.declared.place.Place.{Place}
-use Rattle.hp_model.specs.declared.place.Place.TheVariants.{Gone}
-use Rattle.hp_model.specs.declared.refusal.Refusal.{Refusal}
-use Rattle.hp_model.specs.declared.refusal.Refusal.TheVariants.{NoPages, OutOfMemory, NoSuchMap}
-use Rattle.hp_model.specs.declared.step.Intent.{Intent}
-use Rattle.hp_model.specs.declared.step.Intent.TheVariants.{Read, Write}
-use Rattle.hp_model.specs.declared.step.Reserving.{Reserving}
-use Rattle.hp_model.specs.declared.step.Sharing.{Sharing}
-use Rattle.hp_model.specs.files.Access.{access}
+use Rattle.hp_model.proofs.Words.{Answered, Ask, Choice, Copy, File, IsLoaded, IsSoundMount, Map, Mount, Outcome, Page, Plan, Refused, Slot, Spot, access, again, at_least, byte_access, bytes_answer}
+use Rattle.hp_model.proofs.Words.{continued, copy_of, edit_range, entered, file_in, gives, grant, granted, has_page, is_map, is_shared, is_shared_of, lacking, limits, load, map_in, map_on, mapped}
+use Rattle.hp_model.proofs.Words.{mount_on, mount_outcome, new_file, new_map, no_map, over, place_at, range_filled, reaches, remount, remount_outcome, remount_tests, reserves, rising_nodes, seen_on}
+use Rattle.hp_model.proofs.Words.{shown, shown_on, slot_event, spot, spot_on, store, unless, value, wanted_of, when_granted, with_file, with_new, with_value, written, zeros}
 use Rattle.hp_laws.specs.Balance.{left_by}
-use Rattle.hp_model.specs.files.File.{File, Mount, at_least, entered, new_file, with_file, has_page}
-use Rattle.hp_model.specs.pool.Grant.{granted}
-use Rattle.hp_model.specs.files.MakeMap.{mapped, new_map, reserves, with_new}
-use Rattle.hp_model.specs.Lists.{edit_range}
-use Rattle.hp_model.specs.files.Mapping.{Map, copy_of, is_map, is_shared, place_at}
-use Rattle.hp_model.specs.files.Options.{limits, wanted_of}
-use Rattle.hp_model.specs.files.Page.{Page, Copy, zeros}
-use Rattle.hp_model.specs.machine.Plan.{Slot, Outcome, Refused, Answered, Plan, Ask, Choice, unless, with_value, continued, grant, when_granted, gives}
-use Rattle.hp_model.specs.declared.section.Section.TheVariants.{FillPages}
-use Rattle.hp_model.specs.machine.Promises.{file_in, spot_on, IsLoaded, shown_on, seen_on, map_in, map_on, no_map, over, is_shared_of, reaches}
-use Rattle.hp_model.specs.machine.SlotEvent.{byte_access, bytes_answer}
-use Rattle.hp_model.specs.machine.SlotEvent.{load, mount_on, mount_outcome, remount, remount_outcome, remount_tests, slot_event, store}
-use Rattle.hp_model.specs.machine.Sound.{IsSoundMount}
-use Rattle.hp_model.specs.files.Spot.{Spot, again, spot, written}
-use Rattle.hp_model.specs.files.Value.{shown, value}
 use Rattle.hp_laws.proofs.lists.Looks.{same_edit_range, same_more, same_none, same_one, same_put}
 use Rattle.hp_laws.proofs.counts.MountMoves.{IsSpot, spot_is, IsFileAt}
 use Rattle.hp_laws.proofs.steps.Outcomes.{Always, always_then, outcome_if}
@@ -42,7 +17,6 @@ use Rattle.hp_laws.proofs.accesses.StoredMaps.{IsLostAt, store_seen, store_marks
 use Rattle.hp_laws.proofs.accesses.Shown.{marked, look, seen, by_place, On, Same, Result, read_same, write_done}
 use Rattle.hp_laws.proofs.accesses.StoredFiles.{ready, stored}
 use Rattle.hp_laws.proofs.steps.Walk.{plan_unless, plan_value, remounting}
-use Rattle.hp_model.specs.files.Fill.{lacking, range_filled, rising_nodes}
 use Rattle.hp_laws.proofs.counts.Filled.{filled_index}
 use Rattle.hp_laws.proofs.lists.NodesOf.{length-nodes_of}
 

@@ -1,15 +1,9 @@
 -- What files show after a store.
-use Rattle.std.proofs.Common.{arith}
+use Rattle.std.proofs.Common.{arith, ◌≡◌, ℕ, Bool, true, false, ◌&&◌, ◌==◌, None, List, refl, sym, ap, ◌∙◌, if◌then◌else◌}
 use Rattle.std.proofs.lemmas.Grind.{common_steps}
-use Rattle.std.proofs.Common.{◌≡◌, ℕ, Bool, true, false, ◌&&◌, ◌==◌, None, List, refl, sym, ap, ◌∙◌, if◌then◌else◌}
 use Rattle.std.proofs.lemmas.Bool.{cond_both, eqb-true, eqb-false}
-use Rattle.hp_model.specs.declared.cell.Cell.{Cell}
-use Rattle.hp_model.specs.files.File.{File, Mount, cell_at, has_page, new_file}
-use Rattle.hp_model.specs.files.Mapping.{is_shared}
-use Rattle.hp_model.specs.files.Page.{Page}
-use Rattle.hp_model.specs.machine.Promises.{file_in, over}
-use Rattle.hp_model.specs.files.Spot.{Spot, cell_written, file_written, written}
-use Rattle.hp_model.specs.files.Value.{shown}
+use Rattle.hp_laws.proofs.Variants.{Cell}
+use Rattle.hp_model.proofs.Words.{File, Mount, Page, Spot, cell_at, cell_written, file_in, file_written, has_page, is_shared, new_file, over, shown, written}
 use Rattle.hp_laws.proofs.lists.Looks.{edit_here, edit_other, same_edit}
 use Rattle.hp_laws.proofs.counts.MountMoves.{IsSpot}
 use Rattle.hp_laws.proofs.accesses.Shown.{look, Result}

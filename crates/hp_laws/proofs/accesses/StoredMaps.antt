@@ -1,20 +1,12 @@
 -- What maps show after a store, and after a fault that writes.
 use Rattle.std.proofs.lemmas.Grind.{common_steps}
-use Rattle.std.proofs.Common.{◌≡◌, ⊎_elim, inl, inr, ◌⊎◌, map, ℕ, ◌-◌, Bool, true, false, ◌&&◌, ◌==◌, not}
-use Rattle.std.proofs.Common.{Option, None, Some, is_some, List, set, refl, sym, ap, ◌∙◌, subst, arith, if◌then◌else◌, nat_lt}
-use Rattle.std.specs.List.{slice_index_or}
+use Rattle.std.proofs.Common.{◌≡◌, ⊎_elim, inl, inr, ◌⊎◌, map, ℕ, ◌-◌, Bool, true, false, ◌&&◌, ◌==◌, not, Option, None, Some, is_some, List, set, refl, sym, ap, ◌∙◌, subst, arith, if◌then◌else◌}
+use Rattle.std.proofs.Common.{nat_lt, slice_index_or}
 use Rattle.std.proofs.lemmas.Bool.{cases_eq, cond_both, eq-eqb, ltb-false, eqb-true, eqb-false}
 use Rattle.std.proofs.lemmas.List.{get_or-set_same, get_or-set_other}
-use Rattle.hp_model.specs.declared.place.Place.{Place}
-use Rattle.hp_model.specs.declared.place.Place.TheVariants.{Gone, Live}
-use Rattle.hp_model.specs.files.CopyWrite.{holds, robbed}
-use Rattle.hp_model.specs.files.File.{File, Mount, new_file, with_map}
-use Rattle.hp_model.specs.Lists.{edit_at}
-use Rattle.hp_model.specs.files.Mapping.{Map, copy_of, is_shared, place_at}
-use Rattle.hp_model.specs.files.Page.{Copy}
-use Rattle.hp_model.specs.machine.Promises.{file_in, map_in, no_map, over, is_same_copy, IsLost}
-use Rattle.hp_model.specs.files.Spot.{Spot, cell_written, file_written, map_written, place_written, written}
-use Rattle.hp_model.specs.machine.Sound.{HasCopy, IsSoundMount}
+use Rattle.hp_laws.proofs.Variants.{Gone, Live, Place}
+use Rattle.hp_model.proofs.Words.{Copy, File, HasCopy, IsLost, IsSoundMount, Map, Mount, Spot, cell_written, copy_of, edit_at, file_in, file_written, holds, is_same_copy, is_shared, map_in}
+use Rattle.hp_model.proofs.Words.{map_written, new_file, no_map, over, place_at, place_written, robbed, with_map, written}
 use Rattle.hp_laws.proofs.accesses.CopiesSound.{same_index}
 use Rattle.hp_laws.proofs.lists.Looks.{edit_here, edit_other, get_map, same_edit}
 use Rattle.hp_laws.proofs.counts.MountMoves.{IsSpot}

@@ -1,16 +1,11 @@
 -- Where copies stand: by their places, and by the tests that find them.
 use Rattle.std.proofs.lemmas.Grind.{common_steps}
-use Rattle.std.proofs.Common.{◌≡◌, ℕ, ◌+◌, ◌-◌, ◌<◌, Bool, true, ◌==◌, None, Some, List, length, get_or, arith, refl, sym, ap, ◌∙◌, subst, nat_lt, if◌then◌else◌}
-use Rattle.std.specs.List.{slice_index_or}
+use Rattle.std.proofs.Common.{◌≡◌, ℕ, ◌+◌, ◌-◌, ◌<◌, Bool, true, ◌==◌, None, Some, List, length, get_or, arith, refl, sym, ap, ◌∙◌, subst, nat_lt, if◌then◌else◌, slice_index_or}
 use Rattle.std.proofs.lemmas.Bool.{and_parts, cond_both, eqb-true, le-ltb}
 use Rattle.std.proofs.lemmas.List.{get_or_default}
 use Rattle.std.proofs.lemmas.List.Folds.{Any-from_list_any, list_any_at}
-use Rattle.hp_model.specs.files.File.{File, Mount, file_in, map_in}
-use Rattle.hp_model.specs.files.Mapping.{Map, copy_of, no_map, place_at}
-use Rattle.hp_model.specs.files.Page.{Copy}
-use Rattle.hp_model.specs.machine.Sound.{HasCopy, IsSoundFile, file_has, map_has, place_has}
-use Rattle.hp_model.specs.declared.place.Place.{Place}
-use Rattle.hp_model.specs.declared.place.Place.TheVariants.{Gone, Live}
+use Rattle.hp_model.proofs.Words.{Copy, File, HasCopy, IsSoundFile, Map, Mount, copy_of, file_has, file_in, map_has, map_in, no_map, place_at, place_has}
+use Rattle.hp_laws.proofs.Variants.{Gone, Live, Place}
 use Rattle.hp_laws.proofs.counts.CopiesHeld.{IsAgreed, is_stamp_at}
 
 -- ---- by places

@@ -1,17 +1,11 @@
 -- Which copies a file's maps hold, by tests of a stamp and a node; and what that says of the counts of stamps.
-use Rattle.std.proofs.Common.{◌≡◌, ℕ, ◌+◌, ◌≤◌, Bool, true, false, ◌&&◌, ◌||◌, ◌==◌, None, Some, List, [], ◌∷◌, ◌++◌, length, map, refl, sym, ap, ◌∙◌, cond, arith, if◌then◌else◌}
-use Rattle.std.specs.List.{list_any, filter_map, flat_map, cons_option}
+use Rattle.std.proofs.Common.{◌≡◌, ℕ, ◌+◌, ◌≤◌, Bool, true, false, ◌&&◌, ◌||◌, ◌==◌, None, Some, List, [], ◌∷◌, ◌++◌, length, map, refl, sym, ap, ◌∙◌, cond, arith, if◌then◌else◌, filter_map, flat_map}
+use Rattle.std.specs.List.{list_any, cons_option}
 use Rattle.std.proofs.lemmas.List.{map-append}
 use Rattle.std.proofs.lemmas.Bool.{and_parts, both_ways, false_from_ne_true}
 use Rattle.std.proofs.lemmas.List.Elements.{filter_map-append}
-use Rattle.hp_model.specs.files.File.{File}
-use Rattle.hp_model.specs.Lists.{distinct, is_among}
-use Rattle.hp_model.specs.files.Mapping.{Map, copy_of}
-use Rattle.hp_model.specs.files.MountCounts.{copies_of, stamps_of, stamp_at}
-use Rattle.hp_model.specs.files.Page.{Copy}
-use Rattle.hp_model.specs.machine.Sound.{place_has, map_has, file_has, is_stamp}
-use Rattle.hp_model.specs.declared.place.Place.{Place}
-use Rattle.hp_model.specs.declared.place.Place.TheVariants.{Gone, Live}
+use Rattle.hp_model.proofs.Words.{Copy, File, Map, copies_of, copy_of, distinct, file_has, is_among, is_stamp, map_has, place_has, stamp_at, stamps_of}
+use Rattle.hp_laws.proofs.Variants.{Gone, Live, Place}
 use Rattle.hp_model.proofs.Distinct.{same_members, is_among-append, distinct_put, length_if}
 
 -- ---- stamps at a node

@@ -1,23 +1,15 @@
 -- What only gives back: no count of a file or a mount is higher after it.
 use Rattle.std.proofs.lemmas.Grind.{common_steps}
-use Rattle.std.proofs.Common.{◌≡◌, ⊎_elim, ℕ, zero, suc, ◌+◌, ◌-◌, ◌≤◌, Bool, true, false, not, List}
-use Rattle.std.proofs.Common.{[], ◌∷◌, ◌++◌, length, map, take, drop, refl, sym, ◌∙◌, cond, arith, if◌then◌else◌}
-use Rattle.std.specs.List.{list_any, sum_by, count_by, filter}
+use Rattle.std.proofs.Common.{◌≡◌, ⊎_elim, ℕ, zero, suc, ◌+◌, ◌-◌, ◌≤◌, Bool, true, false, not, List, [], ◌∷◌, ◌++◌, length, map, take, drop, refl, sym, ◌∙◌, cond, arith, if◌then◌else◌, sum_by}
+use Rattle.std.proofs.Common.{count_by, filter}
+use Rattle.std.specs.List.{list_any}
 use Rattle.std.proofs.lemmas.Bool.{or_left, or_right, or_cases}
 use Rattle.std.proofs.lemmas.List.Folds.{list_any-append}
 use Rattle.std.proofs.lemmas.List.Sums.{sum_by-append, sum_by-take-drop, sum_by-cons}
-use Rattle.hp_model.specs.files.File.{cell_punched, cells_to, File, has_page}
-use Rattle.hp_model.specs.files.Fork.{file_forked}
-use Rattle.hp_model.specs.files.GiveBack.{file_unmapped, file_without, is_left, map_unmapped, punched, truncated, unlinked}
-use Rattle.hp_model.specs.Lists.{edit_range}
-use Rattle.hp_model.specs.files.Mapping.{map_for, unconsumed, without_range, without_copy, map_punched, Map, is_unconsumed, is_of}
-use Rattle.hp_model.specs.files.MountCounts.{file_pages, file_reserves, file_pages_at, is_waiting, is_page_at, owner_reserves}
-use Rattle.hp_model.specs.files.Page.{Page, Copy}
-use Rattle.hp_model.specs.machine.Sound.{place_has, map_has}
-use Rattle.hp_model.specs.declared.cell.Cell.{Cell}
-use Rattle.hp_model.specs.declared.cell.Cell.TheVariants.{Hole, Entered}
-use Rattle.hp_model.specs.declared.place.Place.{Place}
-use Rattle.hp_model.specs.declared.place.Place.TheVariants.{Gone}
+use Rattle.hp_model.proofs.Words.{Copy, File, Map, Page, cell_punched, cells_to, edit_range, file_forked, file_pages, file_pages_at, file_reserves, file_unmapped, file_without, has_page, is_left}
+use Rattle.hp_model.proofs.Words.{is_of, is_page_at, is_unconsumed, is_waiting, map_for, map_has, map_punched, map_unmapped, owner_reserves, place_has, punched, truncated, unconsumed, unlinked}
+use Rattle.hp_model.proofs.Words.{without_copy, without_range}
+use Rattle.hp_laws.proofs.Variants.{Cell, Entered, Gone, Hole, Place}
 use Rattle.hp_laws.proofs.counts.CopiesHeld.{stamps_fall, stamps_at_fall}
 use Rattle.hp_laws.proofs.lists.Places.{any_map_down, any_filter, sum_by-map_le, sum_by-filter_le}
 use Rattle.hp_model.proofs.Editing.{sum_by-edit_range}

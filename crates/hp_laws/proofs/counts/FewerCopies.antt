@@ -1,19 +1,13 @@
 -- Maps without some of the copies of others: what holds of the copies of those holds of theirs.
 use Rattle.std.proofs.lemmas.Grind.{common_steps}
-use Rattle.std.proofs.Common.{◌≡◌, ℕ, ◌-◌, ◌<◌, ◌≤◌, Bool, true, false, Some, List, [], ◌∷◌, ◌++◌, length, map, get_or, cond, arith, refl, sym, ◌∙◌, subst, if◌then◌else◌}
-use Rattle.std.specs.List.{All, count_by, filter}
+use Rattle.std.proofs.Common.{◌≡◌, ℕ, ◌-◌, ◌<◌, ◌≤◌, Bool, true, false, Some, List, [], ◌∷◌, ◌++◌, length, map, get_or, cond, arith, refl, sym, ◌∙◌, subst, if◌then◌else◌, All, count_by, filter}
 use Rattle.std.proofs.lemmas.Bool.{and_from, and_parts}
 use Rattle.std.proofs.lemmas.List.{get_or-map, get_or_default, length-map}
 use Rattle.std.proofs.lemmas.List.Elements.{All-append, All-filter, All-map}
 use Rattle.std.proofs.lemmas.List.Sums.{sum_by-append, sum_by-cons}
-use Rattle.hp_model.specs.files.CopyWrite.{robbed}
-use Rattle.hp_model.specs.files.File.{File}
-use Rattle.hp_model.specs.Lists.{edit_range}
-use Rattle.hp_model.specs.files.Mapping.{Map, copy_of, is_shared, is_unconsumed, map_for, map_punched, no_map, place_at, without_copy, without_range}
-use Rattle.hp_model.specs.files.Page.{Copy}
-use Rattle.hp_model.specs.machine.Sound.{FileHasCopy, HasCopy, IsSoundFile, IsSoundMap, file_has, is_stamp, map_has, owns_stamp}
-use Rattle.hp_model.specs.declared.place.Place.{Place}
-use Rattle.hp_model.specs.declared.place.Place.TheVariants.{Gone}
+use Rattle.hp_model.proofs.Words.{Copy, File, FileHasCopy, HasCopy, IsSoundFile, IsSoundMap, Map, copy_of, edit_range, file_has, is_shared, is_stamp, is_unconsumed, map_for, map_has, map_punched}
+use Rattle.hp_model.proofs.Words.{no_map, owns_stamp, place_at, robbed, without_copy, without_range}
+use Rattle.hp_laws.proofs.Variants.{Gone, Place}
 use Rattle.hp_laws.proofs.counts.Copies.{file_copy, file_has_stamp, has_stamp, map_copy, map_there}
 use Rattle.hp_laws.proofs.lists.Looks.{related_edit_range}
 use Rattle.hp_laws.proofs.lists.Places.{sum_by-filter_le}

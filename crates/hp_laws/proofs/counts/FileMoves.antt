@@ -1,20 +1,14 @@
 -- How the counts of a file change with one page: filled, copied, copied on a write.
 use Rattle.std.proofs.lemmas.Grind.{common_steps}
-use Rattle.std.proofs.Common.{◌≡◌, ⊎_elim, ◌++◌, ℕ, ◌+◌, ◌-◌, ◌<◌, Bool, true, false, ◌||◌, ◌==◌, Option}
-use Rattle.std.proofs.Common.{None, Some, List, [], ◌∷◌, length, map, refl, sym, ap, ◌∙◌, cond, arith}
-use Rattle.std.specs.List.{list_any, slice_index_or, sum_by, count_by, filter_map, flat_map}
+use Rattle.std.proofs.Common.{◌≡◌, ⊎_elim, ◌++◌, ℕ, ◌+◌, ◌-◌, ◌<◌, Bool, true, false, ◌||◌, ◌==◌, Option, None, Some, List, [], ◌∷◌, length, map, refl, sym, ap, ◌∙◌, cond, arith, slice_index_or}
+use Rattle.std.proofs.Common.{sum_by, count_by, filter_map, flat_map}
+use Rattle.std.specs.List.{list_any}
 use Rattle.std.proofs.lemmas.List.{map-append}
 use Rattle.std.proofs.lemmas.Bool.{or_parts, or_cases, or_left, or_right, and_from, and_parts, eq-eqb, eqb-true}
 use Rattle.std.proofs.lemmas.List.Sums.{sum_by-set, sum_by-cons, sum_by-append}
-use Rattle.hp_model.specs.files.File.{with_cell, with_map, File, cell_at}
-use Rattle.hp_model.specs.Lists.{is_among}
-use Rattle.hp_model.specs.files.Mapping.{with_place, Map, place_at, copy_of, is_unconsumed}
-use Rattle.hp_model.specs.files.MountCounts.{file_pages, file_reserves, file_pages_at, owner_reserves, stamps_of}
-use Rattle.hp_model.specs.files.Page.{Page, Copy}
-use Rattle.hp_model.specs.machine.Sound.{place_has, map_has, file_has, is_stamp}
-use Rattle.hp_model.specs.declared.cell.Cell.TheVariants.{Hole, Entered, Present}
-use Rattle.hp_model.specs.declared.place.Place.{Place}
-use Rattle.hp_model.specs.declared.place.Place.TheVariants.{Gone, Live}
+use Rattle.hp_model.proofs.Words.{Copy, File, Map, Page, cell_at, copy_of, file_has, file_pages, file_pages_at, file_reserves, is_among, is_stamp, is_unconsumed, map_has, owner_reserves, place_at}
+use Rattle.hp_model.proofs.Words.{place_has, stamps_of, with_cell, with_map, with_place}
+use Rattle.hp_laws.proofs.Variants.{Entered, Gone, Hole, Live, Place, Present}
 use Rattle.hp_laws.proofs.counts.CopiesHeld.{is_stamp_at, IsAgreed, stamps_grow, stamps_at_grow, weaker}
 use Rattle.hp_laws.proofs.lists.Places.{any_set}
 use Rattle.hp_laws.proofs.lists.AtMostOne.{bit}

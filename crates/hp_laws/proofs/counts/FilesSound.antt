@@ -1,26 +1,15 @@
 -- Each change of a file keeps it sound.
 use Rattle.std.proofs.lemmas.Grind.{common_steps}
-use Rattle.std.proofs.Common.{◌≡◌, inl, inr, ℕ, ◌+◌, ◌-◌, ◌<◌, ◌≤◌, Bool, true, false, not, None, Some}
-use Rattle.std.proofs.Common.{List, [], ◌∷◌, length, map, get_or, cond, arith, refl, sym, ap, ◌∙◌, subst, nat_lt}
-use Rattle.std.specs.List.{slice_index_or, slice_set}
+use Rattle.std.proofs.Common.{◌≡◌, inl, inr, ℕ, ◌+◌, ◌-◌, ◌<◌, ◌≤◌, Bool, true, false, not, None, Some, List, [], ◌∷◌, length, map, get_or, cond, arith, refl, sym, ap, ◌∙◌, subst, nat_lt}
+use Rattle.std.proofs.Common.{slice_index_or, slice_set}
 use Rattle.std.proofs.lemmas.Bool.{and_parts, cases_eq, cond_both, false_from_ne_true, ltb-false, ltb-true}
 use Rattle.std.proofs.lemmas.List.{get_or-map, get_or-set_other, get_or-set_same, get_or_past, length-map, length-set}
 use Rattle.std.proofs.lemmas.List.Elements.{All-map, All-push}
 use Rattle.std.proofs.lemmas.List.Sums.{sum_by-append, sum_by-cons}
-use Rattle.hp_model.specs.declared.cell.Cell.{Cell}
-use Rattle.hp_model.specs.declared.place.Place.{Place}
-use Rattle.hp_model.specs.declared.place.Place.TheVariants.{Gone}
-use Rattle.hp_model.specs.declared.step.Reserving.{Reserving}
-use Rattle.hp_model.specs.declared.step.Sharing.{Sharing}
-use Rattle.hp_model.specs.files.CopyWrite.{robbed}
-use Rattle.hp_model.specs.files.File.{File, cell_punched, cells_to, with_map}
-use Rattle.hp_model.specs.files.Fork.{file_forked}
-use Rattle.hp_model.specs.files.GiveBack.{file_unmapped, file_without, is_left, map_unmapped, punched, truncated, unlinked}
-use Rattle.hp_model.specs.Lists.{edit_range}
-use Rattle.hp_model.specs.files.MakeMap.{cells_mapped, mapped, new_map}
-use Rattle.hp_model.specs.files.Mapping.{Map, copy_of, is_of, map_punched, no_map, place_at, without_copy, without_range}
-use Rattle.hp_model.specs.files.Page.{Copy, Page}
-use Rattle.hp_model.specs.machine.Sound.{FileHasCopy, HasCopy, IsSoundMap, is_stamp, map_has, owns_stamp}
+use Rattle.hp_laws.proofs.Variants.{Cell, Gone, Place, Reserving, Sharing}
+use Rattle.hp_model.proofs.Words.{Copy, File, FileHasCopy, HasCopy, IsSoundMap, Map, Page, cell_punched, cells_mapped, cells_to, copy_of, edit_range, file_forked, file_unmapped, file_without, is_left}
+use Rattle.hp_model.proofs.Words.{is_of, is_stamp, map_has, map_punched, map_unmapped, mapped, new_map, no_map, owns_stamp, place_at, punched, robbed, truncated, unlinked, with_map, without_copy}
+use Rattle.hp_model.proofs.Words.{without_range}
 use Rattle.hp_model.proofs.Editing.{get_or-edit_in, length-edit_range}
 use Rattle.hp_laws.proofs.counts.Copies.{map_copy, none_copied}
 use Rattle.hp_laws.proofs.counts.FileMoves.{IsMapAt}

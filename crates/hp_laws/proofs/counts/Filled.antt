@@ -1,17 +1,11 @@
 -- A file whose range gets pages of zeros.
 use Rattle.std.proofs.lemmas.Grind.{common_steps}
-use Rattle.std.proofs.Common.{◌≡◌, ⊎_elim, inl, inr, ◌⊎◌, ℕ, ◌+◌, ◌-◌, ◌<◌, ◌≤◌, true, ◌==◌, List, length, map, max, replicate, refl, sym, ap, ◌∙◌, arith}
-use Rattle.std.specs.List.{All, count_by}
+use Rattle.std.proofs.Common.{◌≡◌, ⊎_elim, inl, inr, ◌⊎◌, ℕ, ◌+◌, ◌-◌, ◌<◌, ◌≤◌, true, ◌==◌, List, length, map, max, replicate, refl, sym, ap, ◌∙◌, arith, All, count_by}
 use Rattle.std.proofs.lemmas.List.{length-map}
 use Rattle.std.proofs.lemmas.List.Elements.{All-map}
-use Rattle.hp_model.specs.declared.cell.Cell.{Cell}
-use Rattle.hp_model.specs.declared.cell.Cell.TheVariants.{Hole}
-use Rattle.hp_model.specs.files.File.{File, at_least, cell_at, cell_in, has_page, is_hole}
-use Rattle.hp_model.specs.files.Fill.{cells_filled, lacking, range_filled, zero_page}
-use Rattle.hp_model.specs.files.MountCounts.{file_pages, file_pages_at, file_reserves}
-use Rattle.hp_model.specs.files.Page.{Page, zeros}
-use Rattle.hp_model.specs.Lists.{part}
-use Rattle.hp_model.specs.machine.SlotEvent.{unentered}
+use Rattle.hp_laws.proofs.Variants.{Cell, Hole}
+use Rattle.hp_model.proofs.Words.{File, Page, at_least, cell_at, cell_in, cells_filled, file_pages, file_pages_at, file_reserves, has_page, is_hole, lacking, part, range_filled, unentered, zero_page}
+use Rattle.hp_model.proofs.Words.{zeros}
 use Rattle.hp_model.proofs.Counting.{count_map}
 use Rattle.hp_laws.proofs.lists.Fills.{Fill, IsNew, all_there, bare, by_index, entries_are, fills, holes_lack}
 use Rattle.hp_laws.proofs.lists.Looks.{same_more, same_none}

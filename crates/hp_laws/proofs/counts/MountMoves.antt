@@ -1,16 +1,10 @@
 -- How the counts of a mount change with one of its files.
 use Rattle.std.proofs.lemmas.Grind.{common_steps}
-use Rattle.std.proofs.Common.{◌≡◌, ◌==◌, ℕ, ◌+◌, ◌<◌, ◌≤◌, Bool, Option, None, Some, List, length, map, refl, sym, ap, ◌∙◌, cond, arith}
-use Rattle.std.specs.List.{list_any, slice_index_or}
-use Rattle.std.specs.Option.{option_map}
+use Rattle.std.proofs.Common.{◌≡◌, ◌==◌, ℕ, ◌+◌, ◌<◌, ◌≤◌, Bool, Option, None, Some, List, length, map, refl, sym, ap, ◌∙◌, cond, arith, slice_index_or, option_map}
+use Rattle.std.specs.List.{list_any}
 use Rattle.std.proofs.lemmas.List.Sums.{sum_by-set}
-use Rattle.hp_model.specs.files.File.{with_file, new_file, File, Mount}
-use Rattle.hp_model.specs.files.GiveBack.{swept, is_kept}
-use Rattle.hp_model.specs.Lists.{edit_at, found}
-use Rattle.hp_model.specs.files.MakeMap.{with_new}
-use Rattle.hp_model.specs.files.Mapping.{Map}
-use Rattle.hp_model.specs.files.MountCounts.{file_pages, file_reserves, file_pages_at, pages_of, usage_of, pages_at}
-use Rattle.hp_model.specs.files.Spot.{Spot, spot, spot_in}
+use Rattle.hp_model.proofs.Words.{File, Map, Mount, Spot, edit_at, file_pages, file_pages_at, file_reserves, found, is_kept, new_file, pages_at, pages_of, spot, spot_in, swept, usage_of, with_file}
+use Rattle.hp_model.proofs.Words.{with_new}
 use Rattle.hp_laws.proofs.counts.Falls.{FileFalls}
 use Rattle.hp_laws.proofs.counts.FileMoves.{FileGrows, IsMapAt}
 use Rattle.hp_laws.proofs.counts.Filled.{FileFills}

@@ -1,20 +1,13 @@
 -- A mount stays sound where its files do, and where no number and no name comes twice.
 use Rattle.std.proofs.lemmas.Grind.{common_steps}
-use Rattle.std.proofs.Common.{◌≡◌, ℕ, ◌+◌, ◌≤◌, Bool, true, false, ◌==◌, not, None, List, [], ◌∷◌, ◌++◌, length, map, cond, arith, refl, sym, ap, subst, if◌then◌else◌, nat_lt}
-use Rattle.std.specs.List.{count_by, filter, flat_map, sum_by}
+use Rattle.std.proofs.Common.{◌≡◌, ℕ, ◌+◌, ◌≤◌, Bool, true, false, ◌==◌, not, None, List, [], ◌∷◌, ◌++◌, length, map, cond, arith, refl, sym, ap, subst, if◌then◌else◌, nat_lt, count_by, filter}
+use Rattle.std.proofs.Common.{flat_map, sum_by}
 use Rattle.std.proofs.lemmas.Bool.{and_from, and_parts, both_ways, eq-eqb, eqb-true, ltb-false, ltb-true, not-true}
 use Rattle.std.proofs.lemmas.List.{get_or_default}
 use Rattle.std.proofs.lemmas.List.Elements.{All-filter, All-map, All-push, All-set, All-weaker}
 use Rattle.std.proofs.lemmas.List.Sums.{sum_by-append, sum_by-cons, sum_by-set}
-use Rattle.hp_model.specs.files.File.{File, Mount, file_in, maps_of, new_file, with_file}
-use Rattle.hp_model.specs.files.Fork.{file_forked, forked}
-use Rattle.hp_model.specs.files.GiveBack.{is_kept, swept}
-use Rattle.hp_model.specs.Lists.{edit_at}
-use Rattle.hp_model.specs.files.MakeMap.{with_new}
-use Rattle.hp_model.specs.files.Mapping.{Map, is_map, is_of, map_for}
-use Rattle.hp_model.specs.files.Page.{Copy}
-use Rattle.hp_model.specs.machine.SlotEvent.{has_name}
-use Rattle.hp_model.specs.machine.Sound.{FileHasCopy, IsSoundFile, IsSoundMount, file_has, is_stamp}
+use Rattle.hp_model.proofs.Words.{Copy, File, FileHasCopy, IsSoundFile, IsSoundMount, Map, Mount, edit_at, file_forked, file_has, file_in, forked, has_name, is_kept, is_map, is_of, is_stamp, map_for}
+use Rattle.hp_model.proofs.Words.{maps_of, new_file, swept, with_file, with_new}
 use Rattle.hp_model.proofs.Counting.{count_map}
 use Rattle.hp_laws.proofs.counts.Copies.{map_there}
 use Rattle.hp_laws.proofs.counts.FilesSound.{forked_keeps}

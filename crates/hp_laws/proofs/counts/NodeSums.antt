@@ -1,19 +1,14 @@
 -- The pages at the nodes together are no more than the pages.
-use Rattle.std.proofs.Common.{◌≡◌, ◌≢◌, ⊎_elim, subst, ℕ, zero, suc, ◌+◌, ◌<◌, ◌≤◌, Bool, true, false, ◌&&◌, ◌==◌}
-use Rattle.std.proofs.Common.{not, None, Some, List, [], ◌∷◌, length, map, refl, sym, ap, ◌∙◌, cond, arith, if◌then◌else◌}
-use Rattle.std.specs.List.{sum_by, count_by, filter_map, cons_option, range_with_len, All}
+use Rattle.std.proofs.Common.{◌≡◌, ◌≢◌, ⊎_elim, subst, ℕ, zero, suc, ◌+◌, ◌<◌, ◌≤◌, Bool, true, false, ◌&&◌, ◌==◌, not, None, Some, List, [], ◌∷◌, length, map, refl, sym, ap, ◌∙◌, cond, arith}
+use Rattle.std.proofs.Common.{if◌then◌else◌, sum_by, count_by, filter_map, All}
+use Rattle.std.specs.List.{cons_option, range_with_len}
 use Rattle.std.proofs.lemmas.Bool.{or_cases, or_left, or_right, eq-eqb, eqb-true, ne_eqb}
 use Rattle.std.proofs.lemmas.List.Elements.{All-head, All-tail}
 use Rattle.std.proofs.lemmas.List.Sums.{sum_by-cons}
-use Rattle.hp_model.specs.files.File.{File, has_page}
-use Rattle.hp_model.specs.Lists.{distinct, is_among}
-use Rattle.hp_model.specs.files.MountCounts.{copies_of, stamp_at, file_pages, file_pages_at, is_page_at}
-use Rattle.hp_model.specs.files.Page.{Page, Copy}
-use Rattle.hp_model.specs.machine.Plan.{slot_pages, Slot, slot_pages_at, slot_committed}
-use Rattle.hp_model.specs.declared.cell.Cell.{Cell}
-use Rattle.hp_model.specs.declared.cell.Cell.TheVariants.{Hole, Entered, Present}
+use Rattle.hp_model.proofs.Words.{Copy, File, IsSound, IsSoundFile, Page, Slot, copies_of, distinct, file_pages, file_pages_at, has_page, is_among, is_page_at, slot_committed, slot_pages}
+use Rattle.hp_model.proofs.Words.{slot_pages_at, stamp_at}
+use Rattle.hp_laws.proofs.Variants.{Cell, Entered, Hole, Present}
 use Rattle.hp_model.proofs.Distinct.{length_if}
-use Rattle.hp_model.specs.machine.Sound.{IsSound, IsSoundFile}
 use Rattle.hp_laws.proofs.counts.Copies.{agreed_file}
 use Rattle.hp_laws.proofs.counts.CopiesHeld.{IsAgreed, stamps_at_are}
 

@@ -1,23 +1,12 @@
 -- A file with one map more: its usage is higher by what the map asks for.
 use Rattle.std.proofs.lemmas.Grind.{common_steps}
-use Rattle.std.proofs.Common.{◌≡◌, ℕ, zero, suc, ◌+◌, ◌-◌, Bool, false, ◌||◌, ◌==◌, None, List, [], ◌∷◌, ◌++◌, map, take, drop, replicate, refl, ap, ◌∙◌, cond, arith}
-use Rattle.std.specs.List.{list_any, count_by}
+use Rattle.std.proofs.Common.{◌≡◌, ℕ, zero, suc, ◌+◌, ◌-◌, Bool, false, ◌||◌, ◌==◌, None, List, [], ◌∷◌, ◌++◌, map, take, drop, replicate, refl, ap, ◌∙◌, cond, arith, count_by}
+use Rattle.std.specs.List.{list_any}
 use Rattle.std.proofs.lemmas.List.Folds.{list_any-append}
 use Rattle.std.proofs.lemmas.List.Sums.{sum_by-append, sum_by-take-drop, sum_by-cons}
-use Rattle.hp_model.specs.declared.step.Sharing.{Sharing}
-use Rattle.hp_model.specs.declared.step.Sharing.TheVariants.{Shared, Private}
-use Rattle.hp_model.specs.declared.step.Reserving.{Reserving}
-use Rattle.hp_model.specs.declared.step.Reserving.TheVariants.{Reserve, NoReserve}
-use Rattle.hp_model.specs.files.File.{at_least, entered, is_hole, File, has_page}
-use Rattle.hp_model.specs.Lists.{edit_range}
-use Rattle.hp_model.specs.files.MakeMap.{asked, new_map, mapped, cells_mapped}
-use Rattle.hp_model.specs.files.Mapping.{Map, is_unconsumed}
-use Rattle.hp_model.specs.files.MountCounts.{is_waiting, is_page_at, owner_reserves}
-use Rattle.hp_model.specs.files.Page.{Page, Copy}
-use Rattle.hp_model.specs.machine.Sound.{place_has, map_has, file_has}
-use Rattle.hp_model.specs.declared.cell.Cell.{Cell}
-use Rattle.hp_model.specs.declared.cell.Cell.TheVariants.{Hole, Entered}
-use Rattle.hp_model.specs.declared.place.Place.TheVariants.{Live}
+use Rattle.hp_laws.proofs.Variants.{Cell, Entered, Hole, Live, NoReserve, Private, Reserve, Reserving, Shared, Sharing}
+use Rattle.hp_model.proofs.Words.{Copy, File, Map, Page, asked, at_least, cells_mapped, edit_range, entered, file_has, has_page, is_hole, is_page_at, is_unconsumed, is_waiting, map_has, mapped}
+use Rattle.hp_model.proofs.Words.{new_map, owner_reserves, place_has}
 use Rattle.hp_laws.proofs.counts.FileMoves.{FileGrows, spent}
 use Rattle.hp_laws.proofs.counts.CopiesHeld.{stamps_stay, stamps_at_stay}
 use Rattle.hp_laws.proofs.lists.Places.{sum_by-map_same}

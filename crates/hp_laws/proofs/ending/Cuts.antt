@@ -1,29 +1,17 @@
 -- What files and maps show after a range of a file or of a map is gone.
 use Rattle.std.proofs.lemmas.Grind.{common_steps}
-use Rattle.std.proofs.Common.{◌≡◌, inl, inr, ◌⊎◌, subst, ℕ, ◌+◌, ◌-◌, ◌<◌, ◌≤◌, ◌&&◌, ◌==◌, Bool, true, false, Option}
-use Rattle.std.proofs.Common.{None, Some, List, length, map, replicate, take, get_or, option_map, refl, sym, ap, ◌∙◌, arith, if◌then◌else◌, nat_le, nat_lt}
+use Rattle.std.proofs.Common.{◌≡◌, inl, inr, ◌⊎◌, subst, ℕ, ◌+◌, ◌-◌, ◌<◌, ◌≤◌, ◌&&◌, ◌==◌, Bool, true, false, Option, None, Some, List, length, map, replicate, take, get_or, option_map, refl, sym}
+use Rattle.std.proofs.Common.{ap, ◌∙◌, arith, if◌then◌else◌, nat_le, nat_lt}
 use Rattle.std.specs.List.{list_any}
 use Rattle.std.specs.Str.{bytes_eq}
 use Rattle.std.proofs.lemmas.Slice.Eq.{bytes_eq-Decides}
 use Rattle.std.proofs.lemmas.Bool.{cases_eq, cases_lt, eq-eqb, eqb-true, false_from_ne_true, leb-false, leb-true, ltb-false, ltb-true}
 use Rattle.std.proofs.lemmas.List.{get_or-set_other, get_or-set_same, get_or_past}
 use Rattle.std.proofs.lemmas.List.Elements.{All-get_or}
-use Rattle.hp_model.specs.declared.cell.Cell.{Cell}
-use Rattle.hp_model.specs.declared.cell.Cell.TheVariants.{Hole}
-use Rattle.hp_model.specs.declared.event.SlotEvent.{SlotEvent}
+use Rattle.hp_laws.proofs.Variants.{Cell, Gone, Hole, Place, SlotEvent}
 use Rattle.hp_model.specs.declared.event.SlotEvent.TheVariants as slot
-use Rattle.hp_model.specs.declared.place.Place.{Place}
-use Rattle.hp_model.specs.declared.place.Place.TheVariants.{Gone}
-use Rattle.hp_model.specs.files.File.{File, Mount, cell_punched, cells_to, new_file, with_file}
-use Rattle.hp_model.specs.files.GiveBack.{punched, truncated, unlinked}
-use Rattle.hp_model.specs.Lists.{edit_range, found}
-use Rattle.hp_model.specs.files.Mapping.{Map, is_map, map_punched, no_map, place_at, without_copy}
-use Rattle.hp_model.specs.files.Page.{Copy, Page, zeros}
-use Rattle.hp_model.specs.machine.Promises.{file_in, is_in, map_in, means_file, shape_of}
-use Rattle.hp_model.specs.machine.SlotEvent.{file_named, has_name}
-use Rattle.hp_model.specs.machine.Sound.{IsSoundFile, IsSoundMap, IsSoundMount}
-use Rattle.hp_model.specs.files.Spot.{Spot, spot, spot_in}
-use Rattle.hp_model.specs.files.Value.{shown, value}
+use Rattle.hp_model.proofs.Words.{Copy, File, IsSoundFile, IsSoundMap, IsSoundMount, Map, Mount, Page, Spot, cell_punched, cells_to, edit_range, file_in, file_named, found, has_name, is_in, is_map}
+use Rattle.hp_model.proofs.Words.{map_in, map_punched, means_file, new_file, no_map, place_at, punched, shape_of, shown, spot, spot_in, truncated, unlinked, value, with_file, without_copy, zeros}
 use Rattle.hp_model.proofs.Editing.{get_or-edit_below, get_or-edit_in, get_or-edit_past, length-edit_range}
 use Rattle.hp_laws.proofs.names.Accessed.{file_put, get_mapped, key_map, pages_same}
 use Rattle.hp_laws.proofs.names.ByPlace.{PlaceKeeps}

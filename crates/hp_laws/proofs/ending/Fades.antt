@@ -1,26 +1,13 @@
 -- What a script keeps whose events on slots only end maps of one task: a fork's, or an exit's.
-use Rattle.std.proofs.Common.{false, ◌≡◌, inl, inr, subst, ℕ, ◌<◌, ◌≤◌, ◌==◌, None, Some, Ok, Err, List, [], ◌∷◌, ◌++◌, length, refl, sym, ap, ◌∙◌, arith}
-use Rattle.std.specs.List.{range_with_len, slice_index_or, slice_set}
+use Rattle.std.proofs.Common.{false, ◌≡◌, inl, inr, subst, ℕ, ◌<◌, ◌≤◌, ◌==◌, None, Some, Ok, Err, List, [], ◌∷◌, ◌++◌, length, refl, sym, ap, ◌∙◌, arith, slice_index_or, slice_set}
+use Rattle.std.specs.List.{range_with_len}
 use Rattle.std.proofs.lemmas.Bool.{cases_eq, ltb-true}
 use Rattle.std.proofs.lemmas.List.{get_or-set_other, get_or-set_same}
-use Rattle.hp_model.specs.declared.answer.Answer.TheVariants.{Done}
-use Rattle.hp_model.specs.declared.event.Event.{Event}
-use Rattle.hp_model.specs.declared.event.Event.TheVariants.{Tasks, Slot as OnSlot}
-use Rattle.hp_model.specs.declared.event.SlotEvent.{SlotEvent}
+use Rattle.hp_laws.proofs.Variants.{Done, Event, Exit, Fork, Refusal, Slot as OnSlot, SlotEvent, Tasks}
 use Rattle.hp_model.specs.declared.event.SlotEvent.TheVariants as slot
-use Rattle.hp_model.specs.declared.refusal.Refusal.{Refusal}
-use Rattle.hp_model.specs.declared.step.Step.TheVariants.{Exit, Fork}
-use Rattle.hp_model.specs.machine.Event.{IsEvent, has_maps_of}
-use Rattle.hp_model.specs.files.File.{Mount}
-use Rattle.hp_model.specs.files.Fork.{file_forked, forked}
-use Rattle.hp_model.specs.files.GiveBack.{file_without, without_task}
-use Rattle.hp_model.specs.machine.Kept.{KeepsFiles}
-use Rattle.hp_model.specs.machine.Plan.{Choice, Outcome, Refused, Answered, Reply, Slot, gives, slot_usage}
-use Rattle.hp_model.specs.machine.Promises.{SameFiles, SameLimits, spot_on}
-use Rattle.hp_model.specs.machine.SlotEvent.{fork_tests, slot_event}
-use Rattle.hp_model.specs.files.Spot.{Spot}
-use Rattle.hp_model.specs.machine.State.{State, slot_at}
-use Rattle.hp_model.specs.machine.Step.{Answer_with, Do, IsScripted, IsScript, Script, Where_mapped, exit_slots, fork_slots, or_undone, script, undone, when_done}
+use Rattle.hp_model.proofs.Words.{Answer_with, Answered, Choice, Do, IsEvent, IsScript, IsScripted, KeepsFiles, Mount, Outcome, Refused, Reply, SameFiles, SameLimits, Script, Slot, Spot, State}
+use Rattle.hp_model.proofs.Words.{Where_mapped, exit_slots, file_forked, file_without, fork_slots, fork_tests, forked, gives, has_maps_of, or_undone, script, slot_at, slot_event, slot_usage, spot_on}
+use Rattle.hp_model.proofs.Words.{undone, when_done, without_task}
 use Rattle.hp_laws.specs.Balance.{Always, left_by}
 use Rattle.hp_laws.proofs.names.Changes.{KeptMap, SlotKeeps}
 use Rattle.hp_laws.proofs.counts.Falls.{forked_falls, without_falls}

@@ -1,35 +1,22 @@
 -- What a step ends is gone: after an umount there is no mount, after an unlink no file of the name, and after an exit no map of the task on any slot.
 use Rattle.std.proofs.lemmas.Grind.{common_steps}
-use Rattle.std.proofs.Common.{◌≡◌, ⊎_elim, subst, ℕ, ◌<◌, ◌==◌, ◌||◌, Bool, true, false, not, None, Some, Ok, Err, List, [], ◌∷◌, length, map, option_map, refl, sym, ap, ◌∙◌, arith}
-use Rattle.std.specs.List.{filter, list_any, range_with_len, slice_index_or, slice_set}
+use Rattle.std.proofs.Common.{◌≡◌, ⊎_elim, subst, ℕ, ◌<◌, ◌==◌, ◌||◌, Bool, true, false, not, None, Some, Ok, Err, List, [], ◌∷◌, length, map, option_map, refl, sym, ap, ◌∙◌, arith, filter}
+use Rattle.std.proofs.Common.{slice_index_or, slice_set}
+use Rattle.std.specs.List.{list_any, range_with_len}
 use Rattle.std.proofs.lemmas.Bool.{cases_eq, cases_lt, eq-eqb, eqb-true, false_from_ne_true, ltb-true}
 use Rattle.std.proofs.lemmas.List.{get_or-set_other, get_or-set_same, get_or_past}
 use Rattle.std.proofs.lemmas.List.Folds.{list_any_at}
 use Rattle.std.proofs.lemmas.List.FromFn.{get_or-range_with_len, length-range_with_len}
-use Rattle.hp_model.specs.declared.answer.Answer.TheVariants.{Done}
-use Rattle.hp_model.specs.declared.event.Event.{Event}
-use Rattle.hp_model.specs.declared.event.Event.TheVariants.{Slot as OnSlot}
+use Rattle.hp_laws.proofs.Variants.{Done, Event, Refusal, Slot as OnSlot, Step}
 use Rattle.hp_model.specs.declared.event.SlotEvent.TheVariants as slot
-use Rattle.hp_model.specs.declared.refusal.Refusal.{Refusal}
-use Rattle.hp_model.specs.declared.step.Step.{Step}
 use Rattle.hp_model.specs.declared.step.Step.TheVariants as step
-use Rattle.hp_model.specs.files.File.{File}
-use Rattle.hp_model.specs.files.GiveBack.{file_without, is_kept, without_task}
-use Rattle.hp_model.specs.files.Mapping.{Map, is_map, is_of}
-use Rattle.hp_model.specs.Lists.{is_among}
-use Rattle.hp_model.specs.machine.Event.{IsEvent, has_maps_of}
-use Rattle.hp_model.specs.machine.Gone.{IsGone}
-use Rattle.hp_model.specs.machine.Named.{spot_on}
-use Rattle.hp_model.specs.machine.Plan.{Answered, Choice, Outcome, Refused, Reply, Slot}
-use Rattle.hp_model.specs.machine.SlotEvent.{slot_event}
-use Rattle.hp_model.specs.machine.State.{State, slot_at}
-use Rattle.hp_model.specs.machine.Step.{Answer_with, IsScript, IsScripted, IsStep, exit_slots}
+use Rattle.hp_model.proofs.Words.{Answer_with, Answered, Choice, File, IsEvent, IsGone, IsScript, IsScripted, IsSettledState, IsStep, Map, Outcome, Refused, Reply, Slot, State, exit_slots}
+use Rattle.hp_model.proofs.Words.{file_without, has_maps_of, is_among, is_kept, is_map, is_of, slot_at, slot_event, spot_on, without_task}
 use Rattle.hp_laws.specs.Balance.{left_by}
 use Rattle.hp_laws.proofs.making.FilesMade.{any_in_files, spot_none}
 use Rattle.hp_laws.proofs.making.NewNumbers.{found_not}
 use Rattle.hp_laws.proofs.steps.Outcomes.{Always, event_ends, reply_of}
 use Rattle.hp_laws.proofs.ending.RefusedForks.{either_with, exit_becomes}
-use Rattle.hp_model.specs.machine.Settled.{IsSettledState}
 use Rattle.hp_laws.proofs.sections.PoolTied.{left_sound}
 use Rattle.hp_laws.proofs.ending.UnlinkEnds.{Nameless, unlink_ends}
 use Rattle.hp_laws.proofs.ending.UnmapEnds.{Ends, unmap_ends}

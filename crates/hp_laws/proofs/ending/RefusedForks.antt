@@ -1,36 +1,15 @@
 -- What a refused fork leaves: the slots are as they were, or without the child's old maps.
-use Rattle.std.proofs.Common.{arith}
-use Rattle.std.proofs.Common.{◌≡◌, ⊎_elim, inl, inr, ◌⊎◌, subst, ℕ, ◌||◌, ◌==◌, ◌&&◌, Bool, true, false, Option, None, Some}
-use Rattle.std.proofs.Common.{is_some, Ok, Err, List, [], ◌∷◌, ◌++◌, length, map, option_map, refl, sym, ap, ◌∙◌, if◌then◌else◌}
-use Rattle.std.specs.Bool.{MatchBool}
-use Rattle.hp_model.specs.declared.answer.Answer.{Answer}
-use Rattle.std.specs.List.{sum, find, range_with_len, slice_index_or, slice_set}
+use Rattle.std.proofs.Common.{arith, ◌≡◌, ⊎_elim, inl, inr, ◌⊎◌, subst, ℕ, ◌||◌, ◌==◌, ◌&&◌, Bool, true, false, Option, None, Some, is_some, Ok, Err, List, [], ◌∷◌, ◌++◌, length, map, option_map}
+use Rattle.std.proofs.Common.{refl, sym, ap, ◌∙◌, if◌then◌else◌, MatchBool, sum, find, slice_index_or, slice_set}
+use Rattle.hp_laws.proofs.Variants.{Answer, Done, Fork, GiveBack, NoSuchTask, Refusal, Slot as OnSlot, SlotEvent, TaskExists, Tasks, TooMany}
+use Rattle.std.specs.List.{range_with_len}
 use Rattle.std.proofs.lemmas.Bool.{cases_eq, cond_both, eq-eqb, eqb-true, false_from_ne_true, ltb-true, or_left, or_right}
 use Rattle.std.proofs.lemmas.List.{get_or-set_other, get_or-set_same}
-use Rattle.hp_model.specs.declared.answer.Answer.TheVariants.{Done}
-use Rattle.hp_model.specs.declared.event.Event.TheVariants.{Tasks, Slot as OnSlot}
-use Rattle.hp_model.specs.declared.event.SlotEvent.{SlotEvent}
 use Rattle.hp_model.specs.declared.event.SlotEvent.TheVariants as slot
 use Rattle.hp_model.specs.declared.event.TableEvent.TheVariants as table
-use Rattle.hp_model.specs.declared.refusal.Refusal.{Refusal}
-use Rattle.hp_model.specs.declared.refusal.Refusal.TheVariants.{NoSuchTask, TaskExists, TooMany}
-use Rattle.hp_model.specs.declared.step.Step.TheVariants.{Fork}
-use Rattle.hp_model.specs.machine.Event.{IsEvent, has_maps_of, planned, with_outcome, with_table}
-use Rattle.hp_model.specs.files.File.{Mount}
-use Rattle.hp_model.specs.files.Fork.{file_forked, forked}
-use Rattle.hp_model.specs.files.GiveBack.{file_without, swept, without_task}
-use Rattle.hp_model.specs.Lists.{is_among}
-use Rattle.hp_model.specs.machine.Machine.{pool_of, with_pool}
-use Rattle.hp_model.specs.machine.Plan.{Answered, Ask, Choice, Finish, Outcome, Plan, Refused, Reply, Slot, fall_of, gives, puts_of}
-use Rattle.hp_model.specs.pool.Pool.{section}
-use Rattle.hp_model.specs.declared.section.Section.TheVariants.{GiveBack}
-use Rattle.hp_model.specs.pool.PoolCounts.{Pool}
-use Rattle.hp_model.specs.machine.Promises.{IsForkLeft, LeavesOthers}
-use Rattle.hp_model.specs.machine.Settled.{IsSettledState}
-use Rattle.hp_model.specs.machine.SlotEvent.{slot_event}
-use Rattle.hp_model.specs.machine.State.{State, slot_at}
-use Rattle.hp_model.specs.machine.Step.{Answer_with, Do, IsScripted, IsScript, Script, fork_slots, or_undone, undone, when_done}
-use Rattle.hp_model.specs.machine.Table.{Table, added, home_of, is_crowded, is_known, or_refused, removed, when_known}
+use Rattle.hp_model.proofs.Words.{Answer_with, Answered, Ask, Choice, Do, Finish, IsEvent, IsForkLeft, IsScript, IsScripted, IsSettledState, LeavesOthers, Mount, Outcome, Plan, Pool, Refused, Reply}
+use Rattle.hp_model.proofs.Words.{Script, Slot, State, Table, added, fall_of, file_forked, file_without, fork_slots, forked, gives, has_maps_of, home_of, is_among, is_crowded, is_known, or_refused}
+use Rattle.hp_model.proofs.Words.{or_undone, planned, pool_of, puts_of, removed, section, slot_at, slot_event, swept, undone, when_done, when_known, with_outcome, with_pool, with_table, without_task}
 use Rattle.hp_model.proofs.Distinct.{is_among-append}
 use Rattle.hp_model.proofs.RowMoves.{puts_are}
 use Rattle.hp_laws.specs.Balance.{Always, left_by}

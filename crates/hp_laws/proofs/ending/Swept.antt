@@ -1,14 +1,10 @@
 -- Maps of a task go: once is as often, and a child's go with what its fork made.
 use Rattle.std.proofs.lemmas.Grind.{common_steps}
-use Rattle.std.proofs.Common.{◌≡◌, ℕ, Bool, true, false, not, Some, List, [], ◌∷◌, map, cond, refl, sym, ap, ◌∙◌, arith}
-use Rattle.std.specs.List.{filter, list_any}
+use Rattle.std.proofs.Common.{◌≡◌, ℕ, Bool, true, false, not, Some, List, [], ◌∷◌, map, cond, refl, sym, ap, ◌∙◌, arith, filter}
+use Rattle.std.specs.List.{list_any}
 use Rattle.std.proofs.lemmas.Bool.{eq-eqb, or_parts}
 use Rattle.std.proofs.lemmas.List.Elements.{filter-append}
-use Rattle.hp_model.specs.files.File.{File, Mount}
-use Rattle.hp_model.specs.machine.Event.{has_maps_of}
-use Rattle.hp_model.specs.files.Fork.{file_forked}
-use Rattle.hp_model.specs.files.GiveBack.{file_without, is_kept, swept, without_task}
-use Rattle.hp_model.specs.files.Mapping.{Map, is_of, map_for}
+use Rattle.hp_model.proofs.Words.{File, Map, Mount, file_forked, file_without, has_maps_of, is_kept, is_of, map_for, swept, without_task}
 use Rattle.hp_laws.proofs.names.Follows.{is_not_of}
 use Rattle.hp_laws.proofs.making.FilesMade.{any_in_files}
 

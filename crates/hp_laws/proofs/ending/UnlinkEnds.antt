@@ -1,15 +1,11 @@
 -- After an unlink its name means no file.
-use Rattle.std.proofs.Common.{◌≡◌, ℕ, ◌≤◌, false, None, Some, List, arith, ap}
-use Rattle.std.specs.List.{count_by, list_any}
+use Rattle.std.proofs.Common.{◌≡◌, ℕ, ◌≤◌, false, None, Some, List, arith, ap, count_by}
+use Rattle.std.specs.List.{list_any}
 use Rattle.std.proofs.lemmas.Bool.{false_from_ne_true}
 use Rattle.std.proofs.lemmas.List.Sums.{sum_by-set}
 use Rattle.hp_model.specs.declared.event.SlotEvent.TheVariants as slot
-use Rattle.hp_model.specs.files.File.{File, Mount, new_file, with_file}
-use Rattle.hp_model.specs.files.GiveBack.{is_kept, swept, unlinked}
-use Rattle.hp_model.specs.machine.Named.{named_on}
-use Rattle.hp_model.specs.machine.Plan.{Answered, Choice, Outcome, Refused, Slot}
-use Rattle.hp_model.specs.machine.SlotEvent.{file_named, has_name, slot_event}
-use Rattle.hp_model.specs.machine.Sound.{IsSound, IsSoundMount}
+use Rattle.hp_model.proofs.Words.{Answered, Choice, File, IsSound, IsSoundMount, Mount, Outcome, Refused, Slot, file_named, has_name, is_kept, named_on, new_file, slot_event, swept, unlinked}
+use Rattle.hp_model.proofs.Words.{with_file}
 use Rattle.hp_laws.specs.Balance.{Always}
 use Rattle.hp_laws.proofs.accesses.KeptPlaces.{any_there}
 use Rattle.hp_laws.proofs.making.NewNumbers.{found_not}

@@ -1,21 +1,13 @@
 -- An unmap of all that was left of a map ends its number.
-use Rattle.std.proofs.Common.{◌≡◌, map, option_map, ℕ, ◌+◌, ◌≤◌, Bool, true, false, ◌||◌, not, Option, None, Some, List, [], ◌∷◌, get_or}
-use Rattle.std.proofs.Common.{refl, sym, ap, ◌∙◌, arith, if◌then◌else◌}
-use Rattle.std.specs.List.{count_by, filter, list_any, sum_by}
+use Rattle.std.proofs.Common.{◌≡◌, map, option_map, ℕ, ◌+◌, ◌≤◌, Bool, true, false, ◌||◌, not, Option, None, Some, List, [], ◌∷◌, get_or, refl, sym, ap, ◌∙◌, arith, if◌then◌else◌, count_by, filter}
+use Rattle.std.proofs.Common.{sum_by}
+use Rattle.std.specs.List.{list_any}
 use Rattle.std.proofs.lemmas.Bool.{false_from_ne_true}
 use Rattle.std.proofs.lemmas.List.Sums.{get_or-le-sum_by, sum_by-cons}
-use Rattle.hp_model.specs.declared.answer.Answer.TheVariants.{Done}
+use Rattle.hp_laws.proofs.Variants.{Done, NoSuchMap, OutOfRange}
 use Rattle.hp_model.specs.declared.event.SlotEvent.TheVariants as slot
-use Rattle.hp_model.specs.declared.refusal.Refusal.TheVariants.{NoSuchMap, OutOfRange}
-use Rattle.hp_model.specs.files.File.{File, Mount, new_file}
-use Rattle.hp_model.specs.files.GiveBack.{file_unmapped, is_kept, is_left, map_unmapped, unmapped_from}
-use Rattle.hp_model.specs.files.Mapping.{Map, is_map, is_mapped, no_map, without_range}
-use Rattle.hp_model.specs.files.Spot.{Spot, spot}
-use Rattle.hp_model.specs.Lists.{found, one_on}
-use Rattle.hp_model.specs.machine.Named.{spot_on, stays_mapped}
-use Rattle.hp_model.specs.machine.Plan.{Answered, Choice, Outcome, Refused, Slot, gives}
-use Rattle.hp_model.specs.machine.SlotEvent.{is_bad_range, slot_event, unmap}
-use Rattle.hp_model.specs.machine.Sound.{IsSound, IsSoundMount}
+use Rattle.hp_model.proofs.Words.{Answered, Choice, File, IsSound, IsSoundMount, Map, Mount, Outcome, Refused, Slot, Spot, file_unmapped, found, gives, is_bad_range, is_kept, is_left, is_map}
+use Rattle.hp_model.proofs.Words.{is_mapped, map_unmapped, new_file, no_map, one_on, slot_event, spot, spot_on, stays_mapped, unmap, unmapped_from, without_range}
 use Rattle.hp_model.proofs.Counting.{count_cons}
 use Rattle.hp_laws.proofs.names.Follows.{some_file}
 use Rattle.hp_laws.proofs.accesses.KeptPlaces.{any_there}

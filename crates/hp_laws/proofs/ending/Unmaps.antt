@@ -1,19 +1,11 @@
 -- What names and numbers mean after a range of a map is unmapped, and where maps of a task go or are made for a child.
-use Rattle.std.proofs.Common.{arith}
+use Rattle.std.proofs.Common.{arith, ◌≡◌, inl, subst, ℕ, ◌&&◌, ◌==◌, Bool, true, false, not, Option, None, Some, List, [], ◌∷◌, map, refl, sym, ap, ◌∙◌, if◌then◌else◌}
 use Rattle.std.proofs.lemmas.Grind.{common_steps}
-use Rattle.std.proofs.Common.{◌≡◌, inl, subst, ℕ, ◌&&◌, ◌==◌, Bool, true, false, not, Option, None, Some, List, [], ◌∷◌, map, refl, sym, ap, ◌∙◌, if◌then◌else◌}
 use Rattle.std.proofs.lemmas.Bool.{and_parts, eq-eqb, eqb-false, eqb-true, false_from_ne_true, or_left, or_right}
-use Rattle.hp_model.specs.declared.event.SlotEvent.{SlotEvent}
+use Rattle.hp_laws.proofs.Variants.{Gone, SlotEvent}
 use Rattle.hp_model.specs.declared.event.SlotEvent.TheVariants as slot
-use Rattle.hp_model.specs.declared.place.Place.TheVariants.{Gone}
-use Rattle.hp_model.specs.files.File.{File, Mount, new_file}
-use Rattle.hp_model.specs.files.Fork.{file_forked, forked}
-use Rattle.hp_model.specs.files.GiveBack.{file_unmapped, file_without, is_left, map_unmapped, swept, unmapped_from, without_task}
-use Rattle.hp_model.specs.Lists.{found}
-use Rattle.hp_model.specs.files.Mapping.{Map, is_map, is_mapped, no_map, place_at, without_range}
-use Rattle.hp_model.specs.machine.Promises.{file_in, is_at, is_in, map_in, map_on, seen_on, shape_of, shown_on, stays_mapped}
-use Rattle.hp_model.specs.files.Spot.{Spot, spot}
-use Rattle.hp_model.specs.files.Value.{value}
+use Rattle.hp_model.proofs.Words.{File, Map, Mount, Spot, file_forked, file_in, file_unmapped, file_without, forked, found, is_at, is_in, is_left, is_map, is_mapped, map_in, map_on, map_unmapped}
+use Rattle.hp_model.proofs.Words.{new_file, no_map, place_at, seen_on, shape_of, shown_on, spot, stays_mapped, swept, unmapped_from, value, without_range, without_task}
 use Rattle.hp_laws.proofs.names.Accessed.{get_mapped, key_map}
 use Rattle.hp_laws.proofs.names.ByPlace.{PlaceKeeps, by_place}
 use Rattle.hp_laws.proofs.names.Changes.{LosesBy, SlotKeeps, ends_number, seen_by, stored_by}

@@ -1,27 +1,12 @@
 -- An unmap takes its range from the map that it names, and leaves the places of all other maps and the cells of all files.
-use Rattle.std.proofs.Common.{arith}
-use Rattle.std.proofs.Common.{◌≡◌, subst, ℕ, ◌<◌, ◌&&◌, ◌==◌, Bool, true, false, None, Some, Err, [], ◌∷◌, length, sym, ap, ◌∙◌, if◌then◌else◌}
-use Rattle.std.specs.List.{slice_set}
+use Rattle.std.proofs.Common.{arith, ◌≡◌, subst, ℕ, ◌<◌, ◌&&◌, ◌==◌, Bool, true, false, None, Some, Err, [], ◌∷◌, length, sym, ap, ◌∙◌, if◌then◌else◌, slice_set}
 use Rattle.std.proofs.lemmas.Bool.{and_parts, eq-eqb, eqb-true, ltb-true}
 use Rattle.std.proofs.lemmas.List.{get_or-set_same}
-use Rattle.hp_model.specs.declared.answer.Answer.TheVariants.{Done}
-use Rattle.hp_model.specs.declared.event.Event.{Event}
-use Rattle.hp_model.specs.declared.event.Event.TheVariants.{Slot as OnSlot}
+use Rattle.hp_laws.proofs.Variants.{Done, Event, Gone, NoSuchMap, OutOfRange, Refusal, Slot as OnSlot, Step}
 use Rattle.hp_model.specs.declared.event.SlotEvent.TheVariants as slot
-use Rattle.hp_model.specs.declared.place.Place.TheVariants.{Gone}
-use Rattle.hp_model.specs.declared.refusal.Refusal.{Refusal}
-use Rattle.hp_model.specs.declared.refusal.Refusal.TheVariants.{NoSuchMap, OutOfRange}
-use Rattle.hp_model.specs.declared.step.Step.{Step}
 use Rattle.hp_model.specs.declared.step.Step.TheVariants as step
-use Rattle.hp_model.specs.files.GiveBack.{unmapped_from}
-use Rattle.hp_model.specs.files.Mapping.{Map, is_map, place_at, without_range}
-use Rattle.hp_model.specs.files.Spot.{Spot, spot}
-use Rattle.hp_model.specs.machine.Event.{IsEvent}
-use Rattle.hp_model.specs.machine.Plan.{Answered, Choice, Outcome, Refused, Reply, Slot, gives}
-use Rattle.hp_model.specs.machine.Promises.{IsCutTo, Unmaps, is_in, spot_on}
-use Rattle.hp_model.specs.machine.SlotEvent.{is_bad_range, slot_event, unmap}
-use Rattle.hp_model.specs.machine.State.{State, slot_at}
-use Rattle.hp_model.specs.machine.Step.{IsStep}
+use Rattle.hp_model.proofs.Words.{Answered, Choice, IsCutTo, IsEvent, IsStep, Map, Outcome, Refused, Reply, Slot, Spot, State, Unmaps, gives, is_bad_range, is_in, is_map, place_at, slot_at}
+use Rattle.hp_model.proofs.Words.{slot_event, spot, spot_on, unmap, unmapped_from, without_range}
 use Rattle.hp_laws.specs.Balance.{left_by}
 use Rattle.hp_laws.proofs.names.Changes.{ends_number}
 use Rattle.hp_laws.proofs.ending.Cuts.{place_ranged}

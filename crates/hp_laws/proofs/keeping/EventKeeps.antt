@@ -1,49 +1,21 @@
 -- A step leaves on its own slot the places of maps and the cells of files as they were, but for what it reaches.
 use Rattle.std.proofs.lemmas.Grind.{common_steps}
-use Rattle.std.proofs.Common.{◌≡◌, ⊎_elim, inl, inr, ◌⊎◌, ℕ, ◌+◌, ◌-◌, ◌<◌, Bool, true, false, ◌&&◌, ◌==◌, not, replicate, ◌≤◌}
-use Rattle.std.proofs.Common.{Option, None, Some, is_some, Err, List, [], ◌∷◌, length, get_or, refl, sym, ap, ◌∙◌, subst, arith, if◌then◌else◌, nat_le, nat_lt}
-use Rattle.std.specs.List.{slice_set}
+use Rattle.std.proofs.Common.{◌≡◌, ⊎_elim, inl, inr, ◌⊎◌, ℕ, ◌+◌, ◌-◌, ◌<◌, Bool, true, false, ◌&&◌, ◌==◌, not, replicate, ◌≤◌, Option, None, Some, is_some, Err, List, [], ◌∷◌, length, get_or, refl}
+use Rattle.std.proofs.Common.{sym, ap, ◌∙◌, subst, arith, if◌then◌else◌, nat_le, nat_lt, slice_set}
 use Rattle.std.specs.Str.{bytes_eq}
 use Rattle.std.proofs.lemmas.Bool.{cases_eq, cases_lt, eqb-true, leb-false, leb-true, ltb-false, ltb-true}
 use Rattle.std.proofs.lemmas.List.{get_or-set_other, get_or-set_same, get_or-take, get_or_append_left, get_or_past, length-append, length-replicate, length-take}
 use Rattle.std.proofs.lemmas.List.Elements.{All-get_or}
-use Rattle.hp_model.specs.declared.answer.Answer.{Answer}
-use Rattle.hp_model.specs.declared.answer.Answer.TheVariants.{Done, MapNo}
-use Rattle.hp_model.specs.declared.cell.Cell.{Cell}
-use Rattle.hp_model.specs.declared.cell.Cell.TheVariants.{Hole}
-use Rattle.hp_model.specs.declared.event.Event.{Event}
-use Rattle.hp_model.specs.declared.event.Event.TheVariants.{Slot as OnSlot}
-use Rattle.hp_model.specs.declared.event.SlotEvent.{SlotEvent}
+use Rattle.hp_laws.proofs.Variants.{Answer, BeyondEnd, Cell, Done, Event, Hole, Intent, MapNo, MountFull, OutOfMemory, OutOfRange, Read, Refusal, Reserve, Reserving, Shared, Sharing, Slot as OnSlot}
+use Rattle.hp_laws.proofs.Variants.{SlotEvent, Step, Write}
 use Rattle.hp_model.specs.declared.event.SlotEvent.TheVariants as slot
-use Rattle.hp_model.specs.declared.refusal.Refusal.{Refusal}
-use Rattle.hp_model.specs.declared.refusal.Refusal.TheVariants.{BeyondEnd, OutOfMemory, OutOfRange, MountFull}
-use Rattle.hp_model.specs.declared.step.Intent.{Intent}
-use Rattle.hp_model.specs.declared.step.Intent.TheVariants.{Read, Write}
-use Rattle.hp_model.specs.declared.step.Reserving.{Reserving}
-use Rattle.hp_model.specs.declared.step.Sharing.{Sharing}
-use Rattle.hp_model.specs.declared.step.Step.{Step}
 use Rattle.hp_model.specs.declared.step.Step.TheVariants as step
-use Rattle.hp_model.specs.declared.step.Reserving.TheVariants.{Reserve}
-use Rattle.hp_model.specs.declared.step.Sharing.TheVariants.{Shared}
-use Rattle.hp_model.specs.files.Access.{access}
-use Rattle.hp_model.specs.files.File.{File, Mount, at_least, cell_at, cell_punched, entered, has_page, new_file, with_file}
-use Rattle.hp_model.specs.Lists.{edit_range}
-use Rattle.hp_model.specs.files.GiveBack.{file_unmapped, punched, swept, truncated, unlinked, unmapped_from, without_task}
-use Rattle.hp_model.specs.files.MakeMap.{asked, mapped, new_map, next_number, reserves, with_new}
-use Rattle.hp_model.specs.files.Mapping.{Map, copy_of, is_map, is_shared, is_unconsumed, map_punched, place_at, without_copy}
-use Rattle.hp_model.specs.files.Page.{Copy, Page}
-use Rattle.hp_model.specs.files.Spot.{Spot, again, spot, written}
-use Rattle.hp_model.specs.files.Value.{value}
-use Rattle.hp_model.specs.machine.Event.{IsEvent}
-use Rattle.hp_model.specs.machine.Kept.{ChangesCell, ChangesPlace, IsFilled, IsSpent, IsTaken, Keeps, KeepsCell, KeepsFiles, KeepsMap, KeepsOwn, Marks}
-use Rattle.hp_model.specs.machine.Plan.{Answered, Choice, Outcome, Refused, Reply, Slot, gives}
-use Rattle.hp_model.specs.machine.Promises.{IsLostTo, file_in, is_at, is_in, is_shared_of, map_in, map_on, means_file, no_map}
-use Rattle.hp_model.specs.machine.Settled.{IsSettledState}
-use Rattle.hp_model.specs.machine.SlotEvent.{byte_access, bytes_answer, fault, file_named, has_name, is_beyond, unentered}
-use Rattle.hp_model.specs.machine.SlotEvent.{is_unmapped, load, slot_event, store}
-use Rattle.hp_model.specs.machine.Sound.{IsSound, IsSoundMap, IsSoundFile, IsSoundMount}
-use Rattle.hp_model.specs.machine.State.{State, slot_at}
-use Rattle.hp_model.specs.machine.Step.{IsStep}
+use Rattle.hp_model.proofs.Words.{Answered, ChangesCell, ChangesPlace, Choice, Copy, File, IsEvent, IsFilled, IsLostTo, IsSettledState, IsSound, IsSoundFile, IsSoundMap, IsSoundMount, IsSpent, IsStep}
+use Rattle.hp_model.proofs.Words.{IsTaken, Keeps, KeepsCell, KeepsFiles, KeepsMap, KeepsOwn, Map, Marks, Mount, Outcome, Page, Refused, Reply, Slot, Spot, State, access, again, asked, at_least}
+use Rattle.hp_model.proofs.Words.{byte_access, bytes_answer, cell_at, cell_punched, copy_of, edit_range, entered, fault, file_in, file_named, file_unmapped, forked, gives, has_name, has_page, is_at}
+use Rattle.hp_model.proofs.Words.{is_beyond, is_full, is_in, is_map, is_shared, is_shared_of, is_unconsumed, is_unmapped, lacking, load, map_in, map_on, map_punched, mapped, means_file, new_file}
+use Rattle.hp_model.proofs.Words.{new_map, next_number, no_map, place_at, punched, range_filled, reserves, rise, rising_nodes, slot_at, slot_event, spot, store, swept, truncated, unentered, unlinked}
+use Rattle.hp_model.proofs.Words.{unmapped_from, value, with_file, with_new, without_copy, without_task, written}
 use Rattle.hp_model.proofs.Editing.{get_or-edit_in}
 use Rattle.hp_laws.specs.Balance.{left_by}
 use Rattle.hp_laws.proofs.names.ByPlace.{by_owner}
@@ -66,13 +38,10 @@ use Rattle.hp_laws.proofs.keeping.SlotKept.{always_both}
 use Rattle.hp_laws.proofs.sections.PoolTied.{left_sound}
 use Rattle.hp_laws.proofs.accesses.SlotShows.{always_gives, always_grant, always_mount, bytes_on, always_fill, always_remounting}
 use Rattle.hp_laws.proofs.steps.Whole.{by_event, is_whole, slot_step, step_of}
-use Rattle.hp_model.specs.files.Fill.{lacking, range_filled, rising_nodes}
 use Rattle.hp_laws.proofs.counts.Filled.{filled_index}
 use Rattle.hp_laws.proofs.lists.NodesOf.{length-nodes_of}
 use Rattle.std.proofs.lemmas.Bool.Decides.{nat_tests}
 use Rattle.hp_laws.proofs.steps.Walk.{Walks, remounting, tells_all, walk_all}
-use Rattle.hp_model.specs.pool.Grant.{is_full, rise}
-use Rattle.hp_model.specs.files.Fork.{forked}
 
 -- a slot that is sound afterwards keeps its maps and files
 abbrev KeepsTo : Slot → Step → Outcome → Type 0

@@ -1,10 +1,9 @@
 -- Where tasks have their homes after a change of the table.
-use Rattle.std.proofs.Common.{arith}
-use Rattle.std.proofs.Common.{◌≡◌, ℕ, ◌==◌, Bool, true, false, None, Some, Ok, [], ◌∷◌, refl, ◌∙◌, if◌then◌else◌}
+use Rattle.std.proofs.Common.{arith, ◌≡◌, ℕ, ◌==◌, Bool, true, false, None, Some, Ok, [], ◌∷◌, refl, ◌∙◌, if◌then◌else◌}
 use Rattle.std.proofs.lemmas.Bool.{eq-eqb, eqb-true, false_from_ne_true}
-use Rattle.hp_model.specs.declared.answer.Answer.{Answer}
+use Rattle.hp_laws.proofs.Variants.{Answer}
 use Rattle.hp_model.specs.declared.event.TableEvent.TheVariants as table
-use Rattle.hp_model.specs.machine.Table.{Table, added, home_of, is_known, removed, table_event}
+use Rattle.hp_model.proofs.Words.{Table, added, home_of, is_known, removed, table_event}
 
 pub home_added : (table : Table) (new home task : ℕ) → is_known table new ≡ false → home_of (added table new home) task ≡ (if new == task then Some home else home_of table task)
 home_added [] new home task e = grind arith

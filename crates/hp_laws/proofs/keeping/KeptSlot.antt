@@ -1,24 +1,10 @@
 -- What each event keeps on its slot: the places of maps, and the cells of files.
-use Rattle.std.proofs.Common.{arith}
-use Rattle.std.proofs.Common.{◌≡◌, ⊎_elim, inl, inr, ◌⊎◌, map, ℕ, ◌<◌, Bool, true, false, ◌&&◌, ◌==◌}
-use Rattle.std.proofs.Common.{Option, None, Some, List, [], ◌∷◌, length, refl, sym, ap, ◌∙◌, subst}
-use Rattle.std.specs.List.{slice_index_or}
+use Rattle.std.proofs.Common.{arith, ◌≡◌, ⊎_elim, inl, inr, ◌⊎◌, map, ℕ, ◌<◌, Bool, true, false, ◌&&◌, ◌==◌, Option, None, Some, List, [], ◌∷◌, length, refl, sym, ap, ◌∙◌, subst, slice_index_or}
 use Rattle.std.proofs.lemmas.Bool.{cases_eq, eq-eqb}
 use Rattle.std.proofs.lemmas.List.{get_or-set_same, get_or-set_other, get_or_append_left}
-use Rattle.hp_model.specs.declared.cell.Cell.{Cell}
-use Rattle.hp_model.specs.declared.cell.Cell.TheVariants.{Hole}
-use Rattle.hp_model.specs.declared.place.Place.{Place}
-use Rattle.hp_model.specs.declared.step.Step.{Step}
-use Rattle.hp_model.specs.files.File.{File, Mount, cell_at, new_file, with_file}
-use Rattle.hp_model.specs.files.GiveBack.{swept}
-use Rattle.hp_model.specs.files.MakeMap.{with_new}
-use Rattle.hp_model.specs.files.Mapping.{Map, is_map, place_at, without_copy}
-use Rattle.hp_model.specs.files.Page.{Copy, Page}
-use Rattle.hp_model.specs.files.Spot.{Spot, spot}
-use Rattle.hp_model.specs.machine.Kept.{ChangesCell, ChangesPlace, Keeps, KeepsMap, unlinks}
-use Rattle.hp_model.specs.machine.Plan.{Slot}
-use Rattle.hp_model.specs.machine.Promises.{file_in, map_in, means_file, named_on, no_map, spot_on}
-use Rattle.hp_model.specs.machine.SlotEvent.{file_named, has_name}
+use Rattle.hp_laws.proofs.Variants.{Cell, Hole, Place, Step}
+use Rattle.hp_model.proofs.Words.{ChangesCell, ChangesPlace, Copy, File, Keeps, KeepsMap, Map, Mount, Page, Slot, Spot, cell_at, file_in, file_named, has_name, is_map, map_in, means_file, named_on}
+use Rattle.hp_model.proofs.Words.{new_file, no_map, place_at, spot, spot_on, swept, unlinks, with_file, with_new, without_copy}
 use Rattle.hp_laws.proofs.names.Accessed.{get_mapped}
 use Rattle.hp_laws.proofs.names.Follows.{sweep_follows}
 use Rattle.hp_laws.proofs.names.Keys.{Where, places}

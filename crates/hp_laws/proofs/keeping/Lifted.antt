@@ -1,22 +1,10 @@
 -- From events of a slot to steps: what each event keeps of its slot, each step keeps of all slots but those that it unmounts or remounts.
-use Rattle.std.proofs.Common.{arith}
+use Rattle.std.proofs.Common.{arith, ◌≡◌, ℕ, ◌<◌, Bool, true, false, None, Some, Ok, [], length, sym, ap, slice_set}
 use Rattle.std.proofs.lemmas.Grind.{common_steps}
-use Rattle.std.proofs.Common.{◌≡◌, ℕ, ◌<◌, Bool, true, false, None, Some, Ok, [], length, sym, ap}
-use Rattle.std.specs.List.{slice_set}
 use Rattle.std.proofs.lemmas.Bool.{ltb-true}
-use Rattle.hp_model.specs.declared.answer.Answer.{Answer}
-use Rattle.hp_model.specs.declared.event.Event.{Event}
-use Rattle.hp_model.specs.declared.event.Event.TheVariants.{Tasks, Slot as OnSlot, Pool as OnPool}
-use Rattle.hp_model.specs.declared.event.SlotEvent.{SlotEvent}
+use Rattle.hp_laws.proofs.Variants.{Answer, Event, Pool as OnPool, Slot as OnSlot, SlotEvent, Step, Tasks}
 use Rattle.hp_model.specs.declared.event.SlotEvent.TheVariants as slot
-use Rattle.hp_model.specs.declared.step.Step.{Step}
-use Rattle.hp_model.specs.files.File.{Mount}
-use Rattle.hp_model.specs.machine.Event.{IsEvent}
-use Rattle.hp_model.specs.machine.Plan.{Choice, Outcome, Refused, Answered, Plan, Slot, Reply}
-use Rattle.hp_model.specs.machine.Promises.{is_relimited}
-use Rattle.hp_model.specs.machine.SlotEvent.{slot_event}
-use Rattle.hp_model.specs.machine.State.{State, slot_at}
-use Rattle.hp_model.specs.machine.Step.{IsStep}
+use Rattle.hp_model.proofs.Words.{Answered, Choice, IsEvent, IsStep, Mount, Outcome, Plan, Refused, Reply, Slot, State, is_relimited, slot_at, slot_event}
 use Rattle.hp_laws.specs.Balance.{left_by}
 use Rattle.hp_laws.proofs.ending.Fades.{Fades, exit_fade, fork_fade}
 use Rattle.hp_laws.proofs.steps.Outcomes.{Always, event_ends, reply_of}

@@ -1,33 +1,13 @@
 -- What names and numbers mean after a step: what an event keeps of its slot its step keeps of all slots.
-use Rattle.std.proofs.Common.{arith}
+use Rattle.std.proofs.Common.{arith, ◌≡◌, inl, inr, subst, ℕ, ◌<◌, Bool, true, false, ◌==◌, None, Some, Ok, Err, List, length, refl, sym, ap, ◌∙◌, slice_index_or, slice_set}
 use Rattle.std.proofs.lemmas.Grind.{common_steps}
-use Rattle.std.proofs.Common.{◌≡◌, inl, inr, subst, ℕ, ◌<◌, Bool, true, false, ◌==◌, None, Some, Ok, Err, List, length, refl, sym, ap, ◌∙◌}
-use Rattle.std.specs.List.{slice_index_or, slice_set}
 use Rattle.std.proofs.lemmas.Bool.{cases_eq, eqb-true, false_from_ne_true, ltb-true}
 use Rattle.std.proofs.lemmas.List.{get_or-set_other, get_or-set_same}
-use Rattle.hp_model.specs.declared.answer.Answer.{Answer}
-use Rattle.hp_model.specs.declared.event.Event.{Event}
-use Rattle.hp_model.specs.declared.event.Event.TheVariants.{Tasks, Slot as OnSlot, Pool as OnPool}
-use Rattle.hp_model.specs.declared.event.PoolEvent.{PoolEvent}
-use Rattle.hp_model.specs.declared.event.SlotEvent.{SlotEvent}
+use Rattle.hp_laws.proofs.Variants.{Answer, Event, Exit, Fork, Pool as OnPool, PoolEvent, Refusal, Slot as OnSlot, SlotEvent, Step, TableEvent, Tasks}
 use Rattle.hp_model.specs.declared.event.SlotEvent.TheVariants as slot
-use Rattle.hp_model.specs.declared.event.TableEvent.{TableEvent}
 use Rattle.hp_model.specs.declared.event.TableEvent.TheVariants as table
-use Rattle.hp_model.specs.declared.refusal.Refusal.{Refusal}
-use Rattle.hp_model.specs.declared.step.Step.{Step}
-use Rattle.hp_model.specs.declared.step.Step.TheVariants.{Exit, Fork}
-use Rattle.hp_model.specs.machine.Event.{IsEvent}
-use Rattle.hp_model.specs.files.File.{File, cell_at}
-use Rattle.hp_model.specs.machine.Plan.{Choice, Outcome, Refused, Answered, Reply, Slot}
-use Rattle.hp_model.specs.machine.Promises.{IsKeptMap, SameFiles, StillMapped, StillNamed, is_ended_name, is_ended_number}
-use Rattle.hp_model.specs.machine.Promises.{map_named, named_on, seen_over, spot_on, stored_over}
-use Rattle.hp_model.specs.machine.Settled.{IsSettledState}
-use Rattle.hp_model.specs.machine.SlotEvent.{slot_event}
-use Rattle.hp_model.specs.machine.Sound.{IsSound}
-use Rattle.hp_model.specs.files.Spot.{Spot}
-use Rattle.hp_model.specs.machine.State.{State, slot_at}
-use Rattle.hp_model.specs.machine.Step.{IsScripted, IsStep}
-use Rattle.hp_model.specs.files.Value.{shown, value}
+use Rattle.hp_model.proofs.Words.{Answered, Choice, File, IsEvent, IsKeptMap, IsScripted, IsSettledState, IsSound, IsStep, Outcome, Refused, Reply, SameFiles, Slot, Spot, State, StillMapped}
+use Rattle.hp_model.proofs.Words.{StillNamed, cell_at, is_ended_name, is_ended_number, map_named, named_on, seen_over, shown, slot_at, slot_event, spot_on, stored_over, value}
 use Rattle.hp_laws.specs.Balance.{left_by}
 use Rattle.hp_laws.proofs.names.Changes.{KeepsSlot, KeptMap, SlotKeeps, ends_name, ends_number, stored_by}
 use Rattle.hp_laws.proofs.ending.Fades.{AllFade, exit_fade, exit_refused, fork_fade}

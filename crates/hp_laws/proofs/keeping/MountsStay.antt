@@ -1,18 +1,7 @@
 -- A mount stays until its umount, and its limits until its umount or a remount.
-use Rattle.std.proofs.Common.{arith}
-use Rattle.std.proofs.Common.{◌≡◌, ℕ, false, None, Some, length, refl}
-use Rattle.hp_model.specs.declared.answer.Answer.TheVariants.{Done}
-use Rattle.hp_model.specs.declared.event.SlotEvent.{SlotEvent}
-use Rattle.hp_model.specs.declared.step.Intent.TheVariants.{Read, Write}
-use Rattle.hp_model.specs.declared.step.Step.{Step}
-use Rattle.hp_model.specs.files.Access.{access}
-use Rattle.hp_model.specs.files.File.{Mount}
-use Rattle.hp_model.specs.machine.Plan.{Choice, Answered, Slot, Reply}
-use Rattle.hp_model.specs.machine.Promises.{is_relimited, SameLimits}
-use Rattle.hp_model.specs.machine.SlotEvent.{byte_access, fault_tests, on_mount, slot_event}
-use Rattle.hp_model.specs.files.Spot.{written}
-use Rattle.hp_model.specs.machine.State.{State}
-use Rattle.hp_model.specs.machine.Step.{IsStep}
+use Rattle.std.proofs.Common.{arith, ◌≡◌, ℕ, false, None, Some, length, refl}
+use Rattle.hp_laws.proofs.Variants.{Done, Read, SlotEvent, Step, Write}
+use Rattle.hp_model.proofs.Words.{Answered, Choice, IsStep, Mount, Reply, SameLimits, Slot, State, access, byte_access, fault_tests, is_relimited, on_mount, slot_event, written}
 use Rattle.hp_laws.proofs.names.Accessed.{access_on, bytes_on}
 use Rattle.hp_laws.proofs.keeping.Lifted.{EndsBy, KeepsBut, ends_on, ends_open, ends_unless, relimits, step_by}
 use Rattle.hp_laws.proofs.steps.Outcomes.{Always, always_then, always_weaker}

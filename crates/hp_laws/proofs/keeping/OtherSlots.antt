@@ -1,18 +1,8 @@
 -- A step leaves every slot that it is not on as it was.
-use Rattle.std.proofs.Common.{arith}
-use Rattle.std.proofs.Common.{◌≡◌, ℕ, true, false, None, List, refl, sym, ap, ◌∙◌}
-use Rattle.std.specs.List.{slice_index_or}
+use Rattle.std.proofs.Common.{arith, ◌≡◌, ℕ, true, false, None, List, refl, sym, ap, ◌∙◌, slice_index_or}
 use Rattle.std.proofs.lemmas.List.{get_or-set_other}
-use Rattle.hp_model.specs.declared.event.Event.{Event}
-use Rattle.hp_model.specs.declared.event.Event.TheVariants.{Tasks, Slot as OnSlot, Pool as OnPool}
-use Rattle.hp_model.specs.declared.event.SlotEvent.{SlotEvent}
-use Rattle.hp_model.specs.declared.step.Step.{Step}
-use Rattle.hp_model.specs.machine.Event.{IsEvent}
-use Rattle.hp_model.specs.machine.Kept.{is_on}
-use Rattle.hp_model.specs.machine.Plan.{Plan, Reply, Slot}
-use Rattle.hp_model.specs.machine.SlotEvent.{slot_event}
-use Rattle.hp_model.specs.machine.State.{State, slot_at}
-use Rattle.hp_model.specs.machine.Step.{IsStep}
+use Rattle.hp_laws.proofs.Variants.{Event, Pool as OnPool, Slot as OnSlot, SlotEvent, Step, Tasks}
+use Rattle.hp_model.proofs.Words.{IsEvent, IsStep, Plan, Reply, Slot, State, is_on, slot_at, slot_event}
 use Rattle.hp_laws.specs.Balance.{left_by}
 use Rattle.hp_laws.proofs.steps.Outcomes.{Always, event_ends}
 use Rattle.hp_laws.proofs.steps.Whole.{by_event, is_whole, slot_step, step_of}

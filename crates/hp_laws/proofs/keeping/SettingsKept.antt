@@ -1,35 +1,16 @@
 -- What steps make of the tasks, of nr and of overcommit; and steps that only read leave all slots.
-use Rattle.std.proofs.Common.{arith}
+use Rattle.std.proofs.Common.{arith, ◌≡◌, subst, ℕ, ◌==◌, Bool, true, false, None, Option, Some, Ok, Err, List, [], ◌∷◌, ◌++◌, length, nat_le, refl, sym, ap, ◌∙◌, if◌then◌else◌}
 use Rattle.std.proofs.lemmas.Grind.{common_steps}
-use Rattle.std.proofs.Common.{◌≡◌, subst, ℕ, ◌==◌, Bool, true, false, None, Option, Some, Ok, Err, List, [], ◌∷◌, ◌++◌, length, nat_le, refl, sym, ap, ◌∙◌, if◌then◌else◌}
 use Rattle.std.specs.List.{range_with_len}
-use Rattle.hp_model.specs.declared.answer.Answer.{Answer}
-use Rattle.hp_model.specs.declared.answer.Answer.TheVariants.{Done}
-use Rattle.hp_model.specs.declared.event.Event.{Event}
-use Rattle.hp_model.specs.declared.event.Event.TheVariants.{Tasks, Slot as OnSlot, Pool as OnPool}
+use Rattle.hp_laws.proofs.Variants.{Answer, Done, Event, NoSuchNode, NoSuchTask, OutOfRange, Pool as OnPool, PoolAnswer, Refusal, Section, Slot as OnSlot, SlotEvent, Step, TaskExists, Tasks, TooMany}
 use Rattle.hp_model.specs.declared.event.PoolEvent.TheVariants as pool
-use Rattle.hp_model.specs.declared.event.SlotEvent.{SlotEvent}
 use Rattle.hp_model.specs.declared.event.SlotEvent.TheVariants as slot
 use Rattle.hp_model.specs.declared.event.TableEvent.TheVariants as table
-use Rattle.hp_model.specs.declared.refusal.Refusal.{Refusal}
-use Rattle.hp_model.specs.declared.refusal.Refusal.TheVariants.{NoSuchNode, NoSuchTask, OutOfRange, TaskExists, TooMany}
-use Rattle.hp_model.specs.declared.section.PoolAnswer.{PoolAnswer}
-use Rattle.hp_model.specs.declared.section.Section.{Section}
-use Rattle.hp_model.specs.declared.step.Step.{Step}
 use Rattle.hp_model.specs.declared.step.Step.TheVariants as step
-use Rattle.hp_model.specs.machine.Event.{IsEvent, has_maps_of, with_pool_reply, with_table}
-use Rattle.hp_model.specs.machine.Machine.{pool_of}
-use Rattle.hp_model.specs.machine.Plan.{Plan, Reply}
-use Rattle.hp_model.specs.machine.Settings.{IsSet, TellsNr, home_after, nr_after, only_reads, overcommit_after}
-use Rattle.hp_model.specs.machine.Settled.{IsSettledState}
-use Rattle.hp_model.specs.Profile.{most_overcommit}
-use Rattle.hp_model.specs.machine.SlotEvent.{slot_event}
+use Rattle.hp_model.proofs.Words.{Answer_with, IsEvent, IsScript, IsScripted, IsSet, IsSettledState, IsStep, Plan, Pool, Reply, State, TellsNr, added, exit_slots, fork_slots, has_maps_of, home_after}
+use Rattle.hp_model.proofs.Words.{home_of, is_crowded, is_known, most_overcommit, nr_after, only_reads, or_refused, or_undone, overcommit_after, pool_of, section, slot_at, slot_event, undone}
+use Rattle.hp_model.proofs.Words.{when_done, when_known, with_pool_reply, with_table}
 use Rattle.hp_laws.proofs.ending.Fades.{exit_refused}
-use Rattle.hp_model.specs.machine.State.{State, slot_at}
-use Rattle.hp_model.specs.machine.Step.{Answer_with, IsScript, IsScripted, IsStep, exit_slots, fork_slots, or_undone, undone, when_done}
-use Rattle.hp_model.specs.machine.Table.{added, home_of, is_crowded, is_known, or_refused, when_known}
-use Rattle.hp_model.specs.pool.Pool.{section}
-use Rattle.hp_model.specs.pool.PoolCounts.{Pool}
 use Rattle.hp_laws.proofs.steps.Outcomes.{either_way}
 use Rattle.hp_model.proofs.RowMoves.{puts_are}
 use Rattle.hp_laws.proofs.ending.RefusedForks.{Gives, SameSetting, event_setting, fork_refused}

@@ -1,25 +1,10 @@
 -- Each event that is answered keeps what names and numbers mean on its slot.
-use Rattle.std.proofs.Common.{arith}
-use Rattle.std.proofs.Common.{◌≡◌, ⊎_elim, inl, inr, subst, ℕ, ◌+◌, true, None, Some, List, [], ◌∷◌, length, refl, sym, nat_le, ◌<◌, Option}
-use Rattle.hp_model.specs.declared.answer.Answer.TheVariants.{Done, MapNo}
-use Rattle.hp_model.specs.declared.event.SlotEvent.{SlotEvent}
+use Rattle.std.proofs.Common.{arith, ◌≡◌, ⊎_elim, inl, inr, subst, ℕ, ◌+◌, true, None, Some, List, [], ◌∷◌, length, refl, sym, nat_le, ◌<◌, Option}
+use Rattle.hp_laws.proofs.Variants.{Done, Intent, MapNo, MountFull, OutOfMemory, Read, Refusal, SlotEvent, Write}
 use Rattle.hp_model.specs.declared.event.SlotEvent.TheVariants as slot
-use Rattle.hp_model.specs.declared.refusal.Refusal.{Refusal}
-use Rattle.hp_model.specs.declared.refusal.Refusal.TheVariants.{OutOfMemory, MountFull}
-use Rattle.hp_model.specs.declared.step.Intent.{Intent}
-use Rattle.hp_model.specs.declared.step.Intent.TheVariants.{Read, Write}
-use Rattle.hp_model.specs.files.Access.{access}
-use Rattle.hp_model.specs.files.File.{File, Mount, new_file, with_file}
-use Rattle.hp_model.specs.files.Fork.{forked}
-use Rattle.hp_model.specs.files.GiveBack.{punched, swept, truncated, unlinked, unmapped_from, without_task}
-use Rattle.hp_model.specs.files.MakeMap.{asked, mapped, next_number, with_new}
-use Rattle.hp_model.specs.files.Mapping.{is_map, map_punched}
-use Rattle.hp_model.specs.machine.Plan.{Choice, Outcome, Refused, Answered, Plan, Slot, gives}
-use Rattle.hp_model.specs.machine.Promises.{is_in, map_on, spot_on}
-use Rattle.hp_model.specs.machine.SlotEvent.{fault, load, store}
-use Rattle.hp_model.specs.machine.SlotEvent.{slot_event, unentered, has_name}
-use Rattle.hp_model.specs.machine.Sound.{IsSound, IsSoundMount}
-use Rattle.hp_model.specs.files.Spot.{Spot, spot}
+use Rattle.hp_model.proofs.Words.{Answered, Choice, File, IsSound, IsSoundMount, Mount, Outcome, Plan, Refused, Slot, Spot, access, asked, fault, forked, gives, has_name, is_full, is_in, is_map}
+use Rattle.hp_model.proofs.Words.{lacking, load, map_on, map_punched, mapped, new_file, next_number, punched, range_filled, rise, rising_nodes, slot_event, spot, spot_on, store, swept, truncated}
+use Rattle.hp_model.proofs.Words.{unentered, unlinked, unmapped_from, with_file, with_new, without_task}
 use Rattle.hp_laws.proofs.names.ByPlace.{PlaceKeeps, by_place}
 use Rattle.hp_laws.proofs.names.Changes.{KeepsSlot, LosesBy, SlotKeeps, seen_by, stored_by}
 use Rattle.hp_laws.proofs.ending.Cuts.{cut_keeps, punch_cut, truncate_cut, unlink_keeps}
@@ -36,8 +21,6 @@ use Rattle.hp_laws.proofs.accesses.SlotShows.{anon_quiet, filled_quiet, load_at,
 use Rattle.hp_laws.proofs.steps.Walk.{Walks, remounting, tells_all, walk_all}
 use Rattle.hp_laws.proofs.accesses.StoredFiles.{ready}
 use Rattle.hp_laws.proofs.ending.Unmaps.{exit_keeps, fork_keeps, same_keeps, unmap_keeps}
-use Rattle.hp_model.specs.files.Fill.{lacking, rising_nodes, range_filled}
-use Rattle.hp_model.specs.pool.Grant.{is_full, rise}
 
 -- both of what holds whatever the pool answers
 pub always_both : (P Q R : Outcome → Type 0) → ((o : Outcome) → P o → Q o → R o) → (p : Plan) → Always P p → Always Q p → Always R p

@@ -1,14 +1,7 @@
 -- An exit and a fork leave every map of other tasks as it was.
-use Rattle.std.proofs.Common.{arith}
-use Rattle.std.proofs.Common.{◌≡◌, ℕ, true}
-use Rattle.hp_model.specs.declared.event.Event.{Event}
-use Rattle.hp_model.specs.declared.refusal.Refusal.{Refusal}
-use Rattle.hp_model.specs.declared.step.Step.{Step}
-use Rattle.hp_model.specs.machine.Event.{IsEvent}
-use Rattle.hp_model.specs.machine.Plan.{Reply}
-use Rattle.hp_model.specs.machine.Promises.{AreWhole, LeavesWhole}
-use Rattle.hp_model.specs.machine.State.{State}
-use Rattle.hp_model.specs.machine.Step.{IsStep}
+use Rattle.std.proofs.Common.{arith, ◌≡◌, ℕ, true}
+use Rattle.hp_laws.proofs.Variants.{Event, Refusal, Step}
+use Rattle.hp_model.proofs.Words.{AreWhole, IsEvent, IsStep, LeavesWhole, Reply, State}
 use Rattle.hp_laws.proofs.ending.Fades.{AllFade, exit_fade, fork_fade}
 use Rattle.hp_laws.proofs.steps.Whole.{by_event, is_whole, step_of}
 

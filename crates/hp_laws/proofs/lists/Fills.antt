@@ -1,19 +1,14 @@
 -- Cells whose indices of a range get pages, each the lowest without one.
-use Rattle.std.proofs.Common.{◌≡◌, ⊎_elim, inl, inr, ◌⊎◌, ℕ, zero, suc, ◌+◌, ◌-◌, ◌<◌, ◌≤◌, Bool, true, false, not, ◌==◌}
-use Rattle.std.proofs.Common.{List, [], ◌∷◌, length, take, drop, refl, sym, ap, ◌∙◌, cond, arith, subst}
-use Rattle.std.specs.List.{All, count_by, position_or_len, slice_set}
+use Rattle.std.proofs.Common.{◌≡◌, ⊎_elim, inl, inr, ◌⊎◌, ℕ, zero, suc, ◌+◌, ◌-◌, ◌<◌, ◌≤◌, Bool, true, false, not, ◌==◌, List, [], ◌∷◌, length, take, drop, refl, sym, ap, ◌∙◌, cond, arith, subst}
+use Rattle.std.proofs.Common.{All, count_by, slice_set}
+use Rattle.std.specs.List.{position_or_len}
 use Rattle.std.proofs.lemmas.Bool.{cases_eq, not-true}
 use Rattle.std.proofs.lemmas.List.{drop-set-add, get_or-drop, get_or-set_other, get_or-set_same, get_or-take, length-drop, length-set, length-take}
 use Rattle.std.proofs.lemmas.List.Elements.{All-head, All-tail}
 use Rattle.std.proofs.lemmas.List.Sums.{passes_at_first, sum_by-set}
 use Rattle.std.proofs.Math.Seq.{take-set-lt}
-use Rattle.hp_model.specs.declared.cell.Cell.{Cell}
-use Rattle.hp_model.specs.declared.cell.Cell.TheVariants.{Hole, Present}
-use Rattle.hp_model.specs.files.File.{cell_in, has_page, is_entered, is_hole}
-use Rattle.hp_model.specs.files.Fill.{cells_filled, lacks_page, next_bare}
-use Rattle.hp_model.specs.files.MountCounts.{is_page_at, is_waiting}
-use Rattle.hp_model.specs.files.Page.{Page}
-use Rattle.hp_model.specs.Lists.{part}
+use Rattle.hp_laws.proofs.Variants.{Cell, Hole, Present}
+use Rattle.hp_model.proofs.Words.{Page, cell_in, cells_filled, has_page, is_entered, is_hole, is_page_at, is_waiting, lacks_page, next_bare, part}
 use Rattle.hp_model.proofs.Counting.{count_cons}
 use Rattle.hp_laws.proofs.lists.AtMostOne.{bit, some_counted}
 

@@ -3,9 +3,8 @@ use Rattle.std.proofs.lemmas.Grind.{common_steps}
 use Rattle.std.proofs.Common.{◌≡◌, ℕ, ◌-◌, ◌≤◌, List, ◌++◌, length, map, replicate, take, arith}
 use Rattle.std.proofs.lemmas.List.{length-map, take_all, take-replicate}
 use Rattle.std.proofs.Math.Seq.{take-append-add}
-use Rattle.hp_model.specs.declared.answer.NodeCount.{NodeCount}
-use Rattle.hp_model.specs.pool.PoolCounts.{Pool}
-use Rattle.hp_model.specs.pool.Resize.{no_count, node_count, node_counts}
+use Rattle.hp_laws.proofs.Variants.{NodeCount}
+use Rattle.hp_model.proofs.Words.{Pool, no_count, node_count, node_counts}
 
 pub padded : (p : Pool) (rows : List NodeCount) (n : ℕ) → length p.nodes.rows ≤ 4 → n ≡ length p.nodes.rows
     → rows ≡ map node_count (take n p.nodes.rows) ++ replicate (4 - n) no_count → rows ≡ node_counts p

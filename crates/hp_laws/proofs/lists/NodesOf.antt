@@ -1,12 +1,11 @@
 -- The nodes of pages of which there are so many at each node.
 use Rattle.std.proofs.lemmas.Grind.{common_steps}
-use Rattle.std.proofs.Common.{◌≡◌, ℕ, zero, suc, ◌+◌, ◌<◌, Bool, true, false, ◌==◌, List, [], ◌∷◌, ◌++◌, length, replicate, refl, cond, arith}
-use Rattle.std.specs.List.{sum, slice_index_or, count_by}
+use Rattle.std.proofs.Common.{◌≡◌, ℕ, zero, suc, ◌+◌, ◌<◌, Bool, true, false, ◌==◌, List, [], ◌∷◌, ◌++◌, length, replicate, refl, cond, arith, sum, slice_index_or, count_by}
 use Rattle.std.proofs.lemmas.Bool.{eq-eqb, ne_eqb}
 use Rattle.std.proofs.lemmas.List.{length-append, length-replicate, length-take}
 use Rattle.std.proofs.lemmas.List.Sums.{sum_by-append, sum_by-cons}
 use Rattle.std.proofs.Math.Seq.{take-append_seam}
-use Rattle.hp_model.specs.files.Fill.{nodes_from, rising_nodes}
+use Rattle.hp_model.proofs.Words.{nodes_from, rising_nodes}
 use Rattle.hp_model.proofs.Counting.{count_cons}
 use Rattle.hp_laws.proofs.lists.AtMostOne.{bit}
 

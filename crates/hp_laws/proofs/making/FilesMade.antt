@@ -1,47 +1,28 @@
 -- A created file and a new map are what their reply says.
 use Rattle.std.proofs.lemmas.Grind.{common_steps}
-use Rattle.std.proofs.Common.{◌≡◌, subst, ℕ, ◌<◌, ◌||◌, Bool, true, false, not, None, Option, Some, Err, List, nat_le, nat_lt, ◌≤◌, max, ◌==◌, ⊎_elim, arith, ◌-◌}
-use Rattle.std.proofs.Common.{[], ◌∷◌, ◌++◌, length, drop, is_some, option_map, refl, sym, ap, ◌∙◌, get_or, if◌then◌else◌}
-use Rattle.std.specs.List.{flat_map, list_any, slice_set}
+use Rattle.std.proofs.Common.{◌≡◌, subst, ℕ, ◌<◌, ◌||◌, Bool, true, false, not, None, Option, Some, Err, List, nat_le, nat_lt, ◌≤◌, max, ◌==◌, ⊎_elim, arith, ◌-◌, [], ◌∷◌, ◌++◌, length, drop, is_some}
+use Rattle.std.proofs.Common.{option_map, refl, sym, ap, ◌∙◌, get_or, if◌then◌else◌, flat_map, slice_set}
+use Rattle.std.specs.List.{list_any}
 use Rattle.std.proofs.lemmas.Bool.{eq-eqb, eqb-true, false_from_ne_true, ltb-true, and_parts, cases_lt, leb-false, leb-true, or_parts}
 use Rattle.std.proofs.lemmas.List.{get_or_past}
 use Rattle.std.proofs.lemmas.Slice.Eq.{bytes_eq-Decides}
 use Rattle.std.proofs.lemmas.List.Folds.{list_any_at}
-use Rattle.hp_model.specs.declared.answer.Answer.TheVariants.{Done, MapNo}
-use Rattle.hp_model.specs.declared.refusal.Refusal.{Refusal}
-use Rattle.hp_model.specs.declared.refusal.Refusal.TheVariants.{BadName, FileExists, NoSuchFile, MountFull, OutOfMemory, OutOfRange}
-use Rattle.hp_model.specs.declared.step.Reserving.{Reserving}
-use Rattle.hp_model.specs.declared.step.Sharing.{Sharing}
-use Rattle.hp_model.specs.declared.step.Step.{Step}
-use Rattle.hp_model.specs.declared.step.Step.TheVariants.{Anon as AnonStep, Create as CreateStep, Map as MapStep, Preallocate}
-use Rattle.hp_model.specs.declared.event.Event.{Event}
-use Rattle.hp_model.specs.declared.event.Event.TheVariants.{Slot as OnSlot}
-use Rattle.hp_model.specs.files.File.{File, Mount, maps_of, new_file, with_file, at_least, has_page}
-use Rattle.hp_model.specs.Lists.{found, one_on}
-use Rattle.hp_model.specs.files.MakeMap.{asked, mapped, new_map, next_number, numbers_of, with_new}
-use Rattle.hp_model.specs.files.Mapping.{Map, is_map}
-use Rattle.hp_model.specs.machine.Plan.{Choice, Outcome, Refused, Answered, Finish, Plan, Reply, Slot, grant, unless}
-use Rattle.hp_model.specs.machine.Promises.{IsNewAnon, IsNewFile, IsNewMap, Makes, HasPages, named_on, pages_of_file}
-use Rattle.hp_model.specs.machine.State.{State, slot_at}
-use Rattle.hp_model.specs.machine.Step.{IsStep}
-use Rattle.hp_model.specs.machine.Event.{IsEvent}
+use Rattle.hp_laws.proofs.Variants.{Anon as AnonStep, BadName, Create as CreateStep, Done, Event, FileExists, Hole, Map as MapStep, MapNo, MountFull, NoSuchFile, OutOfMemory, OutOfRange, Preallocate}
+use Rattle.hp_laws.proofs.Variants.{Refusal, Reserving, Sharing, Slot as OnSlot, Step}
+use Rattle.hp_model.proofs.Words.{Answered, Choice, File, Finish, HasPages, IsEvent, IsNewAnon, IsNewFile, IsNewMap, IsStep, Makes, Map, Mount, Outcome, Plan, Refused, Reply, Slot, Spot, State}
+use Rattle.hp_model.proofs.Words.{anon_tests, asked, at_least, create_tests, file_named, fill, found, grant, has_name, has_page, is_bad_range, is_full, is_map, is_name, lacking, map_file, map_tests}
+use Rattle.hp_model.proofs.Words.{mapped, maps_of, most_file_pages, named_on, new_file, new_map, next_number, numbers_of, one_on, pages_of_file, preallocate, preallocate_tests, range_filled, rise}
+use Rattle.hp_model.proofs.Words.{rising_nodes, slot_at, slot_event, spot, spot_in, unentered, unless, with_file, with_new}
 use Rattle.hp_laws.specs.Balance.{left_by}
-use Rattle.hp_model.specs.machine.SlotEvent.{anon_tests, create_tests, file_named, has_name, is_name, map_file, map_tests}
-use Rattle.hp_model.specs.machine.SlotEvent.{slot_event, fill, is_bad_range, preallocate, preallocate_tests, unentered}
 use Rattle.hp_model.specs.declared.event.SlotEvent.TheVariants as slot
-use Rattle.hp_model.specs.files.Spot.{Spot, spot, spot_in}
 use Rattle.hp_laws.proofs.making.NewNumbers.{found_again, found_last, found_not, found_put, least_is_unused, number_used}
 use Rattle.hp_laws.proofs.steps.Outcomes.{Always, always_if, always_test, event_ends, reply_of}
 use Rattle.hp_laws.proofs.lists.Places.{found_place}
 use Rattle.hp_laws.proofs.accesses.SlotShows.{always_grant, always_unless, always_value, always_fill}
 use Rattle.hp_laws.proofs.steps.Whole.{by_event, is_whole, step_of}
-use Rattle.hp_model.specs.declared.cell.Cell.TheVariants.{Hole}
 use Rattle.hp_laws.proofs.lists.Fills.{all_there}
-use Rattle.hp_model.specs.files.Fill.{lacking, range_filled, rising_nodes}
 use Rattle.hp_laws.proofs.counts.Filled.{filled_there, length-filled, length-longer, same_longer}
-use Rattle.hp_model.specs.pool.Grant.{is_full, rise}
 use Rattle.hp_laws.proofs.lists.NodesOf.{length-nodes_of}
-use Rattle.hp_model.specs.Profile.{most_file_pages}
 
 -- ---- a map's number is not used before
 

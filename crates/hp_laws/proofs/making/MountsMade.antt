@@ -1,30 +1,13 @@
 -- A mount that is answered has the limits that its options mean at this nr, and no files; a remount that is done, those limits and its files.
-use Rattle.std.proofs.Common.{arith}
+use Rattle.std.proofs.Common.{arith, ◌≡◌, subst, ℕ, ◌<◌, Bool, true, None, Some, Err, Result as ResultOf, List, length, refl, sym, if◌then◌else◌, ap, ◌∙◌, ◌==◌, slice_index_or, slice_set}
 use Rattle.std.proofs.lemmas.Grind.{common_steps}
-use Rattle.std.proofs.Common.{◌≡◌, subst, ℕ, ◌<◌, Bool, true, None, Some, Err, Result as ResultOf, List, length, refl, sym, if◌then◌else◌, ap, ◌∙◌, ◌==◌}
-use Rattle.std.specs.List.{slice_index_or, slice_set}
 use Rattle.std.proofs.lemmas.Bool.{ltb-true}
 use Rattle.std.proofs.lemmas.List.{get_or-set_same}
-use Rattle.hp_model.specs.declared.event.Event.{Event}
-use Rattle.hp_model.specs.declared.event.Event.TheVariants.{Slot as OnSlot}
+use Rattle.hp_laws.proofs.Variants.{Event, Limits, PoolAnswer, Refusal, Slot as OnSlot, SlotTaken, Step}
 use Rattle.hp_model.specs.declared.event.SlotEvent.TheVariants as slot
-use Rattle.hp_model.specs.declared.limits.Limits.{Limits}
-use Rattle.hp_model.specs.declared.refusal.Refusal.{Refusal}
-use Rattle.hp_model.specs.declared.refusal.Refusal.TheVariants.{SlotTaken}
-use Rattle.hp_model.specs.declared.section.PoolAnswer.{PoolAnswer}
-use Rattle.hp_model.specs.declared.step.Step.{Step}
 use Rattle.hp_model.specs.declared.step.Step.TheVariants as step
-use Rattle.hp_model.specs.files.File.{Mount}
-use Rattle.hp_model.specs.files.Options.{limits, wanted_of}
-use Rattle.hp_model.specs.machine.Event.{IsEvent, planned, with_outcome}
-use Rattle.hp_model.specs.machine.Machine.{pool_of, with_pool}
-use Rattle.hp_model.specs.machine.Plan.{Answered, Choice, Outcome, Refused, Reply, Slot}
-use Rattle.hp_model.specs.machine.Settings.{IsMountedWith, IsRemountedWith, Mounts}
-use Rattle.hp_model.specs.machine.SlotEvent.{mount_outcome, mount_pages, mount_section, remount_outcome, slot_event}
-use Rattle.hp_model.specs.machine.State.{State, slot_at}
-use Rattle.hp_model.specs.machine.Step.{IsStep}
-use Rattle.hp_model.specs.pool.Pool.{section}
-use Rattle.hp_model.specs.pool.PoolCounts.{Pool}
+use Rattle.hp_model.proofs.Words.{Answered, Choice, IsEvent, IsMountedWith, IsRemountedWith, IsStep, Mount, Mounts, Outcome, Pool, Refused, Reply, Slot, State, limits, mount_outcome, mount_pages}
+use Rattle.hp_model.proofs.Words.{mount_section, planned, pool_of, remount_outcome, section, slot_at, slot_event, wanted_of, with_outcome, with_pool}
 use Rattle.hp_laws.specs.Balance.{left_by}
 use Rattle.hp_laws.proofs.steps.Outcomes.{reply_of}
 use Rattle.hp_laws.proofs.making.Remounts.{remount_ends, remount_left, remount_told}

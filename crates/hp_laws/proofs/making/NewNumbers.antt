@@ -1,11 +1,9 @@
 -- The number of a new map is one that its task doesn't use, and where such a map is found.
-use Rattle.std.proofs.Common.{◌≡◌, ⊎_elim, inl, inr, ◌⊎◌, subst, ℕ, zero, suc, ◌+◌, ◌<◌, ◌≤◌, ◌||◌, ◌==◌, Bool, true}
-use Rattle.std.proofs.Common.{false, None, Option, Some, List, [], ◌∷◌, ◌++◌, length, option_map, add-one, not, refl, ap, arith, if◌then◌else◌}
-use Rattle.std.specs.List.{list_any, position_or_len, range_with_len, slice_set}
+use Rattle.std.proofs.Common.{◌≡◌, ⊎_elim, inl, inr, ◌⊎◌, subst, ℕ, zero, suc, ◌+◌, ◌<◌, ◌≤◌, ◌||◌, ◌==◌, Bool, true, false, None, Option, Some, List, [], ◌∷◌, ◌++◌, length, option_map, add-one, not}
+use Rattle.std.proofs.Common.{refl, ap, arith, if◌then◌else◌, slice_set}
+use Rattle.std.specs.List.{list_any, position_or_len, range_with_len}
 use Rattle.std.proofs.lemmas.Bool.{eqb-true, false_from_ne_true, or_cases}
-use Rattle.hp_model.specs.Lists.{distinct, found, is_among, least_unused, one_on}
-use Rattle.hp_model.specs.files.MakeMap.{numbers_of}
-use Rattle.hp_model.specs.files.Mapping.{Map, is_map}
+use Rattle.hp_model.proofs.Words.{Map, distinct, found, is_among, is_map, least_unused, numbers_of, one_on}
 use Rattle.hp_laws.proofs.counts.CopiesHeld.{fewer_members}
 
 -- ---- the least unused number

@@ -1,32 +1,17 @@
 -- No name and no number is new on a slot but what its event makes, and no file is left that nobody has.
 use Rattle.std.proofs.lemmas.Grind.{common_steps}
-use Rattle.std.proofs.Common.{◌≡◌, ⊎_elim, ℕ, zero, suc, ◌&&◌, ◌||◌, ◌==◌, Bool, true, false, not, None}
-use Rattle.std.proofs.Common.{Some, List, [], ◌∷◌, ◌++◌, length, map, option_map, is_some, nat_lt, refl, sym, ap, ◌∙◌, arith}
-use Rattle.std.specs.List.{filter, list_all, list_any, slice_set}
+use Rattle.std.proofs.Common.{◌≡◌, ⊎_elim, ℕ, zero, suc, ◌&&◌, ◌||◌, ◌==◌, Bool, true, false, not, None, Some, List, [], ◌∷◌, ◌++◌, length, map, option_map, is_some, nat_lt, refl, sym, ap, ◌∙◌, arith}
+use Rattle.std.proofs.Common.{filter, slice_set}
+use Rattle.std.specs.List.{list_all, list_any}
 use Rattle.std.specs.Str.{bytes_eq}
 use Rattle.std.proofs.lemmas.Bool.{and_parts, cond_both, or_cases, or_right}
 use Rattle.std.proofs.lemmas.List.{length-map}
 use Rattle.std.proofs.lemmas.List.Folds.{list_any_at}
-use Rattle.hp_model.specs.declared.answer.Answer.{Answer}
-use Rattle.hp_model.specs.declared.answer.Answer.TheVariants.{Done, MapNo}
-use Rattle.hp_model.specs.declared.cell.Cell.{Cell}
-use Rattle.hp_model.specs.declared.event.SlotEvent.{SlotEvent}
+use Rattle.hp_laws.proofs.Variants.{Answer, Cell, Done, Limits, MapNo, MountFull, OutOfMemory, SlotEvent}
 use Rattle.hp_model.specs.declared.event.SlotEvent.TheVariants as slot
-use Rattle.hp_model.specs.declared.limits.Limits.{Limits}
-use Rattle.hp_model.specs.declared.refusal.Refusal.TheVariants.{OutOfMemory, MountFull}
-use Rattle.hp_model.specs.files.File.{File, Mount, new_file, with_file}
-use Rattle.hp_model.specs.files.Fill.{lacking, range_filled, rising_nodes}
-use Rattle.hp_model.specs.files.Fork.{file_forked}
-use Rattle.hp_model.specs.files.GiveBack.{file_unmapped, file_without, is_kept, punched, swept, truncated, unlinked, without_task}
-use Rattle.hp_model.specs.files.MakeMap.{asked, mapped, new_map, next_number, with_new}
-use Rattle.hp_model.specs.files.Mapping.{Map, is_map, is_of, map_for}
-use Rattle.hp_model.specs.files.Page.{Page}
-use Rattle.hp_model.specs.machine.Held.{are_held}
-use Rattle.hp_model.specs.machine.Named.{named_on, spot_on}
-use Rattle.hp_model.specs.machine.Plan.{Answered, Choice, Outcome, Refused, Slot, gives}
-use Rattle.hp_model.specs.machine.Promises.{shape_of}
-use Rattle.hp_model.specs.machine.SlotEvent.{bytes_answer, edited, has_name, unentered, fault, load, store}
-use Rattle.hp_model.specs.machine.SlotEvent.{slot_event}
+use Rattle.hp_model.proofs.Words.{Answered, Choice, File, Map, Mount, Outcome, Page, Refused, Slot, are_held, asked, bytes_answer, edited, fault, file_forked, file_unmapped, file_without, gives}
+use Rattle.hp_model.proofs.Words.{has_name, is_full, is_kept, is_map, is_of, lacking, load, map_for, mapped, named_on, new_file, new_map, next_number, punched, range_filled, rise, rising_nodes}
+use Rattle.hp_model.proofs.Words.{shape_of, slot_event, spot_on, store, swept, truncated, unentered, unlinked, with_file, with_new, without_task}
 use Rattle.hp_laws.specs.Balance.{Always}
 use Rattle.hp_laws.proofs.accesses.Shown.{On}
 use Rattle.hp_laws.proofs.accesses.SlotShows.{always_gives, always_grant, always_mount, always_fill, always_remounting}
@@ -39,7 +24,6 @@ use Rattle.hp_laws.proofs.names.Keys.{FileKey, any_mapped, file_key, has_key, is
 use Rattle.hp_laws.proofs.names.Meanings.{fault_stays, load_stays, store_stays}
 use Rattle.hp_laws.proofs.steps.Walk.{Walks, walk_all}
 use Rattle.hp_laws.proofs.steps.Outcomes.{always_weaker}
-use Rattle.hp_model.specs.pool.Grant.{is_full, rise}
 
 -- ---- files of a slot
 

@@ -1,25 +1,10 @@
 -- What a remount of an open slot answers and leaves, at the pool that stands.
-use Rattle.std.proofs.Common.{arith}
+use Rattle.std.proofs.Common.{arith, ◌≡◌, subst, ℕ, ◌-◌, ◌==◌, false, Some, Result as ResultOf, Ok, List, sym, if◌then◌else◌, slice_set}
 use Rattle.std.proofs.lemmas.Grind.{common_steps}
-use Rattle.std.proofs.Common.{◌≡◌, subst, ℕ, ◌-◌, ◌==◌, false, Some, Result as ResultOf, Ok, List, sym, if◌then◌else◌}
-use Rattle.std.specs.List.{slice_set}
-use Rattle.hp_model.specs.declared.event.Event.TheVariants.{Slot as OnSlot}
+use Rattle.hp_laws.proofs.Variants.{Limits, PoolAnswer, Refusal, Slot as OnSlot, SlotTaken}
 use Rattle.hp_model.specs.declared.event.SlotEvent.TheVariants as slot
-use Rattle.hp_model.specs.declared.limits.Limits.{Limits}
-use Rattle.hp_model.specs.declared.refusal.Refusal.{Refusal}
-use Rattle.hp_model.specs.declared.refusal.Refusal.TheVariants.{SlotTaken}
-use Rattle.hp_model.specs.declared.section.PoolAnswer.{PoolAnswer}
-use Rattle.hp_model.specs.files.File.{Mount}
-use Rattle.hp_model.specs.files.MountCounts.{committed_of}
-use Rattle.hp_model.specs.files.Options.{limits, wanted_of}
-use Rattle.hp_model.specs.machine.Event.{IsEvent, planned, with_outcome}
-use Rattle.hp_model.specs.machine.Machine.{pool_of, with_pool}
-use Rattle.hp_model.specs.machine.Plan.{Outcome, Refused, Reply}
-use Rattle.hp_model.specs.machine.SlotEvent.{committed_with, remount_outcome, remount_section}
-use Rattle.hp_model.specs.machine.State.{State, slot_at}
-use Rattle.hp_model.specs.pool.Grant.{can_grant}
-use Rattle.hp_model.specs.pool.Pool.{section}
-use Rattle.hp_model.specs.pool.PoolCounts.{Pool}
+use Rattle.hp_model.proofs.Words.{IsEvent, Mount, Outcome, Pool, Refused, Reply, State, can_grant, committed_of, committed_with, limits, planned, pool_of, remount_outcome, remount_section, section}
+use Rattle.hp_model.proofs.Words.{slot_at, wanted_of, with_outcome, with_pool}
 use Rattle.hp_laws.specs.Balance.{left_by}
 use Rattle.hp_laws.proofs.steps.Outcomes.{reply_of}
 use Rattle.hp_laws.proofs.steps.SlotsBalanced.{remount_tells}

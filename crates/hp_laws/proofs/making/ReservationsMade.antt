@@ -1,38 +1,13 @@
 -- A map that is answered has its range: its file is long enough, and each index of a map that reserves is reserved to it.
 use Rattle.std.proofs.lemmas.Grind.{common_steps}
-use Rattle.std.proofs.Common.{◌≡◌, subst, ℕ, ◌+◌, ◌-◌, ◌<◌, ◌≤◌, true, false, None, Option, Some, Ok, Err, List}
-use Rattle.std.proofs.Common.{length, max, replicate, sym, arith}
-use Rattle.std.specs.List.{slice_set}
+use Rattle.std.proofs.Common.{◌≡◌, subst, ℕ, ◌+◌, ◌-◌, ◌<◌, ◌≤◌, true, false, None, Option, Some, Ok, Err, List, length, max, replicate, sym, arith, slice_set}
 use Rattle.std.proofs.lemmas.Bool.{and_parts, leb-true, ltb-true}
 use Rattle.std.proofs.lemmas.List.{length-append, length-replicate}
-use Rattle.hp_model.specs.declared.answer.Answer.TheVariants.{MapNo}
-use Rattle.hp_model.specs.declared.cell.Cell.{Cell}
-use Rattle.hp_model.specs.declared.cell.Cell.TheVariants.{Hole}
-use Rattle.hp_model.specs.declared.event.Event.{Event}
-use Rattle.hp_model.specs.declared.event.Event.TheVariants.{Slot as OnSlot}
+use Rattle.hp_laws.proofs.Variants.{Anon as AnonStep, Cell, Event, Hole, Live, Map as MapStep, MapNo, NoSuchFile, Place, Refusal, Reserve, Reserving, Shared, Sharing, Slot as OnSlot, Step}
 use Rattle.hp_model.specs.declared.event.SlotEvent.TheVariants as slot
-use Rattle.hp_model.specs.declared.place.Place.{Place}
-use Rattle.hp_model.specs.declared.place.Place.TheVariants.{Live}
-use Rattle.hp_model.specs.declared.refusal.Refusal.{Refusal}
-use Rattle.hp_model.specs.declared.refusal.Refusal.TheVariants.{NoSuchFile}
-use Rattle.hp_model.specs.declared.step.Reserving.{Reserving}
-use Rattle.hp_model.specs.declared.step.Reserving.TheVariants.{Reserve}
-use Rattle.hp_model.specs.declared.step.Sharing.{Sharing}
-use Rattle.hp_model.specs.declared.step.Sharing.TheVariants.{Shared}
-use Rattle.hp_model.specs.declared.step.Step.{Step}
-use Rattle.hp_model.specs.declared.step.Step.TheVariants.{Anon as AnonStep, Map as MapStep}
-use Rattle.hp_model.specs.files.File.{File, at_least, entered, is_entered, new_file, with_file}
-use Rattle.hp_model.specs.files.MakeMap.{asked, cells_mapped, mapped, new_map, next_number, reserves}
-use Rattle.hp_model.specs.files.Mapping.{place_at}
-use Rattle.hp_model.specs.files.Page.{Copy, Page}
-use Rattle.hp_model.specs.files.Reserved.{is_reserved}
-use Rattle.hp_model.specs.files.Spot.{Spot}
-use Rattle.hp_model.specs.machine.Event.{IsEvent}
-use Rattle.hp_model.specs.machine.Plan.{Choice, Outcome, Refused, Answered, Reply, Slot, grant}
-use Rattle.hp_model.specs.machine.Promises.{HasRange, IsNewAnon, IsNewMap, IsRange, Makes, Ranges, is_in, named_on, pages_of_file, spot_on}
-use Rattle.hp_model.specs.machine.SlotEvent.{file_named, has_name, map_file, map_tests, slot_event}
-use Rattle.hp_model.specs.machine.State.{State, slot_at}
-use Rattle.hp_model.specs.machine.Step.{IsStep}
+use Rattle.hp_model.proofs.Words.{Answered, Choice, Copy, File, HasRange, IsEvent, IsNewAnon, IsNewMap, IsRange, IsStep, Makes, Outcome, Page, Ranges, Refused, Reply, Slot, Spot, State, asked}
+use Rattle.hp_model.proofs.Words.{at_least, cells_mapped, entered, file_named, grant, has_name, is_entered, is_in, is_reserved, map_file, map_tests, mapped, named_on, new_file, new_map, next_number}
+use Rattle.hp_model.proofs.Words.{pages_of_file, place_at, reserves, slot_at, slot_event, spot_on, with_file}
 use Rattle.hp_model.proofs.Editing.{get_or-edit_in}
 use Rattle.hp_laws.specs.Balance.{left_by}
 use Rattle.hp_laws.proofs.making.FilesMade.{step_makes}

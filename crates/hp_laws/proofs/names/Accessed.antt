@@ -1,21 +1,10 @@
 -- What an access leaves: the mount as it was, or with its file in another form that has the same name and maps of the same numbers.
 use Rattle.std.proofs.lemmas.Grind.{common_steps}
-use Rattle.std.proofs.Common.{◌≡◌, ℕ, ◌<◌, Bool, map, suc, zero, arith, get_or, List, [], ◌∷◌, length, refl, sym, ap, ◌∙◌}
-use Rattle.std.specs.List.{slice_index_or, slice_set}
+use Rattle.std.proofs.Common.{◌≡◌, ℕ, ◌<◌, Bool, map, suc, zero, arith, get_or, List, [], ◌∷◌, length, refl, sym, ap, ◌∙◌, slice_index_or, slice_set}
 use Rattle.std.proofs.lemmas.List.{length-set}
-use Rattle.hp_model.specs.declared.cell.Cell.{Cell}
-use Rattle.hp_model.specs.declared.place.Place.{Place}
-use Rattle.hp_model.specs.declared.step.Intent.{Intent}
-use Rattle.hp_model.specs.files.Access.{access, new_copy, private_access, shared_access, uncopied_access}
-use Rattle.hp_model.specs.files.CopyWrite.{copy_write, robbed}
-use Rattle.hp_model.specs.files.File.{File, Mount, with_file, with_map}
-use Rattle.hp_model.specs.Lists.{edit_at}
-use Rattle.hp_model.specs.files.Mapping.{Map}
-use Rattle.hp_model.specs.files.Page.{Copy, Page}
-use Rattle.hp_model.specs.machine.Plan.{Choice}
-use Rattle.hp_model.specs.machine.Promises.{shape_of}
-use Rattle.hp_model.specs.machine.SlotEvent.{byte_access}
-use Rattle.hp_model.specs.files.Spot.{Spot, copied}
+use Rattle.hp_laws.proofs.Variants.{Cell, Intent, Place}
+use Rattle.hp_model.proofs.Words.{Choice, Copy, File, Map, Mount, Page, Spot, access, byte_access, copied, copy_write, edit_at, new_copy, private_access, robbed, shape_of, shared_access}
+use Rattle.hp_model.proofs.Words.{uncopied_access, with_file, with_map}
 use Rattle.hp_laws.proofs.counts.FileMoves.{IsMapAt}
 use Rattle.hp_laws.proofs.names.Keys.{file_key, keys}
 use Rattle.hp_laws.proofs.counts.MountMoves.{IsSpot}

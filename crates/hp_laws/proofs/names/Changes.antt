@@ -1,16 +1,10 @@
 -- What an event that is answered makes of what its slot shows, by names and numbers.
 use Rattle.std.proofs.Common.{◌≡◌, ◌⊎◌, ℕ, ◌&&◌, ◌==◌, Bool, true, false, not, Some, List, if◌then◌else◌, nat_le}
 use Rattle.std.specs.Str.{bytes_eq}
-use Rattle.hp_model.specs.declared.event.SlotEvent.{SlotEvent}
+use Rattle.hp_laws.proofs.Variants.{SlotEvent, Write}
 use Rattle.hp_model.specs.declared.event.SlotEvent.TheVariants as slot
-use Rattle.hp_model.specs.declared.step.Intent.TheVariants.{Write}
-use Rattle.hp_model.specs.files.File.{File, cell_at}
-use Rattle.hp_model.specs.files.Page.{zeros}
-use Rattle.hp_model.specs.machine.Plan.{Outcome, Refused, Answered, Slot}
-use Rattle.hp_model.specs.machine.Promises.{IsLostTo, IsNameOf, SameFiles, StillNamed, is_at, is_in, is_shared_of, map_on}
-use Rattle.hp_model.specs.machine.Promises.{means_file, named_on, over, reaches, shape_of, shown_on, spot_on, stays_mapped}
-use Rattle.hp_model.specs.files.Spot.{Spot}
-use Rattle.hp_model.specs.files.Value.{shown, value}
+use Rattle.hp_model.proofs.Words.{Answered, File, IsLostTo, IsNameOf, Outcome, Refused, SameFiles, Slot, Spot, StillNamed, cell_at, is_at, is_in, is_shared_of, map_on, means_file, named_on, over}
+use Rattle.hp_model.proofs.Words.{reaches, shape_of, shown, shown_on, spot_on, stays_mapped, value, zeros}
 
 -- the bytes of the file at this place
 abbrev pub stored_by : (size : ℕ) → Slot → SlotEvent → (file i : ℕ) → List ℕ → List ℕ

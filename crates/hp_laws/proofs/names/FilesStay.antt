@@ -1,10 +1,6 @@
 -- A file that has a name keeps its cells where maps alone change.
 use Rattle.std.proofs.Common.{◌≡◌, false, Some, map, refl, ◌∙◌}
-use Rattle.hp_model.specs.files.File.{File, Mount}
-use Rattle.hp_model.specs.files.GiveBack.{swept}
-use Rattle.hp_model.specs.files.Mapping.{Map}
-use Rattle.hp_model.specs.machine.Kept.{KeepsFiles}
-use Rattle.hp_model.specs.machine.Plan.{Slot}
+use Rattle.hp_model.proofs.Words.{File, KeepsFiles, Map, Mount, Slot, swept}
 use Rattle.hp_laws.proofs.names.Follows.{FilesFollow, edit_follows, sweep_follows}
 
 pub files_same : (x : Slot) → KeepsFiles x x

@@ -1,22 +1,14 @@
 -- Names and numbers after files without a name and without maps are gone, or maps of some kind.
 use Rattle.std.proofs.lemmas.Grind.{common_steps}
-use Rattle.std.proofs.Common.{◌≡◌, ⊎_elim, inl, subst, ℕ, zero, suc, ◌+◌, ◌<◌, ◌==◌, Bool, true, false, not, Option, None}
-use Rattle.std.proofs.Common.{Some, is_some, List, [], ◌∷◌, length, map, option_map, get_or, refl, sym, ap, ◌∙◌, arith, if◌then◌else◌, nat_lt}
-use Rattle.std.specs.List.{filter, list_any}
+use Rattle.std.proofs.Common.{◌≡◌, ⊎_elim, inl, subst, ℕ, zero, suc, ◌+◌, ◌<◌, ◌==◌, Bool, true, false, not, Option, None, Some, is_some, List, [], ◌∷◌, length, map, option_map, get_or, refl, sym, ap}
+use Rattle.std.proofs.Common.{◌∙◌, arith, if◌then◌else◌, nat_lt, filter}
+use Rattle.std.specs.List.{list_any}
 use Rattle.std.specs.Str.{bytes_eq}
 use Rattle.std.proofs.lemmas.Bool.{cases_eq, cases_order, eq-eqb, eqb-true, false_from_ne_true, or_right, lt-ltb, or_cases, and_parts}
 use Rattle.std.proofs.lemmas.List.Folds.{list_any_at}
-use Rattle.hp_model.specs.declared.event.SlotEvent.{SlotEvent}
-use Rattle.hp_model.specs.files.File.{File, Mount, cell_in, new_file}
-use Rattle.hp_model.specs.files.Fork.{file_forked}
-use Rattle.hp_model.specs.files.GiveBack.{is_kept, swept}
-use Rattle.hp_model.specs.Lists.{found, one_on}
-use Rattle.hp_model.specs.files.Mapping.{Map, is_map, is_of, map_for, place_at}
-use Rattle.hp_model.specs.machine.Plan.{Slot}
-use Rattle.hp_model.specs.machine.Promises.{SameFiles, shape_of, spot_on}
-use Rattle.hp_model.specs.machine.SlotEvent.{file_named, has_name}
-use Rattle.hp_model.specs.files.Spot.{Spot, spot, spot_in}
-use Rattle.hp_model.specs.files.Value.{shown, value}
+use Rattle.hp_laws.proofs.Variants.{SlotEvent}
+use Rattle.hp_model.proofs.Words.{File, Map, Mount, SameFiles, Slot, Spot, cell_in, file_forked, file_named, found, has_name, is_kept, is_map, is_of, map_for, new_file, one_on, place_at, shape_of}
+use Rattle.hp_model.proofs.Words.{shown, spot, spot_in, spot_on, swept, value}
 use Rattle.hp_laws.proofs.names.Changes.{LosesBy, SlotKeeps, ends_number}
 use Rattle.hp_laws.proofs.names.Keys.{found_mapped, found_same, keyed}
 use Rattle.hp_laws.proofs.making.FilesMade.{any_append, in_file, spot_in_file}

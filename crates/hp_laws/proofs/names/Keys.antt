@@ -1,14 +1,8 @@
 -- Where a name and a map's number are found depends on the names and numbers alone.
-use Rattle.std.proofs.Common.{arith}
-use Rattle.std.proofs.Common.{◌≡◌, ℕ, ◌&&◌, ◌||◌, ◌==◌, Bool, true, false, None, Option, Some, List, [], ◌∷◌, map, option_map, refl, sym, ap, ◌∙◌, if◌then◌else◌}
+use Rattle.std.proofs.Common.{arith, ◌≡◌, ℕ, ◌&&◌, ◌||◌, ◌==◌, Bool, true, false, None, Option, Some, List, [], ◌∷◌, map, option_map, refl, sym, ap, ◌∙◌, if◌then◌else◌}
 use Rattle.std.specs.List.{list_any}
 use Rattle.std.specs.Str.{bytes_eq}
-use Rattle.hp_model.specs.files.File.{File, Mount}
-use Rattle.hp_model.specs.Lists.{found, one_on}
-use Rattle.hp_model.specs.files.Mapping.{Map, is_map}
-use Rattle.hp_model.specs.machine.Promises.{Shape, shape_of}
-use Rattle.hp_model.specs.machine.SlotEvent.{file_named}
-use Rattle.hp_model.specs.files.Spot.{Spot, spot}
+use Rattle.hp_model.proofs.Words.{File, Map, Mount, Shape, Spot, file_named, found, is_map, one_on, shape_of, spot}
 use Rattle.hp_laws.proofs.making.FilesMade.{in_file, spot_in_file}
 
 -- ---- keys

@@ -1,23 +1,10 @@
 -- What names and numbers mean stands where it stood, after a file or a map more and after each access.
 use Rattle.std.proofs.lemmas.Grind.{common_steps}
-use Rattle.std.proofs.Common.{◌≡◌, subst, ℕ, ◌<◌, ◌==◌, true, None, Some, List, [], ◌∷◌, ◌++◌, length, map, option_map, suc, zero, get_or, arith, refl, sym, ap, ◌∙◌}
-use Rattle.std.specs.List.{slice_set}
+use Rattle.std.proofs.Common.{◌≡◌, subst, ℕ, ◌<◌, ◌==◌, true, None, Some, List, [], ◌∷◌, ◌++◌, length, map, option_map, suc, zero, get_or, arith, refl, sym, ap, ◌∙◌, slice_set}
 use Rattle.std.proofs.lemmas.Bool.{and_parts, cond_both, eqb-true}
-use Rattle.hp_model.specs.declared.answer.Answer.TheVariants.{Done}
-use Rattle.hp_model.specs.declared.step.Intent.{Intent}
-use Rattle.hp_model.specs.declared.step.Intent.TheVariants.{Read, Write}
-use Rattle.hp_model.specs.files.Access.{access}
-use Rattle.hp_model.specs.declared.step.Reserving.{Reserving}
-use Rattle.hp_model.specs.declared.step.Sharing.{Sharing}
-use Rattle.hp_model.specs.files.File.{File, Mount, with_file}
-use Rattle.hp_model.specs.files.MakeMap.{mapped, new_map, next_number, with_new}
-use Rattle.hp_model.specs.machine.Plan.{Choice, Outcome, Answered, Plan, and_then, with_value}
-use Rattle.hp_model.specs.declared.refusal.Refusal.TheVariants.{NoSuchMap}
-use Rattle.hp_model.specs.machine.Promises.{shape_of}
-use Rattle.hp_model.specs.machine.SlotEvent.{has_name, byte_access, bytes_answer, fault, fault_tests, file_named, load, store}
-use Rattle.hp_model.specs.files.Mapping.{is_map}
-use Rattle.hp_model.specs.files.Spot.{Spot, again, file_written, spot, written}
-use Rattle.hp_model.specs.files.Value.{value}
+use Rattle.hp_laws.proofs.Variants.{Done, Intent, NoSuchMap, Read, Reserving, Sharing, Write}
+use Rattle.hp_model.proofs.Words.{Answered, Choice, File, Mount, Outcome, Plan, Spot, access, again, and_then, byte_access, bytes_answer, fault, fault_tests, file_named, file_written, has_name}
+use Rattle.hp_model.proofs.Words.{is_map, load, mapped, new_map, next_number, range_filled, shape_of, spot, store, value, with_file, with_new, with_value, written}
 use Rattle.hp_model.proofs.Editing.{length-edit_at}
 use Rattle.hp_laws.proofs.names.Accessed.{access_on, bytes_on, file_put, key_edit, pages_same}
 use Rattle.hp_laws.proofs.names.Keys.{file_key, is_key, key_places, keys, number_places, places}
@@ -28,7 +15,6 @@ use Rattle.hp_laws.proofs.counts.MountMoves.{IsSpot, spot_is}
 use Rattle.hp_laws.proofs.steps.Outcomes.{Always, always_then, always_weaker}
 use Rattle.hp_laws.proofs.accesses.Shown.{On, on_follows, on_weaker}
 use Rattle.hp_laws.proofs.accesses.SlotShows.{always_unless, always_value}
-use Rattle.hp_model.specs.files.Fill.{range_filled}
 
 -- ---- keys of longer lists
 

@@ -1,14 +1,6 @@
 -- What a name's file and a number's map show is what stands at their places.
-use Rattle.std.proofs.Common.{arith}
-use Rattle.std.proofs.Common.{◌≡◌, ℕ, None, Some, List, sym, ap, ◌∙◌}
-use Rattle.std.specs.List.{slice_index_or}
-use Rattle.hp_model.specs.files.File.{File, cell_at, new_file}
-use Rattle.hp_model.specs.files.Mapping.{Map, is_map}
-use Rattle.hp_model.specs.machine.Plan.{Slot}
-use Rattle.hp_model.specs.machine.Promises.{map_in, map_on, named_on, no_map, seen_on, shown_on, spot_on}
-use Rattle.hp_model.specs.machine.SlotEvent.{has_name}
-use Rattle.hp_model.specs.files.Spot.{Spot}
-use Rattle.hp_model.specs.files.Value.{shown, value}
+use Rattle.std.proofs.Common.{arith, ◌≡◌, ℕ, None, Some, List, sym, ap, ◌∙◌, slice_index_or}
+use Rattle.hp_model.proofs.Words.{File, Map, Slot, Spot, cell_at, has_name, is_map, map_in, map_on, named_on, new_file, no_map, seen_on, shown, shown_on, spot_on, value}
 use Rattle.hp_laws.proofs.counts.MountMoves.{spot_is}
 use Rattle.hp_laws.proofs.lists.Places.{found_place}
 

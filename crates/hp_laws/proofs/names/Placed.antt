@@ -1,15 +1,8 @@
 -- Names and numbers are found where they were, after each change that ends neither.
 use Rattle.std.proofs.lemmas.Grind.{common_steps}
-use Rattle.std.proofs.Common.{◌≡◌, subst, ℕ, zero, suc, ◌+◌, ◌==◌, Bool, true, false, None, Option}
-use Rattle.std.proofs.Common.{Some, List, [], ◌∷◌, ◌++◌, option_map, get_or, refl, sym, ap, ◌∙◌, arith, if◌then◌else◌}
-use Rattle.std.specs.List.{slice_set}
+use Rattle.std.proofs.Common.{◌≡◌, subst, ℕ, zero, suc, ◌+◌, ◌==◌, Bool, true, false, None, Option, Some, List, [], ◌∷◌, ◌++◌, option_map, get_or, refl, sym, ap, ◌∙◌, arith, if◌then◌else◌, slice_set}
 use Rattle.std.proofs.lemmas.Bool.{eqb-true, false_from_ne_true}
-use Rattle.hp_model.specs.files.File.{File, Mount}
-use Rattle.hp_model.specs.Lists.{found, one_on}
-use Rattle.hp_model.specs.files.Mapping.{is_map}
-use Rattle.hp_model.specs.machine.Promises.{Shape}
-use Rattle.hp_model.specs.machine.SlotEvent.{file_named}
-use Rattle.hp_model.specs.files.Spot.{Spot, spot}
+use Rattle.hp_model.proofs.Words.{File, Mount, Shape, Spot, file_named, found, is_map, one_on, spot}
 use Rattle.hp_laws.proofs.names.Keys.{FileKey, Where, file_key, has_key, in_key, is_key, is_named, key_places, keyed, keys, name_place, number_places, places}
 use Rattle.hp_laws.proofs.lists.Places.{found_place}
 

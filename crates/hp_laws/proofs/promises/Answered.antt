@@ -1,24 +1,9 @@
 -- What a step that reads answers, and that a refused step leaves the machine as it was.
-use Rattle.std.proofs.Common.{arith}
-use Rattle.std.proofs.Common.{◌≡◌, ℕ, Bool, true, false, Option, Ok, Err, List, refl}
-use Rattle.std.specs.Bool.{MatchBool}
-use Rattle.hp_model.specs.declared.answer.Answer.TheVariants.{Home}
-use Rattle.hp_model.specs.declared.answer.Answer.{Answer}
-use Rattle.hp_model.specs.declared.event.Event.{Event}
-use Rattle.hp_model.specs.declared.event.Event.TheVariants.{Slot as OnSlot}
-use Rattle.hp_model.specs.declared.event.SlotEvent.{SlotEvent}
+use Rattle.std.proofs.Common.{arith, ◌≡◌, ℕ, Bool, true, false, Option, Ok, Err, List, refl, MatchBool}
+use Rattle.hp_laws.proofs.Variants.{Answer, Attach, Event, Exit, Fork, Home, Refusal, Slot as OnSlot, SlotEvent, Step}
 use Rattle.hp_model.specs.declared.event.SlotEvent.TheVariants as slot
-use Rattle.hp_model.specs.declared.refusal.Refusal.{Refusal}
-use Rattle.hp_model.specs.declared.step.Step.{Step}
-use Rattle.hp_model.specs.declared.step.Step.TheVariants.{Attach, Exit, Fork}
-use Rattle.hp_model.specs.machine.Event.{IsEvent}
-use Rattle.hp_model.specs.machine.Plan.{Choice, Outcome, Refused, Answered, Reply, Slot}
-use Rattle.hp_model.specs.machine.Promises.{IsListed, IsRead, IsStat, IsUsage, LeavesAll, LeavesOthers, SameButNodes, AnswersWhatWas, is_late, named_on}
-use Rattle.hp_model.specs.machine.Settled.{IsSettledState}
-use Rattle.hp_model.specs.machine.SlotEvent.{slot_event}
-use Rattle.hp_model.specs.machine.State.{State, slot_at}
-use Rattle.hp_model.specs.machine.Step.{IsScripted, IsStep}
-use Rattle.hp_model.specs.machine.Table.{home_of, is_known, when_known}
+use Rattle.hp_model.proofs.Words.{Answered, AnswersWhatWas, Choice, IsEvent, IsListed, IsRead, IsScripted, IsSettledState, IsStat, IsStep, IsUsage, LeavesAll, LeavesOthers, Outcome, Refused, Reply}
+use Rattle.hp_model.proofs.Words.{SameButNodes, Slot, State, home_of, is_known, is_late, named_on, slot_at, slot_event, when_known}
 use Rattle.hp_laws.proofs.settled.CountsHold.{counts_are_sums}
 use Rattle.hp_laws.proofs.ending.Fades.{exit_refused}
 use Rattle.hp_laws.proofs.steps.Outcomes.{Always}

@@ -1,30 +1,15 @@
 -- A fork that is answered gives the child the maps of its parent, on every slot.
-use Rattle.std.proofs.Common.{◌≡◌, ⊎_elim, subst, map, option_map, ℕ, zero, suc, ◌+◌, ◌<◌, ◌≤◌, Bool, true, false, ◌&&◌, ◌||◌, ◌==◌, not}
-use Rattle.std.proofs.Common.{Option, None, Some, is_some, Ok, Err, List, [], ◌∷◌, ◌++◌, length, refl, sym, ap, ◌∙◌, arith, if◌then◌else◌}
-use Rattle.std.specs.List.{filter, list_any, range_with_len, slice_set}
+use Rattle.std.proofs.Common.{◌≡◌, ⊎_elim, subst, map, option_map, ℕ, zero, suc, ◌+◌, ◌<◌, ◌≤◌, Bool, true, false, ◌&&◌, ◌||◌, ◌==◌, not, Option, None, Some, is_some, Ok, Err, List, [], ◌∷◌, ◌++◌}
+use Rattle.std.proofs.Common.{length, refl, sym, ap, ◌∙◌, arith, if◌then◌else◌, filter, slice_set}
+use Rattle.std.specs.List.{list_any, range_with_len}
 use Rattle.std.proofs.lemmas.Bool.{and_parts, cases_eq, cases_lt, eq-eqb, eqb-true, false_from_ne_true, ltb-true}
 use Rattle.std.proofs.lemmas.List.{get_or-set_other, get_or-set_same, get_or_past}
-use Rattle.hp_model.specs.declared.answer.Answer.{Answer}
-use Rattle.hp_model.specs.declared.answer.Answer.TheVariants.{Done}
-use Rattle.hp_model.specs.declared.event.Event.{Event}
-use Rattle.hp_model.specs.declared.event.Event.TheVariants.{Slot as OnSlot}
+use Rattle.hp_laws.proofs.Variants.{Answer, Done, Event, Refusal, Slot as OnSlot, Step, TaskExists, TooMany}
 use Rattle.hp_model.specs.declared.event.SlotEvent.TheVariants as slot
-use Rattle.hp_model.specs.declared.refusal.Refusal.{Refusal}
-use Rattle.hp_model.specs.declared.refusal.Refusal.TheVariants.{TaskExists, TooMany}
-use Rattle.hp_model.specs.declared.step.Step.{Step}
 use Rattle.hp_model.specs.declared.step.Step.TheVariants as step
-use Rattle.hp_model.specs.files.File.{File, Mount}
-use Rattle.hp_model.specs.files.Fork.{file_forked, forked}
-use Rattle.hp_model.specs.files.GiveBack.{is_kept}
-use Rattle.hp_model.specs.files.Mapping.{Map, is_map, is_of, map_for}
-use Rattle.hp_model.specs.files.Spot.{Spot, spot, spot_in}
-use Rattle.hp_model.specs.Lists.{found, one_on}
-use Rattle.hp_model.specs.machine.Event.{IsEvent, has_maps_of, with_table}
-use Rattle.hp_model.specs.machine.Plan.{Answered, Outcome, Refused, Reply, Slot}
-use Rattle.hp_model.specs.machine.Promises.{Forks, IsChildOf, SameFiles, spot_on}
-use Rattle.hp_model.specs.machine.State.{State, slot_at}
-use Rattle.hp_model.specs.machine.Step.{IsScript, IsScripted, IsStep, fork_slots, or_undone, undone, when_done}
-use Rattle.hp_model.specs.machine.Table.{added, home_of, is_crowded, is_known, or_refused, when_known}
+use Rattle.hp_model.proofs.Words.{Answered, File, Forks, IsChildOf, IsEvent, IsScript, IsScripted, IsStep, Map, Mount, Outcome, Refused, Reply, SameFiles, Slot, Spot, State, added, file_forked}
+use Rattle.hp_model.proofs.Words.{fork_slots, forked, found, has_maps_of, home_of, is_crowded, is_kept, is_known, is_map, is_of, map_for, one_on, or_refused, or_undone, slot_at, spot, spot_in}
+use Rattle.hp_model.proofs.Words.{spot_on, undone, when_done, when_known, with_table}
 use Rattle.hp_laws.specs.Balance.{left_by}
 use Rattle.hp_laws.proofs.ending.GoneAfter.{no_map_of}
 use Rattle.hp_laws.proofs.names.Follows.{edit_follows, edit_stays, fork_follows, is_not_of, some_file, sweep_follows}

@@ -1,37 +1,15 @@
 -- What a truncate and a punch leave of a file: its length, and of what they cut no page and no copy.
 use Rattle.std.proofs.lemmas.Grind.{common_steps}
-use Rattle.std.proofs.Common.{◌≡◌, subst, ℕ, ◌<◌, ◌≤◌, Bool, true, false, None, Option, Some, Ok}
-use Rattle.std.proofs.Common.{Err, List, [], ◌∷◌, length, map, refl, sym, ap, ◌∙◌, arith, nat_le, nat_lt}
-use Rattle.std.specs.List.{slice_set}
+use Rattle.std.proofs.Common.{◌≡◌, subst, ℕ, ◌<◌, ◌≤◌, Bool, true, false, None, Option, Some, Ok, Err, List, [], ◌∷◌, length, map, refl, sym, ap, ◌∙◌, arith, nat_le, nat_lt, slice_set}
 use Rattle.std.specs.Str.{bytes_eq}
 use Rattle.std.proofs.lemmas.Bool.{and_parts, leb-true, ltb-false, ltb-true}
 use Rattle.std.proofs.lemmas.List.{get_or_past}
-use Rattle.hp_model.specs.declared.answer.Answer.{Answer}
-use Rattle.hp_model.specs.declared.answer.Answer.TheVariants.{Done}
-use Rattle.hp_model.specs.declared.cell.Cell.{Cell}
-use Rattle.hp_model.specs.declared.cell.Cell.TheVariants.{Hole}
-use Rattle.hp_model.specs.declared.event.Event.{Event}
-use Rattle.hp_model.specs.declared.event.Event.TheVariants.{Slot as OnSlot}
+use Rattle.hp_laws.proofs.Variants.{Answer, Cell, Done, Event, Hole, NoSuchFile, OutOfRange, Place, Refusal, Slot as OnSlot, Step}
 use Rattle.hp_model.specs.declared.event.SlotEvent.TheVariants as slot
-use Rattle.hp_model.specs.declared.place.Place.{Place}
-use Rattle.hp_model.specs.declared.refusal.Refusal.{Refusal}
-use Rattle.hp_model.specs.declared.refusal.Refusal.TheVariants.{NoSuchFile, OutOfRange}
-use Rattle.hp_model.specs.declared.step.Step.{Step}
 use Rattle.hp_model.specs.declared.step.Step.TheVariants as step
-use Rattle.hp_model.specs.files.File.{File, Mount, cell_at, cell_punched, cells_to, map_in, new_file, with_file}
-use Rattle.hp_model.specs.files.GiveBack.{is_kept, punched, truncated}
-use Rattle.hp_model.specs.files.Mapping.{Map, copy_of, map_punched, no_map, place_at, without_copy}
-use Rattle.hp_model.specs.files.Page.{Copy, Page}
-use Rattle.hp_model.specs.machine.Event.{IsEvent}
-use Rattle.hp_model.specs.machine.Named.{is_in, named_on}
-use Rattle.hp_model.specs.machine.Pages.{Cuts, HasLeft, IsCutFile, cell_of, pages_of_file}
-use Rattle.hp_model.specs.machine.Plan.{Answered, Choice, Outcome, Refused, Reply, Slot, gives}
-use Rattle.hp_model.specs.machine.Settled.{IsSettledState}
-use Rattle.hp_model.specs.machine.SlotEvent.{edited, file_named, has_name, slot_event, truncate}
-use Rattle.hp_model.specs.machine.Sound.{IsSound, IsSoundFile, IsSoundMap}
-use Rattle.hp_model.specs.machine.State.{State, slot_at}
-use Rattle.hp_model.specs.machine.Step.{IsStep}
-use Rattle.hp_model.specs.Profile.{most_file_pages}
+use Rattle.hp_model.proofs.Words.{Answered, Choice, Copy, Cuts, File, HasLeft, IsCutFile, IsEvent, IsSettledState, IsSound, IsSoundFile, IsSoundMap, IsStep, Map, Mount, Outcome, Page, Refused, Reply}
+use Rattle.hp_model.proofs.Words.{Slot, State, cell_at, cell_of, cell_punched, cells_to, copy_of, edited, file_named, gives, has_name, is_in, is_kept, map_in, map_punched, most_file_pages, named_on}
+use Rattle.hp_model.proofs.Words.{new_file, no_map, pages_of_file, place_at, punched, slot_at, slot_event, truncate, truncated, with_file, without_copy}
 use Rattle.hp_model.proofs.Editing.{length-edit_range}
 use Rattle.hp_laws.specs.Balance.{Always, left_by}
 use Rattle.hp_laws.proofs.accesses.SlotShows.{always_gives, always_unless, always_value}

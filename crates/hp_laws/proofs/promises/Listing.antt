@@ -1,9 +1,7 @@
 -- Only the event that asks for the names of files answers a list of names.
-use Rattle.std.proofs.Common.{arith}
-use Rattle.std.proofs.Common.{◌≡◌, ℕ, false}
-use Rattle.hp_model.specs.declared.event.SlotEvent.{SlotEvent}
-use Rattle.hp_model.specs.machine.Plan.{Choice, Outcome, Slot}
-use Rattle.hp_model.specs.machine.SlotEvent.{slot_event}
+use Rattle.std.proofs.Common.{arith, ◌≡◌, ℕ, false}
+use Rattle.hp_laws.proofs.Variants.{SlotEvent}
+use Rattle.hp_model.proofs.Words.{Choice, Outcome, Slot, slot_event}
 use Rattle.hp_laws.specs.Answers.{HasNoNames, lists_names}
 use Rattle.hp_laws.proofs.steps.Outcomes.{Always, always_weaker}
 use Rattle.hp_laws.proofs.accesses.SlotShows.{always_value}

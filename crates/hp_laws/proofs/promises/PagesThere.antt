@@ -1,49 +1,18 @@
 -- An access that is answered leaves its page there; and an owner takes a copy back only where no page could be had.
-use Rattle.std.proofs.Common.{arith}
+use Rattle.std.proofs.Common.{arith, ◌≡◌, ◌⊎◌, ⊎_elim, inl, inr, subst, ℕ, ◌-◌, ◌<◌, ◌&&◌, ◌||◌, Bool, true, false, not, None, Option, Some, Ok, Err, List, length, is_some, refl, sym, ap, ◌∙◌}
+use Rattle.std.proofs.Common.{if◌then◌else◌, nat_lt, slice_index_or, slice_set}
 use Rattle.std.proofs.lemmas.Grind.{common_steps}
-use Rattle.std.proofs.Common.{◌≡◌, ◌⊎◌, ⊎_elim, inl, inr, subst, ℕ, ◌-◌, ◌<◌, ◌&&◌, ◌||◌, Bool, true, false}
-use Rattle.std.proofs.Common.{not, None, Option, Some, Ok, Err, List, length, is_some, refl, sym, ap, ◌∙◌, if◌then◌else◌, nat_lt}
-use Rattle.std.specs.List.{slice_index_or, slice_set}
 use Rattle.std.proofs.lemmas.Bool.{cases_eq, cond_both, leb-false, ltb-true, or_right}
 use Rattle.std.proofs.lemmas.List.{get_or-set_other, get_or-set_same, length-map}
-use Rattle.hp_model.specs.declared.answer.Answer.{Answer}
-use Rattle.hp_model.specs.declared.answer.Answer.TheVariants.{Done}
-use Rattle.hp_model.specs.declared.cell.Cell.{Cell}
-use Rattle.hp_model.specs.declared.cell.Cell.TheVariants.{Entered, Hole, Present}
-use Rattle.hp_model.specs.declared.event.Event.{Event}
-use Rattle.hp_model.specs.declared.event.Event.TheVariants.{Slot as OnSlot}
-use Rattle.hp_model.specs.declared.event.SlotEvent.{SlotEvent}
+use Rattle.hp_laws.proofs.Variants.{Answer, Cell, Done, Entered, Event, Gone, GrantPage, Hole, Intent, Live, NoSuchMap, Place, PoolAnswer, Present, Read, Refusal, Slot as OnSlot, SlotEvent, Step}
+use Rattle.hp_laws.proofs.Variants.{TakenByOwner, Write}
 use Rattle.hp_model.specs.declared.event.SlotEvent.TheVariants as slot
-use Rattle.hp_model.specs.declared.place.Place.{Place}
-use Rattle.hp_model.specs.declared.place.Place.TheVariants.{Gone, Live}
-use Rattle.hp_model.specs.declared.refusal.Refusal.{Refusal}
-use Rattle.hp_model.specs.declared.refusal.Refusal.TheVariants.{NoSuchMap, TakenByOwner}
-use Rattle.hp_model.specs.declared.section.PoolAnswer.{PoolAnswer}
-use Rattle.hp_model.specs.declared.section.Section.TheVariants.{GrantPage}
-use Rattle.hp_model.specs.declared.step.Intent.{Intent}
-use Rattle.hp_model.specs.declared.step.Intent.TheVariants.{Read, Write}
-use Rattle.hp_model.specs.declared.step.Step.{Step}
 use Rattle.hp_model.specs.declared.step.Step.TheVariants as step
-use Rattle.hp_model.specs.files.Access.{access, new_copy, private_access, shared_access, uncopied_access}
-use Rattle.hp_model.specs.files.CopyWrite.{copy_write, is_held_once, owner_write, taken_back}
-use Rattle.hp_model.specs.files.File.{File, Mount, cell_at, file_in, has_page, map_in, new_file, with_cell, with_file, with_map}
-use Rattle.hp_model.specs.files.Mapping.{Map, copy_of, is_map, is_shared, no_map, place_at, with_place}
-use Rattle.hp_model.specs.files.Page.{Copy, Page, zeros}
-use Rattle.hp_model.specs.files.Spot.{Spot, cell_written, copied, file_written, map_written, place_written, spot, written}
-use Rattle.hp_model.specs.files.Value.{value}
-use Rattle.hp_model.specs.Lists.{edit_at}
-use Rattle.hp_model.specs.machine.Event.{IsEvent, planned}
-use Rattle.hp_model.specs.machine.Lost.{IsLostTo, is_same_copy}
-use Rattle.hp_model.specs.machine.Machine.{pool_of}
-use Rattle.hp_model.specs.machine.Named.{map_named}
-use Rattle.hp_model.specs.machine.Pages.{IsTouched, Touches, can_have_page, has_its_page}
-use Rattle.hp_model.specs.machine.Plan.{Answered, Ask, Choice, Finish, Outcome, Plan, Refused, Reply, Slot, grant_page, reserved_page, with_value}
-use Rattle.hp_model.specs.machine.Promises.{LosesTo}
-use Rattle.hp_model.specs.machine.SlotEvent.{byte_access, fault, load, slot_event, store}
-use Rattle.hp_model.specs.machine.State.{State, slot_at}
-use Rattle.hp_model.specs.machine.Step.{IsStep}
-use Rattle.hp_model.specs.pool.Grant.{can_grant, is_full, rise}
-use Rattle.hp_model.specs.pool.Pool.{section}
+use Rattle.hp_model.proofs.Words.{Answered, Ask, Choice, Copy, File, Finish, IsEvent, IsLostTo, IsStep, IsTouched, LosesTo, Map, Mount, Outcome, Page, Plan, Refused, Reply, Slot, Spot, State, Touches}
+use Rattle.hp_model.proofs.Words.{access, byte_access, can_grant, can_have_page, cell_at, cell_written, copied, copy_of, copy_write, edit_at, fault, file_in, file_written, grant_page, has_its_page}
+use Rattle.hp_model.proofs.Words.{has_page, is_full, is_held_once, is_map, is_same_copy, is_shared, load, map_in, map_named, map_written, new_copy, new_file, no_map, owner_write, place_at}
+use Rattle.hp_model.proofs.Words.{place_written, planned, pool_of, private_access, reserved_page, rise, section, shared_access, slot_at, slot_event, spot, store, taken_back, uncopied_access, value}
+use Rattle.hp_model.proofs.Words.{with_cell, with_file, with_map, with_place, with_value, written, zeros}
 use Rattle.hp_laws.specs.Balance.{left_by}
 use Rattle.hp_laws.proofs.accesses.Shown.{On, copy_own, on_follows, on_grant_page, on_reserved_page, place_other, place_put, robbed_mount}
 use Rattle.hp_laws.proofs.counts.MountMoves.{IsSpot, spot_is}

@@ -1,15 +1,11 @@
 -- A fork leaves its parent the maps that it has.
 use Rattle.std.proofs.lemmas.Grind.{common_steps}
-use Rattle.std.proofs.Common.{◌≡◌, ℕ, ◌||◌, ◌==◌, Bool, true, false, not, Some, List, [], ◌∷◌, map, refl, sym, ap, ◌∙◌, arith}
-use Rattle.std.specs.List.{filter, list_any}
+use Rattle.std.proofs.Common.{◌≡◌, ℕ, ◌||◌, ◌==◌, Bool, true, false, not, Some, List, [], ◌∷◌, map, refl, sym, ap, ◌∙◌, arith, filter}
+use Rattle.std.specs.List.{list_any}
 use Rattle.std.proofs.lemmas.Bool.{eqb-true, false_from_ne_true}
 use Rattle.std.proofs.lemmas.List.Folds.{list_any-append}
 use Rattle.std.proofs.lemmas.Map.Views.{any-filter_same}
-use Rattle.hp_model.specs.files.File.{File, Mount}
-use Rattle.hp_model.specs.files.Fork.{file_forked, forked}
-use Rattle.hp_model.specs.files.GiveBack.{is_kept}
-use Rattle.hp_model.specs.files.Mapping.{Map, is_of, map_for}
-use Rattle.hp_model.specs.machine.Event.{has_maps_of}
+use Rattle.hp_model.proofs.Words.{File, Map, Mount, file_forked, forked, has_maps_of, is_kept, is_of, map_for}
 use Rattle.hp_laws.proofs.names.Follows.{is_not_of}
 use Rattle.hp_laws.proofs.making.FilesMade.{any_in_files}
 

@@ -1,19 +1,9 @@
 -- Each step of a settled machine is as promised.
 use Rattle.std.proofs.Common.{◌≡◌, ℕ, ◌<◌, true, false, Err, length, refl, sym, ap, ◌∙◌, subst, arith}
-use Rattle.hp_model.specs.declared.event.Event.{Event}
-use Rattle.hp_model.specs.declared.event.Event.TheVariants.{Slot as OnSlot}
-use Rattle.hp_model.specs.declared.event.SlotEvent.{SlotEvent}
+use Rattle.hp_laws.proofs.Variants.{Event, Load, Refusal, Slot as OnSlot, SlotEvent, Step}
 use Rattle.hp_model.specs.declared.event.SlotEvent.TheVariants as slot
-use Rattle.hp_model.specs.declared.refusal.Refusal.{Refusal}
-use Rattle.hp_model.specs.declared.step.Step.{Step}
-use Rattle.hp_model.specs.declared.step.Step.TheVariants.{Load}
-use Rattle.hp_model.specs.machine.Event.{IsEvent}
-use Rattle.hp_model.specs.machine.Plan.{Choice, Outcome, Refused, Answered, Reply, IsWithinLimit, slot_usage}
-use Rattle.hp_model.specs.machine.Promises.{ShowsMap, is_backed_step, is_cut_off_step, is_refused, map_named, spot_on, wants_page}
-use Rattle.hp_model.specs.machine.Settled.{IsSettledState}
-use Rattle.hp_model.specs.machine.SlotEvent.{slot_event}
-use Rattle.hp_model.specs.machine.State.{State, slot_at}
-use Rattle.hp_model.specs.machine.Step.{IsStep}
+use Rattle.hp_model.proofs.Words.{Answered, Choice, IsEvent, IsSettledState, IsStep, IsWithinLimit, Outcome, Refused, Reply, ShowsMap, State, is_backed_step, is_cut_off_step, is_refused, map_named}
+use Rattle.hp_model.proofs.Words.{slot_at, slot_event, slot_usage, spot_on, wants_page}
 use Rattle.hp_laws.specs.Laws.{KeepsGoing, PromisesAreKept}
 use Rattle.hp_laws.proofs.promises.Answered.{step_leaves, step_tells}
 use Rattle.hp_laws.proofs.accesses.Backed.{Stops, fault_goes, fault_stops, load_goes, load_stops, store_goes, store_stops}

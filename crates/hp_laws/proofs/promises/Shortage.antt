@@ -1,65 +1,24 @@
 -- A step that is refused for want of pages lacks what it asks for: past its mount's limit, or more than the pool can commit.
-use Rattle.std.proofs.Common.{arith}
-use Rattle.std.proofs.Common.{◌≡◌, subst, ℕ, ◌-◌, ◌&&◌, ◌==◌, Bool, true, false, not, Option, None, Some, Result, Ok, Err, List, [], ◌∷◌}
-use Rattle.std.proofs.Common.{◌++◌, length, refl, sym, ap, ◌∙◌, if◌then◌else◌}
+use Rattle.std.proofs.Common.{arith, ◌≡◌, subst, ℕ, ◌-◌, ◌&&◌, ◌==◌, Bool, true, false, not, Option, None, Some, Result, Ok, Err, List, [], ◌∷◌, ◌++◌, length, refl, sym, ap, ◌∙◌, if◌then◌else◌}
 use Rattle.std.proofs.lemmas.Bool.{and_parts, cond_both, eqb-true}
 use Rattle.std.specs.List.{range_with_len}
-use Rattle.hp_model.specs.declared.answer.Answer.TheVariants.{Done}
-use Rattle.hp_model.specs.declared.cell.Cell.{Cell}
-use Rattle.hp_model.specs.declared.event.Event.{Event}
-use Rattle.hp_model.specs.declared.event.Event.TheVariants.{Tasks, Slot as OnSlot, Pool as OnPool}
+use Rattle.hp_laws.proofs.Variants.{Cell, Done, Event, FillPages, GrantPage, Intent, Limits, Live, NoPages, NoSuchFile, NoSuchMap, Place, Pool as OnPool, PoolAnswer, PoolEvent, Read, Refusal}
+use Rattle.hp_laws.proofs.Variants.{Reserving, Sharing, Slot as OnSlot, SlotEvent, SlotTaken, Step, TableEvent, Tasks, Write}
 use Rattle.hp_model.specs.declared.event.PoolEvent.TheVariants as pool
-use Rattle.hp_model.specs.declared.event.SlotEvent.{SlotEvent}
 use Rattle.hp_model.specs.declared.event.SlotEvent.TheVariants as slot
 use Rattle.hp_model.specs.declared.event.TableEvent.TheVariants as table
-use Rattle.hp_model.specs.declared.limits.Limits.{Limits}
-use Rattle.hp_model.specs.declared.place.Place.{Place}
-use Rattle.hp_model.specs.declared.place.Place.TheVariants.{Live}
-use Rattle.hp_model.specs.declared.refusal.Refusal.{Refusal}
-use Rattle.hp_model.specs.declared.refusal.Refusal.TheVariants.{SlotTaken, NoPages, NoSuchFile, NoSuchMap}
-use Rattle.hp_model.specs.declared.section.PoolAnswer.{PoolAnswer}
-use Rattle.hp_model.specs.declared.section.Section.TheVariants.{GrantPage, FillPages}
-use Rattle.hp_model.specs.declared.step.Intent.{Intent}
-use Rattle.hp_model.specs.declared.step.Intent.TheVariants.{Read, Write}
-use Rattle.hp_model.specs.declared.step.Reserving.{Reserving}
-use Rattle.hp_model.specs.declared.step.Sharing.{Sharing}
-use Rattle.hp_model.specs.declared.step.Step.{Step}
 use Rattle.hp_model.specs.declared.step.Step.TheVariants as step
-use Rattle.hp_model.specs.files.Access.{access, new_copy, private_access, shared_access, uncopied_access}
-use Rattle.hp_model.specs.files.CopyWrite.{copy_write}
-use Rattle.hp_model.specs.files.File.{File, Mount, cell_at}
-use Rattle.hp_model.specs.files.MakeMap.{asked}
-use Rattle.hp_model.specs.files.Mapping.{is_map, is_shared, place_at}
-use Rattle.hp_model.specs.files.MountCounts.{committed_of}
-use Rattle.hp_model.specs.files.Options.{Wanted, limits, wanted_of}
-use Rattle.hp_model.specs.files.Page.{Copy, Page}
-use Rattle.hp_model.specs.files.Spot.{Spot, again, spot, written}
-use Rattle.hp_model.specs.files.Value.{value}
-use Rattle.hp_model.specs.machine.Event.{IsEvent, has_maps_of, planned}
-use Rattle.hp_model.specs.machine.Machine.{pool_of}
-use Rattle.hp_model.specs.machine.Plan.{Answered, Ask, Choice, Finish, Outcome, Plan, Refused, Reply, Slot, and_then, continued, gives, grant}
-use Rattle.hp_model.specs.machine.Plan.{refuse, unless, when_granted, with_value}
-use Rattle.hp_model.specs.machine.Promises.{is_for_pages}
-use Rattle.hp_model.specs.machine.Short.{IsMountShort, IsRemountShortOn, IsShort, IsShortOn, MeetsShortage, asked_of, asks, has_own, page_for}
-use Rattle.hp_model.specs.machine.SlotEvent.{mount_section}
-use Rattle.hp_model.specs.machine.SlotEvent.{fill, preallocate, preallocate_tests, unentered}
-use Rattle.hp_model.specs.machine.SlotEvent.{byte_access, byte_tests, bytes_answer, fault, fault_tests}
-use Rattle.hp_model.specs.machine.SlotEvent.{committed_with, file_named, load, map_file, map_tests, mount_outcome, mount_pages, remount_outcome, slot_event, store}
-use Rattle.hp_model.specs.machine.State.{State, slot_at}
-use Rattle.hp_model.specs.machine.Step.{Answer_with, IsScript, IsScripted, IsStep, Script, exit_slots, fork_slots, or_undone, undone, when_done}
-use Rattle.hp_model.specs.machine.Table.{Table, table_event}
-use Rattle.hp_model.specs.pool.Resize.{pool_event}
-use Rattle.hp_model.specs.declared.event.PoolEvent.{PoolEvent}
-use Rattle.hp_model.specs.declared.event.TableEvent.{TableEvent}
-use Rattle.hp_model.specs.pool.Grant.{can_grant, is_full, rise}
-use Rattle.hp_model.specs.pool.Pool.{section}
-use Rattle.hp_model.specs.pool.PoolCounts.{Pool}
+use Rattle.hp_model.proofs.Words.{Answer_with, Answered, Ask, Choice, Copy, File, Finish, IsEvent, IsMountShort, IsRemountShortOn, IsScript, IsScripted, IsShort, IsShortOn, IsStep, MeetsShortage}
+use Rattle.hp_model.proofs.Words.{Mount, Outcome, Page, Plan, Pool, Refused, Reply, Script, Slot, Spot, State, Table, Wanted, access, again, and_then, asked, asked_of, asks, byte_access, byte_tests}
+use Rattle.hp_model.proofs.Words.{bytes_answer, can_grant, cell_at, committed_of, committed_with, continued, copy_write, exit_slots, fault, fault_tests, file_named, fill, fork_slots, gives, grant}
+use Rattle.hp_model.proofs.Words.{has_maps_of, has_own, is_for_pages, is_full, is_map, is_shared, lacking, limits, load, map_file, map_tests, mount_outcome, mount_pages, mount_section, new_copy}
+use Rattle.hp_model.proofs.Words.{or_undone, page_for, place_at, planned, pool_event, pool_of, preallocate, preallocate_tests, private_access, refuse, remount_outcome, rise, section, shared_access}
+use Rattle.hp_model.proofs.Words.{slot_at, slot_event, spot, store, table_event, uncopied_access, undone, unentered, unless, value, wanted_of, when_done, when_granted, with_value, written}
 use Rattle.hp_laws.specs.Laws.{KeepsGoing}
 use Rattle.hp_laws.proofs.making.Remounts.{remount_ends, remount_told, told_granted}
 use Rattle.hp_laws.proofs.accesses.SlotShows.{always_gives}
 use Rattle.hp_laws.proofs.steps.Outcomes.{Always, either_way, reply_of}
 use Rattle.hp_laws.proofs.steps.Whole.{by_event, early_pages, is_early, is_whole, slot_step, step_of}
-use Rattle.hp_model.specs.files.Fill.{lacking}
 
 -- ---- limits
 

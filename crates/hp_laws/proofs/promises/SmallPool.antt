@@ -1,20 +1,11 @@
 -- What an event of the pool alone tells is within the limits of a reply's text.
-use Rattle.std.proofs.Common.{◌≡◌, ◌*◌, ◌≤◌, List, [], ◌∷◌, ◌++◌, length, map, replicate, sym, ap, subst, ◌∙◌, arith}
-use Rattle.std.specs.List.{All}
+use Rattle.std.proofs.Common.{◌≡◌, ◌*◌, ◌≤◌, List, [], ◌∷◌, ◌++◌, length, map, replicate, sym, ap, subst, ◌∙◌, arith, All}
 use Rattle.std.proofs.lemmas.Bool.{cond_both}
 use Rattle.std.proofs.lemmas.List.Elements.{All-cons, All-head, All-replicate, All-tail, All-take}
 use Rattle.std.proofs.lemmas.List.Sums.{sum_by-cons}
-use Rattle.hp_model.specs.declared.answer.NodeCount.{NodeCount}
-use Rattle.hp_model.specs.declared.event.PoolEvent.{PoolEvent}
+use Rattle.hp_laws.proofs.Variants.{NodeCount, NodeRow, PoolEvent}
 use Rattle.hp_model.specs.declared.event.PoolEvent.TheVariants as pool
-use Rattle.hp_model.specs.declared.node.NodeRow.{NodeRow}
-use Rattle.hp_model.specs.machine.Plan.{Reply}
-use Rattle.hp_model.specs.machine.Settled.{IsSettledPool}
-use Rattle.hp_model.specs.pool.NodeRows.{IsRow, frames_of, total_of}
-use Rattle.hp_model.specs.pool.PoolCounts.{Pool}
-use Rattle.hp_model.specs.pool.Resize.{no_count, node_count, pool_event}
-use Rattle.hp_model.specs.Profile.{most_frames, most_frames_in_all}
-use Rattle.hp_model.specs.text.Writing.{IsWithinLimits}
+use Rattle.hp_model.proofs.Words.{IsRow, IsSettledPool, IsWithinLimits, Pool, Reply, frames_of, most_frames, most_frames_in_all, no_count, node_count, pool_event, total_of}
 
 record Few (rows : List NodeRow) : Type 0 where
   pub total : total_of rows ≤ frames_of rows

@@ -1,45 +1,18 @@
 -- What each step of a settled machine answers is within the limits of a reply's text.
 use Rattle.std.proofs.lemmas.Grind.{common_steps}
-use Rattle.std.proofs.Common.{◌≡◌, subst, ℕ, suc, ◌+◌, ◌^◌, ◌<◌, ◌≤◌, ◌∙◌, Bool, true, false, not, None, Some}
-use Rattle.std.proofs.Common.{Ok, List, [], ◌∷◌, ◌++◌, length, refl, sym, ap, arith, cond}
-use Rattle.std.specs.List.{filter, position_or_len, range_with_len}
+use Rattle.std.proofs.Common.{◌≡◌, subst, ℕ, suc, ◌+◌, ◌^◌, ◌<◌, ◌≤◌, ◌∙◌, Bool, true, false, not, None, Some, Ok, List, [], ◌∷◌, ◌++◌, length, refl, sym, ap, arith, cond, filter}
+use Rattle.std.specs.List.{position_or_len, range_with_len}
 use Rattle.std.proofs.lemmas.Bool.{cond_both, leb-false, ltb-false, or_parts}
 use Rattle.std.proofs.lemmas.List.{length-map}
 use Rattle.std.proofs.lemmas.List.FromFn.{length-range_with_len}
-use Rattle.hp_model.specs.declared.answer.Answer.{Answer}
-use Rattle.hp_model.specs.declared.answer.Answer.TheVariants.{Done, MapNo, Bytes}
-use Rattle.hp_model.specs.declared.event.Event.{Event}
-use Rattle.hp_model.specs.declared.event.Event.TheVariants.{Tasks, Slot as OnSlot, Pool as OnPool}
-use Rattle.hp_model.specs.declared.event.PoolEvent.{PoolEvent}
-use Rattle.hp_model.specs.declared.event.TableEvent.{TableEvent}
+use Rattle.hp_laws.proofs.Variants.{Answer, Bytes, Done, Event, Exit, Fork, MapNo, MountFull, OutOfMemory, Pool as OnPool, PoolEvent, Slot as OnSlot, SlotEvent, Step, TableEvent, Tasks}
 use Rattle.hp_model.specs.declared.event.PoolEvent.TheVariants as pool
-use Rattle.hp_model.specs.declared.event.SlotEvent.{SlotEvent}
 use Rattle.hp_model.specs.declared.event.SlotEvent.TheVariants as slot
 use Rattle.hp_model.specs.declared.event.TableEvent.TheVariants as table
-use Rattle.hp_model.specs.declared.refusal.Refusal.TheVariants.{MountFull, OutOfMemory}
-use Rattle.hp_model.specs.declared.step.Step.{Step}
-use Rattle.hp_model.specs.declared.step.Step.TheVariants.{Exit, Fork}
-use Rattle.hp_model.specs.machine.Event.{IsEvent, has_maps_of}
-use Rattle.hp_model.specs.files.Fork.{forked}
-use Rattle.hp_model.specs.files.GiveBack.{punched, truncated, unlinked, unmapped_from, without_task}
-use Rattle.hp_model.specs.files.File.{Mount, maps_of, new_file, with_file}
-use Rattle.hp_model.specs.files.Fill.{lacking, range_filled, rising_nodes}
-use Rattle.hp_model.specs.pool.Grant.{is_full, rise}
-use Rattle.hp_model.specs.machine.Machine.{pool_of, rows_of}
-use Rattle.hp_model.specs.files.MakeMap.{asked, mapped, next_number, with_new}
-use Rattle.hp_model.specs.files.Mapping.{is_map}
-use Rattle.hp_model.specs.machine.Plan.{Reply, Slot, Outcome, Refused, Answered, Plan, Choice, gives}
-use Rattle.hp_model.specs.Profile.{most_bytes}
-use Rattle.hp_model.specs.machine.Promises.{is_usage}
-use Rattle.hp_model.specs.pool.Resize.{pool_event}
-use Rattle.hp_model.specs.machine.Settled.{IsSettledState}
-use Rattle.hp_model.specs.machine.SlotEvent.{edited}
-use Rattle.hp_model.specs.machine.SlotEvent.{load, slot_event, store, unentered}
-use Rattle.hp_model.specs.files.Spot.{Spot}
-use Rattle.hp_model.specs.machine.State.{Node, State, slot_at}
-use Rattle.hp_model.specs.machine.Step.{Answer_with, Do, IsScript, IsStep, Script, Where_mapped, exit_slots, fork_slots, or_undone, script, when_done}
-use Rattle.hp_model.specs.machine.Table.{Table, table_event}
-use Rattle.hp_model.specs.text.Writing.{IsWithinLimits}
+use Rattle.hp_model.proofs.Words.{Answer_with, Answered, Choice, Do, IsEvent, IsScript, IsSettledState, IsStep, IsWithinLimits, Mount, Node, Outcome, Plan, Refused, Reply, Script, Slot, Spot, State}
+use Rattle.hp_model.proofs.Words.{Table, Where_mapped, asked, edited, exit_slots, fork_slots, forked, gives, has_maps_of, is_full, is_map, is_usage, lacking, load, mapped, maps_of, most_bytes}
+use Rattle.hp_model.proofs.Words.{new_file, next_number, or_undone, pool_event, pool_of, punched, range_filled, rise, rising_nodes, rows_of, script, slot_at, slot_event, store, table_event, truncated}
+use Rattle.hp_model.proofs.Words.{unentered, unlinked, unmapped_from, when_done, with_file, with_new, without_task}
 use Rattle.hp_laws.proofs.counts.MountMoves.{IsSpot, spot_is}
 use Rattle.hp_laws.proofs.steps.Outcomes.{either_way, Always, always_weaker, event_ends, reply_of}
 use Rattle.hp_laws.proofs.steps.Whole.{by_event, is_whole, step_of}

@@ -1,24 +1,11 @@
 -- A step makes no name and no number but its own, and leaves no file that nobody has.
-use Rattle.std.proofs.Common.{arith}
+use Rattle.std.proofs.Common.{arith, ◌≡◌, ⊎_elim, subst, ℕ, ◌<◌, ◌==◌, Bool, true, false, None, Ok, Err, List, length, refl, sym, ap, ◌∙◌, slice_set}
 use Rattle.std.proofs.lemmas.Grind.{common_steps}
-use Rattle.std.proofs.Common.{◌≡◌, ⊎_elim, subst, ℕ, ◌<◌, ◌==◌, Bool, true, false, None, Ok, Err, List, length, refl, sym, ap, ◌∙◌}
-use Rattle.std.specs.List.{slice_set}
 use Rattle.std.proofs.lemmas.Bool.{eqb-true, false_from_ne_true, ltb-true}
-use Rattle.hp_model.specs.declared.answer.Answer.{Answer}
-use Rattle.hp_model.specs.declared.event.Event.{Event}
-use Rattle.hp_model.specs.declared.event.Event.TheVariants.{Tasks, Slot as OnSlot, Pool as OnPool}
-use Rattle.hp_model.specs.declared.event.SlotEvent.{SlotEvent}
+use Rattle.hp_laws.proofs.Variants.{Answer, Event, Exit, Fork, Pool as OnPool, Slot as OnSlot, SlotEvent, Step, Tasks}
 use Rattle.hp_model.specs.declared.event.SlotEvent.TheVariants as slot
-use Rattle.hp_model.specs.declared.step.Step.{Step}
-use Rattle.hp_model.specs.declared.step.Step.TheVariants.{Exit, Fork}
-use Rattle.hp_model.specs.machine.Event.{IsEvent}
-use Rattle.hp_model.specs.machine.Held.{AreOnce, MakesOnly, are_held, is_made_name, is_made_number}
-use Rattle.hp_model.specs.machine.Named.{map_named}
-use Rattle.hp_model.specs.machine.Plan.{Answered, Outcome, Refused, Reply, Slot}
-use Rattle.hp_model.specs.machine.Promises.{IsForkLeft}
-use Rattle.hp_model.specs.machine.Settled.{IsSettledState}
-use Rattle.hp_model.specs.machine.State.{State, slot_at}
-use Rattle.hp_model.specs.machine.Step.{IsScript, IsScripted, IsStep, Script, script}
+use Rattle.hp_model.proofs.Words.{Answered, AreOnce, IsEvent, IsForkLeft, IsScript, IsScripted, IsSettledState, IsStep, MakesOnly, Outcome, Refused, Reply, Script, Slot, State, are_held, is_made_name}
+use Rattle.hp_model.proofs.Words.{is_made_number, map_named, script, slot_at}
 use Rattle.hp_laws.specs.Balance.{left_by}
 use Rattle.hp_laws.proofs.ending.Fades.{AllOf, IsOf, exit_of, exit_refused, fork_of, script_keeps}
 use Rattle.hp_laws.proofs.ending.GoneAfter.{exit_gone}

@@ -1,26 +1,9 @@
 -- A step that does not lower nr leaves surplus pages within overcommit, or no more than there were.
 use Rattle.std.proofs.Common.{◌≡◌, ℕ, ◌+◌, ◌≤◌, true, refl, sym, ap, ◌∙◌, max, arith, length}
 use Rattle.std.proofs.lemmas.Bool.{cond_both}
-use Rattle.hp_model.specs.declared.event.Event.{Event}
-use Rattle.hp_model.specs.declared.event.Event.TheVariants.{Tasks, Slot as OnSlot, Pool as OnPool}
-use Rattle.hp_model.specs.declared.event.PoolEvent.{PoolEvent}
-use Rattle.hp_model.specs.declared.event.SlotEvent.{SlotEvent}
-use Rattle.hp_model.specs.declared.event.TableEvent.{TableEvent}
-use Rattle.hp_model.specs.declared.section.PoolAnswer.{PoolAnswer}
-use Rattle.hp_model.specs.declared.section.Section.{Section}
-use Rattle.hp_model.specs.declared.step.Step.{Step}
-use Rattle.hp_model.specs.declared.step.Step.TheVariants.{Exit, Fork}
-use Rattle.hp_model.specs.machine.Event.{IsEvent}
-use Rattle.hp_model.specs.machine.Machine.{committed_pages, counts_in, pool_of}
-use Rattle.hp_model.specs.machine.Plan.{Plan, Reply}
-use Rattle.hp_model.specs.machine.Settled.{IsSettledState}
-use Rattle.hp_model.specs.machine.SlotEvent.{slot_event}
-use Rattle.hp_model.specs.machine.State.{State, slot_at}
-use Rattle.hp_model.specs.machine.Step.{IsScripted, IsStep, script}
-use Rattle.hp_model.specs.pool.Grant.{can_grant}
-use Rattle.hp_model.specs.pool.Pool.{section}
-use Rattle.hp_model.specs.pool.PoolCounts.{Pool}
-use Rattle.hp_model.specs.pool.Resize.{pool_event}
+use Rattle.hp_laws.proofs.Variants.{Event, Exit, Fork, Pool as OnPool, PoolAnswer, PoolEvent, Section, Slot as OnSlot, SlotEvent, Step, TableEvent, Tasks}
+use Rattle.hp_model.proofs.Words.{IsEvent, IsScripted, IsSettledState, IsStep, Plan, Pool, Reply, State, can_grant, committed_pages, counts_in, pool_event, pool_of, script, section, slot_at}
+use Rattle.hp_model.proofs.Words.{slot_event}
 use Rattle.hp_model.proofs.RowMoves.{puts_are}
 use Rattle.hp_laws.specs.Laws.{pool_after, pool_left}
 use Rattle.hp_laws.proofs.ending.Fades.{IsOf, exit_of, fork_of, script_keeps}

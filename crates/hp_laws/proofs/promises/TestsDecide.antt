@@ -1,52 +1,22 @@
 -- A step is refused by the first of its tests that fails; one that fails none is done, where there are pages and memory.
-use Rattle.std.proofs.Common.{arith}
+use Rattle.std.proofs.Common.{arith, ◌≡◌, ◌⊎◌, inl, subst, ℕ, ◌+◌, ◌&&◌, ◌||◌, ◌==◌, Bool, true, false, not, None, Option, Some, is_some, Result as ResultOf, Ok, Err, List, [], ◌∷◌, ◌++◌, length}
+use Rattle.std.proofs.Common.{refl, sym, ap, ◌∙◌, if◌then◌else◌, nat_lt}
 use Rattle.std.proofs.lemmas.Grind.{common_steps}
 use Rattle.std.specs.List.{range_with_len}
-use Rattle.std.proofs.Common.{◌≡◌, ◌⊎◌, inl, subst, ℕ, ◌+◌, ◌&&◌, ◌||◌, ◌==◌, Bool, true, false, not, None, Option, Some, is_some, Result as ResultOf, Ok, Err, List, [], ◌∷◌}
-use Rattle.std.proofs.Common.{◌++◌, length, refl, sym, ap, ◌∙◌, if◌then◌else◌, nat_lt}
 use Rattle.std.proofs.lemmas.Bool.{ltb-false}
 use Rattle.std.proofs.lemmas.List.{get_or_past}
-use Rattle.hp_model.specs.declared.answer.Answer.TheVariants.{Done}
-use Rattle.hp_model.specs.declared.event.Event.TheVariants.{Tasks, Slot as OnSlot, Pool as OnPool}
+use Rattle.hp_laws.proofs.Variants.{BeyondEnd, CrossesPage, Done, Intent, Limits, NoPages, NoSuchFile, NoSuchMap, NoSuchSlot, NoSuchTask, OutOfRange, Pool as OnPool, PoolAnswer, PoolEvent, Read}
+use Rattle.hp_laws.proofs.Variants.{Refusal, Reserving, Sharing, Slot as OnSlot, SlotEvent, SlotTaken, Step, TakenByOwner, Tasks, TooMany}
 use Rattle.hp_model.specs.declared.event.PoolEvent.TheVariants as pool
-use Rattle.hp_model.specs.declared.event.SlotEvent.{SlotEvent}
 use Rattle.hp_model.specs.declared.event.SlotEvent.TheVariants as slot
 use Rattle.hp_model.specs.declared.event.TableEvent.TheVariants as table
-use Rattle.hp_model.specs.declared.limits.Limits.{Limits}
-use Rattle.hp_model.specs.declared.refusal.Refusal.{Refusal}
-use Rattle.hp_model.specs.declared.refusal.Refusal.TheVariants.{BeyondEnd, CrossesPage, NoPages, NoSuchFile, NoSuchMap, NoSuchSlot, NoSuchTask}
-use Rattle.hp_model.specs.declared.refusal.Refusal.TheVariants.{OutOfRange, SlotTaken, TakenByOwner, TooMany}
-use Rattle.hp_model.specs.declared.step.Intent.{Intent}
-use Rattle.hp_model.specs.declared.step.Intent.TheVariants.{Read}
-use Rattle.hp_model.specs.declared.step.Sharing.{Sharing}
-use Rattle.hp_model.specs.declared.step.Step.{Step}
 use Rattle.hp_model.specs.declared.step.Step.TheVariants as step
-use Rattle.hp_model.specs.files.Access.{access, private_access, shared_access}
-use Rattle.hp_model.specs.files.File.{Mount, cell_at, new_file}
-use Rattle.hp_model.specs.files.Mapping.{copy_of, is_map, is_shared, place_at}
-use Rattle.hp_model.specs.files.Options.{limits, wanted_of}
-use Rattle.hp_model.specs.files.Spot.{Spot, again, spot}
-use Rattle.hp_model.specs.files.Value.{value}
-use Rattle.hp_model.specs.machine.Event.{IsEvent, has_maps_of, planned, with_outcome}
-use Rattle.hp_model.specs.machine.Plan.{Answered, Choice, Outcome, Plan, Refused, Reply, Slot, continued, gives, grant, refuse, unless, with_value}
-use Rattle.hp_model.specs.machine.SlotEvent.{anon_tests, byte_access, byte_tests, bytes_answer, fault, fault_tests, file_named}
-use Rattle.hp_model.specs.machine.SlotEvent.{is_beyond, is_unmapped, load}
-use Rattle.hp_model.specs.machine.SlotEvent.{map_file, map_tests, mount_outcome, mount_pages, mount_section}
-use Rattle.hp_model.specs.machine.SlotEvent.{remount_outcome, slot_event, store}
-use Rattle.hp_model.specs.machine.State.{State, slot_at}
-use Rattle.hp_model.specs.machine.Step.{Answer_with, IsScript, IsScripted, IsStep, Script, finding, fork_slots, on_slot, only, or_undone, undone}
-use Rattle.hp_model.specs.machine.Table.{Table, home_of, or_refused}
-use Rattle.hp_model.specs.machine.Tests.{IsForkRefusedBy, IsRefusedBy, MeetsTests, cut_off_test, failed, failed_at, failed_by}
-use Rattle.hp_model.specs.machine.Tests.{failed_mount, failed_on, failed_remount, first_failed, if_there, is_short, refused_limits}
-use Rattle.hp_model.specs.files.MakeMap.{asked}
-use Rattle.hp_model.specs.machine.Machine.{pool_of, with_pool}
-use Rattle.hp_model.specs.declared.section.PoolAnswer.{PoolAnswer}
-use Rattle.hp_model.specs.pool.Pool.{section}
-use Rattle.hp_model.specs.pool.PoolCounts.{Pool}
-use Rattle.hp_model.specs.pool.Resize.{pool_event}
-use Rattle.hp_model.specs.declared.step.Reserving.{Reserving}
-use Rattle.hp_model.specs.declared.event.PoolEvent.{PoolEvent}
-use Rattle.hp_model.specs.Profile.{most_bytes}
+use Rattle.hp_model.proofs.Words.{Answer_with, Answered, Choice, IsEvent, IsForkRefusedBy, IsRefusedBy, IsScript, IsScripted, IsStep, MeetsTests, Mount, Outcome, Plan, Pool, Refused, Reply, Script}
+use Rattle.hp_model.proofs.Words.{Slot, Spot, State, Table, access, again, anon_tests, asked, byte_access, byte_tests, bytes_answer, cell_at, continued, copy_of, cut_off_test, failed, failed_at}
+use Rattle.hp_model.proofs.Words.{failed_by, failed_mount, failed_on, failed_remount, fault, fault_tests, file_named, finding, first_failed, fork_slots, gives, grant, has_maps_of, home_of, if_there}
+use Rattle.hp_model.proofs.Words.{is_beyond, is_map, is_shared, is_short, is_unmapped, limits, load, map_file, map_tests, most_bytes, mount_outcome, mount_pages, mount_section, new_file, on_slot}
+use Rattle.hp_model.proofs.Words.{only, or_refused, or_undone, place_at, planned, pool_event, pool_of, private_access, refuse, refused_limits, remount_outcome, section, shared_access, slot_at}
+use Rattle.hp_model.proofs.Words.{slot_event, spot, store, undone, unless, value, wanted_of, with_outcome, with_pool, with_value}
 use Rattle.hp_laws.proofs.ending.Fades.{exits_done}
 use Rattle.hp_laws.proofs.ending.RefusedForks.{either_with}
 use Rattle.hp_laws.proofs.promises.Shortage.{exits_lead}

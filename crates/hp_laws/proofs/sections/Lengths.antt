@@ -1,22 +1,11 @@
 -- The number of nodes never changes.
-use Rattle.std.proofs.Common.{arith}
+use Rattle.std.proofs.Common.{arith, ◌≡◌, ℕ, zero, suc, ◌+◌, ◌-◌, List, [], ◌∷◌, length, refl, ap, ◌∙◌}
 use Rattle.std.proofs.lemmas.Grind.{common_steps}
-use Rattle.std.proofs.Common.{◌≡◌, ℕ, zero, suc, ◌+◌, ◌-◌, List, [], ◌∷◌, length, refl, ap, ◌∙◌}
 use Rattle.std.proofs.lemmas.Bool.{cond_both}
 use Rattle.std.proofs.lemmas.List.{length-map, length-set}
-use Rattle.hp_model.specs.declared.event.PoolEvent.{PoolEvent}
-use Rattle.hp_model.specs.declared.node.Kind.TheVariants.{Free, Idle}
-use Rattle.hp_model.specs.declared.node.NodeRow.{NodeRow}
-use Rattle.hp_model.specs.pool.Grant.{granted, surplus_times}
-use Rattle.hp_model.specs.machine.Machine.{pool_of, with_pool, rows_of, node_of}
-use Rattle.hp_model.specs.pool.NodeRows.{NodeRows, at_row, row_at, near, put_row, take_row, taken_times}
-use Rattle.hp_model.specs.pool.NodeRows.{add_surplus_row, total_of, given_back}
-use Rattle.hp_model.specs.pool.Pool.{section, kept_times, puts_from, give_back_times}
-use Rattle.hp_model.specs.declared.section.Section.{Section}
-use Rattle.hp_model.specs.declared.section.Section.TheVariants.{GrantPage, TakePage}
-use Rattle.hp_model.specs.pool.PoolCounts.{Pool}
-use Rattle.hp_model.specs.pool.Resize.{pool_event, raised, raise_times, lowered, lower_times}
-use Rattle.hp_model.specs.machine.State.{State, Node}
+use Rattle.hp_laws.proofs.Variants.{Free, GrantPage, Idle, NodeRow, PoolEvent, Section, TakePage}
+use Rattle.hp_model.proofs.Words.{Node, NodeRows, Pool, State, add_surplus_row, at_row, give_back_times, given_back, granted, kept_times, lower_times, lowered, near, node_of, pool_event, pool_of}
+use Rattle.hp_model.proofs.Words.{put_row, puts_from, raise_times, raised, row_at, rows_of, section, surplus_times, take_row, taken_times, total_of, with_pool}
 
 long_row : (f : NodeRow → NodeRow) (i : ℕ) (rows : List NodeRow) → length (at_row f i rows) ≡ length rows
 long_row f i rows = length-set rows i (f (row_at rows i))

@@ -1,25 +1,15 @@
 -- The pool's numbers as sums over the slots are those that an event leaves.
 use Rattle.std.proofs.lemmas.Grind.{common_steps}
-use Rattle.std.proofs.Common.{◌≡◌, subst, ℕ, ◌+◌, ◌-◌, ◌<◌, ◌≤◌, None, List, [], ◌∷◌, length, map, refl, sym, ap, ◌∙◌, arith}
-use Rattle.std.specs.List.{sum, slice_set, range_with_len, All}
+use Rattle.std.proofs.Common.{◌≡◌, subst, ℕ, ◌+◌, ◌-◌, ◌<◌, ◌≤◌, None, List, [], ◌∷◌, length, map, refl, sym, ap, ◌∙◌, arith, sum, slice_set, All}
+use Rattle.std.specs.List.{range_with_len}
 use Rattle.std.proofs.lemmas.List.{length-map}
 use Rattle.std.proofs.lemmas.List.Elements.{All-head, All-tail, All-set}
 use Rattle.std.proofs.lemmas.List.Sums.{sum_by-set, sum-map, sum_by-le-sum_by}
 use Rattle.hp_laws.specs.Balance.{Always, Moves, taken_at, left_by, IsBalanced}
-use Rattle.hp_model.specs.machine.Event.{planned, with_outcome}
-use Rattle.hp_model.specs.machine.Machine.{pool_of, with_pool, rows_of, node_of, committed_pages, used_at}
-use Rattle.hp_model.specs.pool.NodeRows.{IsRow, used as row_used}
-use Rattle.hp_model.specs.machine.Plan.{Slot, Outcome, Plan, Finish, Ask, slot_committed, slot_pages, slot_pages_at}
-use Rattle.hp_model.specs.pool.Pool.{no_pages, section}
-use Rattle.hp_model.specs.declared.section.PoolAnswer.{PoolAnswer}
-use Rattle.hp_model.specs.declared.section.Section.{Section}
-use Rattle.hp_model.specs.declared.section.Section.TheVariants.{Grant}
-use Rattle.hp_model.specs.pool.PoolCounts.{Pool}
-use Rattle.hp_model.specs.machine.Settled.{IsSettledPool, IsSettledState}
+use Rattle.hp_model.proofs.Words.{Ask, Finish, IsRow, IsSettledPool, IsSettledState, IsSound, Node, Outcome, Plan, Pool, Slot, State, committed_pages, no_pages, node_of, planned, pool_of, rows_of}
+use Rattle.hp_model.proofs.Words.{section, slot_at, slot_committed, slot_pages, slot_pages_at, used as row_used, used_at, with_outcome, with_pool, with_slot}
+use Rattle.hp_laws.proofs.Variants.{Grant, NodeRow, PoolAnswer, Section}
 use Rattle.hp_laws.specs.Laws.{pool_after}
-use Rattle.hp_model.specs.machine.Sound.{IsSound}
-use Rattle.hp_model.specs.machine.State.{State, Node, with_slot, slot_at}
-use Rattle.hp_model.specs.declared.node.NodeRow.{NodeRow}
 use Rattle.hp_laws.proofs.sections.Lengths.{long_rows}
 use Rattle.hp_laws.proofs.counts.NodeSums.{slot_below, swap_le, once_in_range, pages-le-committed}
 use Rattle.hp_laws.proofs.sections.SectionTies.{IsWanted, used_is, same_list, relead, section_leads}

@@ -1,21 +1,15 @@
 -- What each section leaves, for slots that want it so.
 use Rattle.std.proofs.lemmas.Grind.{common_steps}
-use Rattle.std.proofs.Common.{◌≡◌, ⊎_elim, ℕ, ◌-◌, sym, zero, suc, ◌+◌, ◌<◌, ◌≤◌, Bool, true, false, ◌==◌, List, [], ◌∷◌, length, map, refl, ap, ◌∙◌, cond, arith, if◌then◌else◌}
-use Rattle.std.specs.List.{sum, slice_index_or, range_with_len}
+use Rattle.std.proofs.Common.{◌≡◌, ⊎_elim, ℕ, ◌-◌, sym, zero, suc, ◌+◌, ◌<◌, ◌≤◌, Bool, true, false, ◌==◌, List, [], ◌∷◌, length, map, refl, ap, ◌∙◌, cond, arith, if◌then◌else◌, sum, slice_index_or}
+use Rattle.std.specs.List.{range_with_len}
 use Rattle.std.proofs.lemmas.Bool.{cases_lt, eq-eqb, ne_eqb}
 use Rattle.std.proofs.lemmas.List.{get_or_past, length-map}
 use Rattle.std.proofs.lemmas.List.Sums.{sum_by-cons}
 use Rattle.hp_laws.specs.Balance.{raised_by, lowered_by, takes, taken_at, given_at}
-use Rattle.hp_model.specs.pool.Grant.{can_grant, granted}
-use Rattle.hp_model.specs.Lists.{edit_at}
-use Rattle.hp_model.specs.files.Fill.{rising_nodes}
-use Rattle.hp_model.specs.pool.NodeRows.{no_row, row_at, used as row_used}
-use Rattle.hp_model.specs.pool.Pool.{take_node, page_taken, pages_taken, puts_from, released, trimmed as settled_pool, filled_by, granted_at, no_pages, nr_answer, section, takes_at, takes_of}
-use Rattle.hp_model.specs.declared.section.PoolAnswer.{PoolAnswer}
-use Rattle.hp_model.specs.declared.section.Section.{Section}
-use Rattle.hp_model.specs.declared.section.Section.TheVariants.{Grant, GrantPage, TakePage, FillPages, GiveBack, ReadAndGrant, ReadAndGiveBack, GrantAndReturn}
-use Rattle.hp_model.specs.pool.PoolCounts.{Pool, used}
-use Rattle.hp_model.specs.machine.Settled.{IsSettledPool}
+use Rattle.hp_model.proofs.Words.{IsSettledPool, Pool, can_grant, edit_at, filled_by, granted, granted_at, no_pages, no_row, nr_answer, page_taken, pages_taken, puts_from, released, rising_nodes}
+use Rattle.hp_model.proofs.Words.{row_at, section, take_node, takes_at, takes_of, trimmed as settled_pool, used as row_used}
+use Rattle.hp_laws.proofs.Variants.{FillPages, GiveBack, Grant, GrantAndReturn, GrantPage, PoolAnswer, ReadAndGiveBack, ReadAndGrant, Section, TakePage}
+use Rattle.hp_model.specs.pool.PoolCounts.{used}
 use Rattle.hp_model.proofs.RowMoves.{row_frames, used_sum}
 use Rattle.hp_laws.proofs.lists.NodesOf.{count_of, counted_from, nodes_all}
 use Rattle.hp_laws.proofs.sections.Sections.{Leads, long_as, unchanged, committed, took_one, gave_back}

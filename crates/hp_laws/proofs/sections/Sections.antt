@@ -1,20 +1,14 @@
 -- Each section leaves the pool settled, with what the slots use and are committed.
 use Rattle.std.proofs.lemmas.Grind.{common_steps}
-use Rattle.std.proofs.Common.{◌≡◌, subst, ℕ, zero, suc, ◌+◌, ◌-◌, ◌<◌, ◌≤◌, true, List, [], ◌∷◌, length, map, min, max, refl, sym, ap, ◌∙◌, arith}
-use Rattle.std.specs.Prelude.{nat_lt}
-use Rattle.std.specs.List.{sum, slice_index_or, All}
+use Rattle.std.proofs.Common.{◌≡◌, subst, ℕ, zero, suc, ◌+◌, ◌-◌, ◌<◌, ◌≤◌, true, List, [], ◌∷◌, length, map, min, max, refl, sym, ap, ◌∙◌, arith, nat_lt, sum, slice_index_or, All}
 use Rattle.std.proofs.lemmas.Bool.{or_cases, leb-true, eqb-true, cond_both, ltb-true, ltb-false}
 use Rattle.std.proofs.lemmas.List.{length-map}
 use Rattle.std.proofs.lemmas.List.Elements.{All-head, All-tail}
 use Rattle.std.proofs.lemmas.List.Sums.{sum_by-cons}
-use Rattle.hp_model.specs.declared.node.NodeRow.{NodeRow}
-use Rattle.hp_model.specs.pool.Grant.{can_grant, granted}
-use Rattle.hp_model.specs.Lists.{edit_at}
-use Rattle.hp_model.specs.pool.NodeRows.{NodeRows, IsRow, used as row_used, total_of, free_of, surp_of, frames_of, promoted, grown, shrunk, demoted}
-use Rattle.hp_model.specs.pool.Pool.{take_node, page_taken, puts_from, released, trimmed}
-use Rattle.hp_model.specs.pool.PoolCounts.{Pool, used, rsvd}
-use Rattle.hp_model.specs.pool.Resize.{raised, raise_times, lowered, lower_times, set_nr}
-use Rattle.hp_model.specs.machine.Settled.{IsSettledPool}
+use Rattle.hp_laws.proofs.Variants.{NodeRow}
+use Rattle.hp_model.proofs.Words.{IsRow, IsSettledPool, NodeRows, Pool, can_grant, demoted, edit_at, frames_of, free_of, granted, grown, lower_times, lowered, page_taken, promoted, puts_from}
+use Rattle.hp_model.proofs.Words.{raise_times, raised, released, rsvd, set_nr, shrunk, surp_of, take_node, total_of, trimmed, used as row_used}
+use Rattle.hp_model.specs.pool.PoolCounts.{used}
 use Rattle.hp_model.proofs.RowMoves.{Moved, row_frames, same_frames, added, removed, one_taken, put, put_rows, puts_are, used_sum, one_promoted, one_grown, one_shrunk, one_demoted}
 
 -- q is settled and has these numbers

@@ -1,39 +1,17 @@
 -- What takes away leaves less to take.
 use Rattle.std.proofs.lemmas.Grind.{common_steps}
-use Rattle.std.proofs.Common.{◌≡◌, ℕ, zero, suc, ◌+◌, ◌-◌, ◌*◌, ◌<◌, ◌≤◌, Bool, true, false, not, ◌||◌, ◌==◌, None, Some}
-use Rattle.std.proofs.Common.{Ok, Err, Option, List, [], ◌∷◌, length, map, cond, arith, refl, sym, ap, ◌∙◌, subst}
-use Rattle.std.specs.Prelude.{is_some}
-use Rattle.std.specs.List.{filter, find, sum, slice_index_or, list_any}
-use Rattle.std.specs.Option.{option_map}
+use Rattle.std.proofs.Common.{◌≡◌, ℕ, zero, suc, ◌+◌, ◌-◌, ◌*◌, ◌<◌, ◌≤◌, Bool, true, false, not, ◌||◌, ◌==◌, None, Some, Ok, Err, Option, List, [], ◌∷◌, length, map, cond, arith, refl, sym, ap, ◌∙◌}
+use Rattle.std.proofs.Common.{subst, is_some, filter, find, sum, slice_index_or, option_map}
+use Rattle.std.specs.List.{list_any}
 use Rattle.std.proofs.lemmas.Bool.{cond_both, eqb-true, ltb-true}
 use Rattle.std.proofs.lemmas.List.{length-map}
 use Rattle.std.proofs.lemmas.List.Sums.{sum_by-cons}
-use Rattle.hp_model.specs.declared.answer.Answer.TheVariants.{Done}
-use Rattle.hp_model.specs.declared.entry.PoolEntry.{PoolEntry}
-use Rattle.hp_model.specs.declared.entry.PoolEntry.TheVariants.{OfPool, OfSlot}
-use Rattle.hp_model.specs.declared.event.PoolEvent.{PoolEvent}
+use Rattle.hp_laws.proofs.Variants.{Done, NoSuchTask, OfPool, OfSlot, PoolEntry, PoolEvent, Remove, SlotEvent, TableEvent, TaskExists, TooMany}
 use Rattle.hp_model.specs.declared.event.PoolEvent.TheVariants.{Nr}
-use Rattle.hp_model.specs.declared.event.SlotEvent.{SlotEvent}
 use Rattle.hp_model.specs.declared.event.SlotEvent.TheVariants as slot
-use Rattle.hp_model.specs.declared.event.TableEvent.{TableEvent}
-use Rattle.hp_model.specs.declared.event.TableEvent.TheVariants.{Remove}
-use Rattle.hp_model.specs.declared.refusal.Refusal.TheVariants.{NoSuchTask, TaskExists, TooMany}
-use Rattle.hp_model.specs.files.File.{Mount}
-use Rattle.hp_model.specs.files.MakeMap.{tasks_of}
-use Rattle.hp_model.specs.files.Mapping.{Map, is_of}
-use Rattle.hp_model.specs.Lists.{distinct, is_among}
-use Rattle.hp_model.specs.machine.Event.{has_maps_of}
-use Rattle.hp_model.specs.machine.Plan.{Choice, Reply, Slot}
-use Rattle.hp_model.specs.machine.Settled.{IsSettledPool}
-use Rattle.hp_model.specs.machine.SlotEvent.{slot_event}
-use Rattle.hp_model.specs.machine.Table.{Table, added, home_of, is_crowded, is_known, or_refused, removed, table_event, when_known}
-use Rattle.hp_model.specs.pool.NodeRows.{frames_of, used as row_used}
-use Rattle.hp_model.specs.pool.Pool.{puts_from, released, trimmed}
-use Rattle.hp_model.specs.pool.PoolCounts.{Pool}
-use Rattle.hp_model.specs.pool.Resize.{pool_event, set_nr}
-use Rattle.hp_model.specs.Profile.{most_tasks}
-use Rattle.hp_model.specs.threads.Closing.{GivesWhatIsInUse, IsInUse, KeepsPlaces, is_giving_back, removes_maps, removes_task, to_exit, to_return}
-use Rattle.hp_model.specs.threads.PoolRun.{IsPoolStep}
+use Rattle.hp_model.proofs.Words.{Choice, GivesWhatIsInUse, IsInUse, IsPoolStep, IsSettledPool, KeepsPlaces, Map, Mount, Pool, Reply, Slot, Table, added, distinct, frames_of, has_maps_of, home_of}
+use Rattle.hp_model.proofs.Words.{is_among, is_crowded, is_giving_back, is_known, is_of, most_tasks, or_refused, pool_event, puts_from, released, removed, removes_maps, removes_task, set_nr}
+use Rattle.hp_model.proofs.Words.{slot_event, table_event, tasks_of, to_exit, to_return, trimmed, used as row_used, when_known}
 use Rattle.hp_model.proofs.RowMoves.{same_frames, used_sum}
 use Rattle.hp_laws.specs.Balance.{Always, left_by}
 use Rattle.hp_laws.proofs.settled.FewTasks.{FewSlot, exit_fewer, slots_stay_few}

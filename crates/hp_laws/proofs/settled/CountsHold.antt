@@ -1,24 +1,15 @@
 -- The counts of a settled machine are sums over files and maps, and limits and minimums hold.
 use Rattle.std.proofs.lemmas.Grind.{common_steps}
-use Rattle.std.proofs.Common.{◌≡◌, ⊎_elim, subst, ℕ, ◌+◌, ◌<◌, ◌≤◌, None, List, length, ap, ◌∙◌, arith}
-use Rattle.std.specs.List.{sum, slice_set, slice_index_or, range_with_len}
+use Rattle.std.proofs.Common.{◌≡◌, ⊎_elim, subst, ℕ, ◌+◌, ◌<◌, ◌≤◌, None, List, length, ap, ◌∙◌, arith, sum, slice_set, slice_index_or}
+use Rattle.std.specs.List.{range_with_len}
 use Rattle.std.proofs.lemmas.Bool.{ltb-true}
 use Rattle.std.proofs.lemmas.List.Sums.{sum-map}
-use Rattle.hp_model.specs.declared.event.Event.{Event}
-use Rattle.hp_model.specs.declared.event.Event.TheVariants.{Slot as OnSlot}
+use Rattle.hp_laws.proofs.Variants.{Event, Slot as OnSlot}
 use Rattle.hp_laws.specs.Balance.{IsBalanced, IsLimited, left_by}
-use Rattle.hp_model.specs.machine.Plan.{IsWithinLimit, slot_usage}
-use Rattle.hp_model.specs.machine.Event.{after, CanHappen, planned}
-use Rattle.hp_model.specs.machine.Machine.{committed_pages, pool_of, with_pool, used_at, used_pages}
-use Rattle.hp_model.specs.pool.NodeRows.{total_of}
-use Rattle.hp_model.specs.machine.Plan.{Reply, Slot, Plan, Finish, Ask, Choice, slot_pages, slot_pages_at}
-use Rattle.hp_model.specs.pool.Pool.{section}
-use Rattle.hp_model.specs.pool.PoolCounts.{counts_by, used}
-use Rattle.hp_model.specs.machine.Promises.{least_of}
-use Rattle.hp_model.specs.machine.Settled.{IsSettledState}
+use Rattle.hp_model.proofs.Words.{Ask, CanHappen, Choice, Finish, IsSettledState, IsSound, IsWithinLimit, Plan, Reply, Slot, State, after, committed_pages, counts_by, least_of, planned, pool_of}
+use Rattle.hp_model.proofs.Words.{section, slot_at, slot_pages, slot_pages_at, slot_usage, total_of, used_at, used_pages, with_pool, with_slot}
+use Rattle.hp_model.specs.pool.PoolCounts.{used}
 use Rattle.hp_laws.specs.Laws.{CountsAreSums, LimitsHold}
-use Rattle.hp_model.specs.machine.Sound.{IsSound}
-use Rattle.hp_model.specs.machine.State.{State, slot_at, with_slot}
 use Rattle.hp_laws.proofs.counts.NodeSums.{slot_below, slot_above, swap_le, sum_above, once_in_range, far_range}
 use Rattle.hp_model.proofs.RowMoves.{used_sum}
 use Rattle.hp_laws.proofs.sections.SectionTies.{used_is}

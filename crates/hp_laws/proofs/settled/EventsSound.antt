@@ -1,40 +1,20 @@
 -- Each event on a slot leaves it sound, whatever fresh stamp is chosen.
-use Rattle.std.proofs.Common.{◌≡◌, ℕ, ◌+◌, ◌-◌, ◌<◌, ◌≤◌, ◌&&◌, ◌==◌, Bool, true, false, not, Option, None, Some, is_some}
-use Rattle.std.proofs.Common.{List, [], ◌∷◌, ◌++◌, length, map, set, arith, refl, sym, ap, ◌∙◌, subst, if◌then◌else◌}
-use Rattle.std.specs.List.{count_by, flat_map, list_any}
+use Rattle.std.proofs.Common.{◌≡◌, ℕ, ◌+◌, ◌-◌, ◌<◌, ◌≤◌, ◌&&◌, ◌==◌, Bool, true, false, not, Option, None, Some, is_some, List, [], ◌∷◌, ◌++◌, length, map, set, arith, refl, sym, ap, ◌∙◌, subst}
+use Rattle.std.proofs.Common.{if◌then◌else◌, count_by, flat_map}
+use Rattle.std.specs.List.{list_any}
 use Rattle.std.specs.Str.{bytes_eq}
 use Rattle.std.proofs.lemmas.Bool.{and_parts, both_ways, cond_both, eq-eqb, eqb-true, leb-false, not-true}
 use Rattle.std.proofs.lemmas.List.{get_or_default, length-set}
 use Rattle.std.proofs.lemmas.List.Sums.{sum_by-append, sum_by-cons}
 use Rattle.std.proofs.lemmas.Slice.Eq.{bytes_eq-Decides}
-use Rattle.hp_model.specs.declared.answer.Answer.TheVariants.{Done}
-use Rattle.hp_model.specs.declared.cell.Cell.{Cell}
-use Rattle.hp_model.specs.declared.cell.Cell.TheVariants.{Present}
+use Rattle.hp_laws.proofs.Variants.{BeyondEnd, Cell, Done, Gone, GrantPage, Intent, Limits, Live, Place, Present, Read, Reserving, Sharing, Write}
 use Rattle.hp_model.specs.declared.event.SlotEvent.TheVariants as slot
-use Rattle.hp_model.specs.declared.limits.Limits.{Limits}
-use Rattle.hp_model.specs.declared.place.Place.{Place}
-use Rattle.hp_model.specs.declared.place.Place.TheVariants.{Gone, Live}
-use Rattle.hp_model.specs.declared.refusal.Refusal.TheVariants.{BeyondEnd}
-use Rattle.hp_model.specs.declared.section.Section.TheVariants.{GrantPage}
-use Rattle.hp_model.specs.declared.step.Intent.{Intent}
-use Rattle.hp_model.specs.declared.step.Intent.TheVariants.{Read, Write}
-use Rattle.hp_model.specs.declared.step.Reserving.{Reserving}
-use Rattle.hp_model.specs.declared.step.Sharing.{Sharing}
-use Rattle.hp_model.specs.files.Access.{access, new_copy, private_access, shared_access, uncopied_access}
-use Rattle.hp_model.specs.files.CopyWrite.{copy_write, is_held_once, taken_back}
-use Rattle.hp_model.specs.files.File.{File, Mount, cell_at, file_in, has_page, map_in, maps_of, new_file, with_cell, with_file, with_map}
-use Rattle.hp_model.specs.files.GiveBack.{file_unmapped, file_without, is_left, map_unmapped, punched, truncated, unlinked, without_task, swept}
-use Rattle.hp_model.specs.pool.Grant.{is_full, rise}
-use Rattle.hp_model.specs.Lists.{edit_at, is_among}
-use Rattle.hp_model.specs.files.MakeMap.{mapped, new_map, next_number}
-use Rattle.hp_model.specs.files.Mapping.{Map, copy_of, is_map, is_of, is_shared, is_unconsumed, map_punched, no_map, place_at, with_place, without_range}
-use Rattle.hp_model.specs.files.MountCounts.{stamps_of}
-use Rattle.hp_model.specs.files.Page.{Copy, Page, overwritten}
-use Rattle.hp_model.specs.machine.Plan.{Ask, Answered, Choice, Finish, Outcome, Slot, unless}
-use Rattle.hp_model.specs.machine.Sound.{HasCopy, IsSound, IsSoundFile, IsSoundMap, IsSoundMount, is_stamp}
-use Rattle.hp_model.specs.machine.SlotEvent.{byte_access, fault, file_named, has_name, is_beyond, on_mount}
-use Rattle.hp_model.specs.files.Spot.{Spot, cell_written, copied, file_written, map_written, place_written, written}
-use Rattle.hp_model.specs.files.Value.{value}
+use Rattle.hp_model.proofs.Words.{Answered, Ask, Choice, Copy, File, Finish, HasCopy, IsSound, IsSoundFile, IsSoundMap, IsSoundMount, Map, Mount, Outcome, Page, Slot, Spot, access, byte_access}
+use Rattle.hp_model.proofs.Words.{cell_at, cell_written, copied, copy_of, copy_write, edit_at, fault, file_in, file_named, file_unmapped, file_without, file_written, has_name, has_page, is_among}
+use Rattle.hp_model.proofs.Words.{is_beyond, is_full, is_held_once, is_left, is_map, is_of, is_shared, is_stamp, is_unconsumed, lacking, map_in, map_punched, map_unmapped, map_written, mapped}
+use Rattle.hp_model.proofs.Words.{maps_of, new_copy, new_file, new_map, next_number, no_map, on_mount, overwritten, place_at, place_written, private_access, punched, range_filled, rise, rising_nodes}
+use Rattle.hp_model.proofs.Words.{shared_access, stamps_of, swept, taken_back, truncated, uncopied_access, unless, unlinked, value, with_cell, with_file, with_map, with_place, without_range}
+use Rattle.hp_model.proofs.Words.{without_task, written}
 use Rattle.hp_model.proofs.Editing.{length-edit_at}
 use Rattle.hp_laws.specs.Balance.{Always, left_by}
 use Rattle.hp_laws.specs.Laws.{SlotsStaySound}
@@ -55,7 +35,6 @@ use Rattle.hp_laws.proofs.accesses.SlotShows.{always_gives, always_mount, always
 use Rattle.hp_laws.proofs.steps.SlotsBalanced.{new_in_file}
 use Rattle.hp_laws.proofs.settled.LeavesWalk.{Leaves, leaves_walk}
 use Rattle.hp_laws.proofs.steps.Walk.{walk}
-use Rattle.hp_model.specs.files.Fill.{lacking, range_filled, rising_nodes}
 use Rattle.hp_laws.proofs.counts.Filled.{length-filled}
 use Rattle.hp_laws.proofs.lists.NodesOf.{length-nodes_of}
 

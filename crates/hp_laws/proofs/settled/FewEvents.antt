@@ -4,17 +4,9 @@ use Rattle.std.specs.List.{range_with_len}
 use Rattle.std.proofs.lemmas.Bool.{cond_both}
 use Rattle.std.proofs.lemmas.List.{length-append}
 use Rattle.hp_model.specs.declared.answer.Answer.TheVariants as answer
-use Rattle.hp_model.specs.declared.event.Event.{Event}
-use Rattle.hp_model.specs.declared.event.Event.TheVariants.{Slot as OnSlot, Tasks}
-use Rattle.hp_model.specs.declared.event.SlotEvent.{SlotEvent}
+use Rattle.hp_laws.proofs.Variants.{Attach, Connect, Event, Exit, Fork, NoSuchSlot, Refusal, Slot as OnSlot, SlotEvent, Step, Tasks}
 use Rattle.hp_model.specs.declared.event.TableEvent.TheVariants as table
-use Rattle.hp_model.specs.declared.refusal.Refusal.{Refusal}
-use Rattle.hp_model.specs.declared.refusal.Refusal.TheVariants.{NoSuchSlot}
-use Rattle.hp_model.specs.declared.step.Step.{Step}
-use Rattle.hp_model.specs.declared.step.Step.TheVariants.{Connect, Attach, Fork, Exit}
-use Rattle.hp_model.specs.machine.Plan.{Reply}
-use Rattle.hp_model.specs.machine.Step.{Answer_with, Do, Script, Where_mapped, exit_slots, fork_slots, home_in, on_slot, only, or_undone, script, undone, when_done}
-use Rattle.hp_model.specs.threads.Telling.{Tells, TellsFront, most_receipts}
+use Rattle.hp_model.proofs.Words.{Answer_with, Do, Reply, Script, Tells, TellsFront, Where_mapped, exit_slots, fork_slots, home_in, most_receipts, on_slot, only, or_undone, script, undone, when_done}
 use Rattle.hp_laws.proofs.sections.SectionTies.{long_range}
 
 -- the script makes no more events than that

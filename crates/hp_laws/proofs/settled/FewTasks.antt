@@ -1,30 +1,14 @@
 -- A slot has maps of no more tasks than there may be, whatever event it carries out.
 use Rattle.std.proofs.lemmas.Grind.{common_steps}
-use Rattle.std.proofs.Common.{◌≡◌, ℕ, ◌+◌, ◌<◌, ◌≤◌, Bool, true, false, ◌&&◌, ◌||◌, ◌==◌, not, None, Some, List}
-use Rattle.std.proofs.Common.{[], ◌∷◌, ◌++◌, length, map, cond, arith, refl, sym, ap, ◌∙◌, subst, nat_lt, nat_le}
-use Rattle.std.specs.List.{count_by, filter, flat_map, sum_by}
+use Rattle.std.proofs.Common.{◌≡◌, ℕ, ◌+◌, ◌<◌, ◌≤◌, Bool, true, false, ◌&&◌, ◌||◌, ◌==◌, not, None, Some, List, [], ◌∷◌, ◌++◌, length, map, cond, arith, refl, sym, ap, ◌∙◌, subst, nat_lt, nat_le}
+use Rattle.std.proofs.Common.{count_by, filter, flat_map, sum_by}
 use Rattle.std.proofs.lemmas.Bool.{cond_both, eqb-true, leb-false, ltb-false}
 use Rattle.std.proofs.lemmas.List.Sums.{sum_by-append, sum_by-cons}
-use Rattle.hp_model.specs.declared.answer.Answer.TheVariants.{Done}
-use Rattle.hp_model.specs.declared.event.SlotEvent.{SlotEvent}
+use Rattle.hp_laws.proofs.Variants.{Done, Read, Reserving, Sharing, SlotEvent, Write}
 use Rattle.hp_model.specs.declared.event.SlotEvent.TheVariants as slot
-use Rattle.hp_model.specs.declared.step.Intent.TheVariants.{Read, Write}
-use Rattle.hp_model.specs.declared.step.Reserving.{Reserving}
-use Rattle.hp_model.specs.declared.step.Sharing.{Sharing}
-use Rattle.hp_model.specs.files.Access.{access}
-use Rattle.hp_model.specs.files.File.{File, Mount, maps_of, new_file, with_file}
-use Rattle.hp_model.specs.files.Fork.{forked}
-use Rattle.hp_model.specs.files.GiveBack.{file_unmapped, file_without, is_kept, punched, swept, truncated, unlinked, without_task}
-use Rattle.hp_model.specs.Lists.{distinct, is_among}
-use Rattle.hp_model.specs.files.MakeMap.{mapped, new_map, next_number, tasks_of, with_new}
-use Rattle.hp_model.specs.files.Mapping.{Map, is_map, is_of, map_punched}
-use Rattle.hp_model.specs.machine.Plan.{Answered, Choice, Outcome, Slot, gives}
-use Rattle.hp_model.specs.machine.Promises.{Shape, shape_of}
-use Rattle.hp_model.specs.machine.SlotEvent.{byte_access, fault_tests}
-use Rattle.hp_model.specs.machine.SlotEvent.{is_new_task_over, on_mount}
-use Rattle.hp_model.specs.machine.SlotEvent.{slot_event, umount_tests}
-use Rattle.hp_model.specs.Profile.{most_maps, most_tasks}
-use Rattle.hp_model.specs.files.Spot.{Spot, file_written, written}
+use Rattle.hp_model.proofs.Words.{Answered, Choice, File, Map, Mount, Outcome, Shape, Slot, Spot, access, byte_access, distinct, fault_tests, file_unmapped, file_without, file_written, forked, gives}
+use Rattle.hp_model.proofs.Words.{is_among, is_kept, is_map, is_new_task_over, is_of, lacking, map_punched, mapped, maps_of, most_maps, most_tasks, new_file, new_map, next_number, on_mount, punched}
+use Rattle.hp_model.proofs.Words.{range_filled, rising_nodes, shape_of, slot_event, swept, tasks_of, truncated, umount_tests, unlinked, with_file, with_new, without_task, written}
 use Rattle.hp_model.proofs.Distinct.{is_among-append, length_if, same_members}
 use Rattle.hp_laws.specs.Balance.{Always, left_by}
 use Rattle.hp_laws.proofs.names.Accessed.{access_on, bytes_on, key_edit}
@@ -36,7 +20,6 @@ use Rattle.hp_laws.proofs.lists.Places.{sum_by-filter_le, sum_by-map_le}
 use Rattle.hp_laws.proofs.accesses.Shown.{On, on_follows}
 use Rattle.hp_laws.proofs.lists.AtMostOne.{bit}
 use Rattle.hp_laws.proofs.accesses.SlotShows.{always_gives, always_mount, always_remount, always_unless}
-use Rattle.hp_model.specs.files.Fill.{lacking, range_filled, rising_nodes}
 use Rattle.hp_laws.proofs.steps.Walk.{AreFewMaps, walk}
 use Rattle.hp_laws.proofs.settled.LeavesWalk.{Leaves, leaves_walk}
 use Rattle.hp_laws.proofs.names.Meanings.{written_key}

@@ -1,35 +1,17 @@
 -- The law of joined runs: an induction on the list, in which the pool's numbers stay the sums over the slots.
 use Rattle.std.proofs.lemmas.Grind.{common_steps}
-use Rattle.std.proofs.Common.{◌≡◌, ℕ, ◌+◌, ◌<◌, ◌==◌, Bool, false, cond, Option, None, Some, List, [], ◌∷◌, length, map, refl, sym, ap, ◌∙◌, subst, arith}
-use Rattle.std.specs.List.{All, slice_index_or, slice_set}
+use Rattle.std.proofs.Common.{◌≡◌, ℕ, ◌+◌, ◌<◌, ◌==◌, Bool, false, cond, Option, None, Some, List, [], ◌∷◌, length, map, refl, sym, ap, ◌∙◌, subst, arith, All, slice_index_or, slice_set}
 use Rattle.std.proofs.lemmas.Bool.{eq-eqb}
 use Rattle.std.proofs.lemmas.Bool.Decides.{nat_tests}
 use Rattle.std.proofs.lemmas.List.{length-set}
 use Rattle.std.proofs.lemmas.List.Elements.{All-head, All-tail}
-use Rattle.hp_model.specs.declared.entry.Asked.{Asked}
-use Rattle.hp_model.specs.declared.entry.PoolEntry.{PoolEntry}
-use Rattle.hp_model.specs.declared.entry.PoolEntry.TheVariants.{OfPool}
-use Rattle.hp_model.specs.declared.entry.SlotEntry.{SlotEntry}
-use Rattle.hp_model.specs.declared.entry.TableEntry.{TableEntry}
-use Rattle.hp_model.specs.declared.event.Event.TheVariants.{Slot as OnSlot, Pool as OnPool}
-use Rattle.hp_model.specs.declared.event.PoolEvent.{PoolEvent}
-use Rattle.hp_model.specs.machine.Event.{IsEvent, IsEventRun, CanHappen, after, planned, with_outcome, asked_pool, with_table, with_pool_reply}
-use Rattle.hp_model.specs.threads.JointRun.{slot_trail, Entry, InTasks, InSlot, InPool, Item, option_cons, keep, numbered, task_entry}
-use Rattle.hp_model.specs.threads.JointRun.{slot_entry, section_entry, pool_entry, placed, task_part, slot_part, pool_part, IsThere, event_of, HasParts}
+use Rattle.hp_laws.proofs.Variants.{Asked, OfPool, Pool as OnPool, PoolAnswer, PoolEntry, PoolEvent, Slot as OnSlot, SlotEntry, TableEntry}
+use Rattle.hp_model.proofs.Words.{Ask, CanHappen, Choice, Entry, Finish, Gives, Goes, HasParts, InPool, InSlot, InTasks, IsEvent, IsEventRun, IsLocalRun, IsPoolRun, IsSettledState, IsTableRun}
+use Rattle.hp_model.proofs.Words.{IsThere, Item, Outcome, Plan, Pool, Reply, Slot, State, Table, after, asked_pool, event_of, keep, numbered, option_cons, placed, planned, pool_entry, pool_of}
+use Rattle.hp_model.proofs.Words.{pool_part, section, section_entry, slot_at, slot_entry, slot_event, slot_part, slot_trail, task_entry, task_part, with_outcome, with_pool, with_pool_reply, with_slot}
+use Rattle.hp_model.proofs.Words.{with_table}
 use Rattle.hp_laws.specs.Laws.{JoinedLaw}
-use Rattle.hp_model.specs.threads.LocalRun.{Gives, Goes, IsLocalRun}
-use Rattle.hp_model.specs.machine.Machine.{pool_of, with_pool}
-use Rattle.hp_model.specs.machine.Plan.{Reply, Slot, Outcome, Plan, Finish, Ask, Choice}
-use Rattle.hp_model.specs.pool.Pool.{section}
-use Rattle.hp_model.specs.declared.section.PoolAnswer.{PoolAnswer}
-use Rattle.hp_model.specs.pool.PoolCounts.{Pool}
-use Rattle.hp_model.specs.threads.PoolRun.{IsPoolRun}
-use Rattle.hp_model.specs.machine.Settled.{IsSettledState}
 use Rattle.hp_laws.specs.Laws.{pool_after}
-use Rattle.hp_model.specs.machine.SlotEvent.{slot_event}
-use Rattle.hp_model.specs.machine.State.{State, slot_at, with_slot}
-use Rattle.hp_model.specs.machine.Table.{Table}
-use Rattle.hp_model.specs.threads.TableRun.{IsTableRun}
 use Rattle.hp_laws.proofs.sections.Lengths.{long_section, long_event, long_with_pool}
 use Rattle.hp_laws.proofs.settled.StaysSettled.{pool_is_tied, event_settled}
 use Rattle.hp_laws.proofs.steps.Tells.{Tells, slot_event_tells}

@@ -1,28 +1,14 @@
 -- What holds of each mount that a change leaves holds of each that an event leaves.
 use Rattle.std.proofs.Common.{◌≡◌, ℕ, false, Some, None, is_some, List, [], ◌∷◌}
-use Rattle.hp_model.specs.declared.answer.Answer.TheVariants.{Done, MapNo}
-use Rattle.hp_model.specs.declared.step.Intent.{Intent}
-use Rattle.hp_model.specs.declared.step.Intent.TheVariants.{Read}
-use Rattle.hp_model.specs.declared.step.Reserving.{Reserving}
-use Rattle.hp_model.specs.declared.step.Sharing.{Sharing}
-use Rattle.hp_model.specs.files.File.{File, Mount, new_file, with_file}
-use Rattle.hp_model.specs.files.Fill.{lacking, range_filled, rising_nodes}
-use Rattle.hp_model.specs.files.Fork.{forked}
-use Rattle.hp_model.specs.files.GiveBack.{punched, swept, truncated, unlinked, unmapped_from, without_task}
-use Rattle.hp_model.specs.files.MakeMap.{asked, mapped, next_number, with_new}
-use Rattle.hp_model.specs.declared.refusal.Refusal.TheVariants.{MountFull, OutOfMemory}
-use Rattle.hp_model.specs.pool.Grant.{is_full, rise}
-use Rattle.hp_model.specs.machine.Plan.{Answered, Choice, gives}
-use Rattle.hp_model.specs.machine.SlotEvent.{byte_access, bytes_answer, fault, file_named, has_name, store, unentered}
-use Rattle.hp_model.specs.files.Spot.{Spot, again, spot}
-use Rattle.hp_model.specs.files.Value.{value}
+use Rattle.hp_laws.proofs.Variants.{Done, Intent, MapNo, MountFull, OutOfMemory, Read, Reserving, Sharing}
+use Rattle.hp_model.proofs.Words.{Answered, Choice, File, Mount, Spot, again, asked, byte_access, bytes_answer, fault, file_named, forked, gives, has_name, is_full, is_map, lacking, mapped, new_file}
+use Rattle.hp_model.proofs.Words.{next_number, punched, range_filled, rise, rising_nodes, spot, store, swept, truncated, unentered, unlinked, unmapped_from, value, with_file, with_new, without_task}
 use Rattle.hp_laws.specs.Balance.{Always}
 use Rattle.hp_laws.proofs.counts.MountMoves.{IsFileAt, IsSpot, file_at, spot_is}
 use Rattle.hp_laws.proofs.steps.Outcomes.{always_then}
 use Rattle.hp_laws.proofs.accesses.Shown.{On, on_follows}
 use Rattle.hp_laws.proofs.accesses.SlotShows.{always_fill, always_gives, always_grant}
 use Rattle.hp_laws.proofs.steps.Walk.{AreFewMaps, ForksFewMaps, Walks}
-use Rattle.hp_model.specs.files.Mapping.{is_map}
 
 module _ (size slot : ℕ) (c : Choice) (m : Mount) (Q : Mount → Type 0) where
   -- each change that an event makes leaves it so

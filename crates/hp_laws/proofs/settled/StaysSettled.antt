@@ -1,33 +1,17 @@
 -- The machine starts settled, and stays so.
 use Rattle.std.proofs.lemmas.Grind.{common_steps}
-use Rattle.std.proofs.Common.{◌≡◌, replicate, subst, ℕ, ◌+◌, ◌-◌, ◌≤◌, None, Some, Ok, Err, List, [], ◌∷◌, length, map, refl, sym, ap, ◌∙◌, arith, nat_le}
-use Rattle.std.specs.List.{sum_by, range_with_len, All}
+use Rattle.std.proofs.Common.{◌≡◌, replicate, subst, ℕ, ◌+◌, ◌-◌, ◌≤◌, None, Some, Ok, Err, List, [], ◌∷◌, length, map, refl, sym, ap, ◌∙◌, arith, nat_le, sum_by, All}
+use Rattle.std.specs.List.{range_with_len}
 use Rattle.std.proofs.lemmas.Bool.{ltb-true, cond_both}
 use Rattle.std.proofs.lemmas.List.{length-map}
 use Rattle.std.proofs.lemmas.List.Elements.{All-cons, All-nil, All-head, All-tail, All-replicate}
 use Rattle.std.proofs.lemmas.List.Sums.{sum_by-cons}
-use Rattle.hp_model.specs.declared.answer.Answer.TheVariants.{Done}
-use Rattle.hp_model.specs.declared.event.Event.{Event}
-use Rattle.hp_model.specs.declared.event.Event.TheVariants.{Tasks}
-use Rattle.hp_model.specs.declared.event.PoolEvent.{PoolEvent}
+use Rattle.hp_laws.proofs.Variants.{Done, Event, NodeRow, OutOfRange, PoolEvent, Step, Tasks}
 use Rattle.hp_model.specs.declared.event.PoolEvent.TheVariants.{Nr, Overcommit, Meminfo, Nodes}
-use Rattle.hp_model.specs.declared.node.NodeRow.{NodeRow}
-use Rattle.hp_model.specs.declared.refusal.Refusal.TheVariants.{OutOfRange}
-use Rattle.hp_model.specs.declared.step.Step.{Step}
-use Rattle.hp_model.specs.machine.Event.{has_maps_of, IsEvent, IsEventRun}
-use Rattle.hp_model.specs.machine.Machine.{pool_of, with_pool, rows_of, row_of, used_at, slots_from, open_mount, start, idle_node}
-use Rattle.hp_model.specs.pool.NodeRows.{IsRow, used as row_used, total_of, surp_of}
-use Rattle.hp_model.specs.machine.Plan.{Reply, Slot, slot_committed, slot_pages_at}
-use Rattle.hp_model.specs.pool.PoolCounts.{Pool}
-use Rattle.hp_model.specs.Profile.{most_overcommit, most_frames}
-use Rattle.hp_model.specs.pool.Resize.{pool_event, set_nr}
-use Rattle.hp_model.specs.beside.Run.{IsRun}
-use Rattle.hp_model.specs.machine.Settled.{IsSettledState}
+use Rattle.hp_model.proofs.Words.{Answer_with, Do, IsEvent, IsEventRun, IsRow, IsRun, IsScript, IsSettledState, IsSound, IsStep, Pool, Reply, Script, Slot, State, Table, Where_mapped, has_maps_of}
+use Rattle.hp_model.proofs.Words.{idle_node, most_frames, most_overcommit, open_mount, pool_event, pool_of, row_of, rows_of, script, set_nr, slot_at, slot_committed, slot_pages_at, slots_from, start}
+use Rattle.hp_model.proofs.Words.{surp_of, table_event, total_of, used as row_used, used_at, with_pool}
 use Rattle.hp_laws.specs.Laws.{PoolIsTied, StartIsSettled, RunsAreSettled}
-use Rattle.hp_model.specs.machine.Sound.{IsSound}
-use Rattle.hp_model.specs.machine.State.{State, slot_at}
-use Rattle.hp_model.specs.machine.Step.{Script, Answer_with, Do, Where_mapped, script, IsScript, IsStep}
-use Rattle.hp_model.specs.machine.Table.{Table, table_event}
 use Rattle.hp_laws.proofs.settled.EventsSound.{empty_sound, slots_stay_sound}
 use Rattle.hp_laws.proofs.sections.SectionTies.{relead}
 use Rattle.hp_laws.proofs.steps.Outcomes.{either_way}

@@ -1,26 +1,11 @@
 -- Each access balances.
-use Rattle.std.proofs.Common.{arith}
-use Rattle.std.proofs.Common.{◌≡◌, ℕ, ◌<◌, Bool, true, false, ◌&&◌, not, None, Some, List, length, map, refl, ap, ◌∙◌, if◌then◌else◌}
+use Rattle.std.proofs.Common.{arith, ◌≡◌, ℕ, ◌<◌, Bool, true, false, ◌&&◌, not, None, Some, List, length, map, refl, ap, ◌∙◌, if◌then◌else◌}
 use Rattle.std.proofs.lemmas.Bool.{cond_both, and_parts, not-true}
-use Rattle.hp_model.specs.declared.answer.Answer.TheVariants.{Done}
-use Rattle.hp_model.specs.declared.step.Intent.{Intent}
-use Rattle.hp_model.specs.files.Access.{shared_access, new_copy, uncopied_access, private_access, access}
+use Rattle.hp_laws.proofs.Variants.{Cell, Done, Entered, GrantPage, Hole, Intent, Live, Place, Present}
+use Rattle.hp_model.proofs.Words.{Answered, Ask, Choice, Copy, Finish, Mount, Outcome, Page, Plan, Spot, access, cell_at, copied, copy_write, file_written, grant_page, is_among, is_full, is_held_once}
+use Rattle.hp_model.proofs.Words.{is_shared, new_copy, owner_write, place_at, private_access, reserved_page, rise, robbed, shared_access, stamps_of, taken_back, uncopied_access, value, with_cell}
+use Rattle.hp_model.proofs.Words.{with_file, with_map, with_place, written, zeros}
 use Rattle.hp_laws.specs.Balance.{IsBalanced, Stays, left_by}
-use Rattle.hp_model.specs.files.CopyWrite.{robbed, taken_back, is_held_once, owner_write, copy_write}
-use Rattle.hp_model.specs.files.File.{with_file, with_cell, with_map, cell_at, Mount}
-use Rattle.hp_model.specs.pool.Grant.{is_full, rise}
-use Rattle.hp_model.specs.Lists.{is_among}
-use Rattle.hp_model.specs.files.Mapping.{with_place, place_at, is_shared}
-use Rattle.hp_model.specs.files.MountCounts.{stamps_of}
-use Rattle.hp_model.specs.files.Page.{Page, Copy, zeros}
-use Rattle.hp_model.specs.machine.Plan.{Outcome, Answered, Plan, Finish, Ask, Choice, grant_page, reserved_page}
-use Rattle.hp_model.specs.declared.section.Section.TheVariants.{GrantPage}
-use Rattle.hp_model.specs.files.Spot.{Spot, copied, written, file_written}
-use Rattle.hp_model.specs.files.Value.{value}
-use Rattle.hp_model.specs.declared.cell.Cell.{Cell}
-use Rattle.hp_model.specs.declared.cell.Cell.TheVariants.{Hole, Entered, Present}
-use Rattle.hp_model.specs.declared.place.Place.{Place}
-use Rattle.hp_model.specs.declared.place.Place.TheVariants.{Live}
 use Rattle.hp_laws.proofs.counts.CopiesHeld.{IsAgreed}
 use Rattle.hp_laws.proofs.steps.CopyWrites.{copy_parts, takes_back, writes}
 use Rattle.hp_laws.proofs.counts.FileMoves.{fill_entry, fill_hole, copy_grows, copy_consumes}

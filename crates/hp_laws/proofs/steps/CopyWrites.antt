@@ -1,24 +1,15 @@
 -- A write into a copy that other maps hold too: a copy of its own, or the owner takes the copy back.
 use Rattle.std.proofs.lemmas.Grind.{common_steps}
-use Rattle.std.proofs.Common.{◌≡◌, ⊎_elim, ◌⊎◌, subst, ℕ, ◌-◌, ◌<◌, Bool, true, false, ◌&&◌, ◌||◌, ◌==◌}
-use Rattle.std.proofs.Common.{not, None, Some, List, [], ◌∷◌, length, map, refl, sym, ap, ◌∙◌, cond, arith, if◌then◌else◌}
-use Rattle.std.specs.List.{list_any, slice_index_or, count_by}
+use Rattle.std.proofs.Common.{◌≡◌, ⊎_elim, ◌⊎◌, subst, ℕ, ◌-◌, ◌<◌, Bool, true, false, ◌&&◌, ◌||◌, ◌==◌, not, None, Some, List, [], ◌∷◌, length, map, refl, sym, ap, ◌∙◌, cond, arith, if◌then◌else◌}
+use Rattle.std.proofs.Common.{slice_index_or, count_by}
+use Rattle.std.specs.List.{list_any}
 use Rattle.std.proofs.lemmas.List.{length-map, get_or-map}
 use Rattle.std.proofs.lemmas.Bool.{or_left, or_right, true_from_ne_false, both_ways, eq-eqb, eqb-true, and_from, and_parts, or_cases}
 use Rattle.std.proofs.lemmas.List.Folds.{list_any_at}
 use Rattle.std.proofs.lemmas.List.Sums.{sum_by-set}
-use Rattle.hp_model.specs.files.CopyWrite.{is_held_once, robbed, drop_stamp, holds}
-use Rattle.hp_model.specs.files.File.{with_map, File}
-use Rattle.hp_model.specs.Lists.{is_among, edit_at}
-use Rattle.hp_model.specs.files.Mapping.{with_place, without_copy, Map, place_at, is_unconsumed}
-use Rattle.hp_model.specs.files.MountCounts.{owner_reserves, stamps_of}
-use Rattle.hp_model.specs.files.Page.{Page, Copy}
-use Rattle.hp_model.specs.machine.Sound.{place_has, map_has, file_has, is_stamp}
-use Rattle.hp_model.specs.files.Spot.{cell_written, place_written, map_written}
-use Rattle.hp_model.specs.declared.cell.Cell.{Cell}
-use Rattle.hp_model.specs.declared.cell.Cell.TheVariants.{Present}
-use Rattle.hp_model.specs.declared.place.Place.{Place}
-use Rattle.hp_model.specs.declared.place.Place.TheVariants.{Gone, Live}
+use Rattle.hp_model.proofs.Words.{Copy, File, Map, Page, cell_written, drop_stamp, edit_at, file_has, holds, is_among, is_held_once, is_stamp, is_unconsumed, map_has, map_written, owner_reserves}
+use Rattle.hp_model.proofs.Words.{place_at, place_has, place_written, robbed, stamps_of, with_map, with_place, without_copy}
+use Rattle.hp_laws.proofs.Variants.{Cell, Gone, Live, Place, Present}
 use Rattle.hp_laws.proofs.counts.FileMoves.{or_false, FileGrows, IsMapAt, IsLiveAt, live_at, reserves_step, same_owed, held_in, maps_count, none_held, agreed_test, spent}
 use Rattle.hp_laws.proofs.counts.CopiesHeld.{is_stamp_at, IsAgreed, stamps_grow, stamps_at_grow, stamps_stay, stamps_at_stay, weaker}
 use Rattle.hp_laws.proofs.lists.Places.{any_two, any_unset, any_set_up, any_set_at, any_map_up, any_map_down, any_either, any_of_set, sum_by-map_same, any_edit_at, sum_by-edit_at}

@@ -1,23 +1,12 @@
 -- What a step leads to: one event on a slot, one on the pool alone, or one on the task table; and what follows for the slots.
-use Rattle.std.proofs.Common.{arith}
+use Rattle.std.proofs.Common.{arith, ◌≡◌, ◌⊎◌, subst, ℕ, Bool, true, false, Ok, Err, sym, if◌then◌else◌, MatchBool, slice_set}
 use Rattle.std.proofs.lemmas.Grind.{common_steps}
-use Rattle.std.proofs.Common.{◌≡◌, ◌⊎◌, subst, ℕ, Bool, true, false, Ok, Err, sym, if◌then◌else◌}
-use Rattle.std.specs.Bool.{MatchBool}
-use Rattle.std.specs.List.{slice_set}
 use Rattle.std.proofs.lemmas.Bool.{cond_both}
-use Rattle.hp_model.specs.declared.event.Event.{Event}
-use Rattle.hp_model.specs.declared.event.Event.TheVariants.{Slot as OnSlot}
-use Rattle.hp_model.specs.declared.event.SlotEvent.{SlotEvent}
-use Rattle.hp_model.specs.declared.refusal.Refusal.{Refusal}
-use Rattle.hp_model.specs.declared.refusal.Refusal.TheVariants.{NoSuchTask, NoSuchSlot}
+use Rattle.hp_laws.proofs.Variants.{Event, NoSuchSlot, NoSuchTask, Refusal, Slot as OnSlot, SlotEvent}
 pub use Rattle.hp_laws.specs.Balance.{Always}
 use Rattle.hp_laws.specs.Balance.{left_by}
-use Rattle.hp_model.specs.machine.Event.{IsEvent, planned}
-use Rattle.hp_model.specs.files.File.{Mount}
-use Rattle.hp_model.specs.machine.Plan.{Reply, Outcome, Refused, Answered, Plan, Choice, refuse, continued, and_then}
-use Rattle.hp_model.specs.machine.SlotEvent.{slot_event}
-use Rattle.hp_model.specs.machine.State.{State, slot_at}
-use Rattle.hp_model.specs.machine.Step.{Script, only, finding, on_slot, IsScript}
+use Rattle.hp_model.proofs.Words.{Answered, Choice, IsEvent, IsScript, Mount, Outcome, Plan, Refused, Reply, Script, State, and_then, continued, finding, on_slot, only, planned, refuse, slot_at}
+use Rattle.hp_model.proofs.Words.{slot_event}
 
 -- ---- outcomes
 

@@ -1,35 +1,12 @@
 -- What each way of making a plan has, the plan of each event has: one walk over the accesses and the events of a mount.
-use Rattle.std.proofs.Common.{arith}
-use Rattle.std.proofs.Common.{ℕ, ◌&&◌, ◌==◌, Bool, true, not, None, Some, List, [], ◌∷◌, length, if◌then◌else◌}
-use Rattle.std.specs.List.{sum}
+use Rattle.std.proofs.Common.{arith, ℕ, ◌&&◌, ◌==◌, Bool, true, not, None, Some, List, [], ◌∷◌, length, if◌then◌else◌, sum}
 use Rattle.std.proofs.lemmas.Bool.{cond_both}
-use Rattle.hp_model.specs.declared.answer.Answer.{Answer}
-use Rattle.hp_model.specs.declared.answer.Answer.TheVariants.{Done, MapNo}
-use Rattle.hp_model.specs.declared.cell.Cell.{Cell}
-use Rattle.hp_model.specs.declared.cell.Cell.TheVariants.{Entered, Hole, Present}
-use Rattle.hp_model.specs.declared.event.SlotEvent.{SlotEvent}
-use Rattle.hp_model.specs.declared.place.Place.{Place}
-use Rattle.hp_model.specs.declared.place.Place.TheVariants.{Live}
-use Rattle.hp_model.specs.declared.refusal.Refusal.{Refusal}
-use Rattle.hp_model.specs.declared.refusal.Refusal.TheVariants.{MountFull, OutOfMemory}
-use Rattle.hp_model.specs.declared.section.Section.TheVariants.{FillPages, GiveBack, Grant, GrantPage, TakePage}
-use Rattle.hp_model.specs.declared.step.Intent.{Intent}
-use Rattle.hp_model.specs.declared.step.Intent.TheVariants.{Read, Write}
-use Rattle.hp_model.specs.files.Access.{access, new_copy, private_access, shared_access, uncopied_access}
-use Rattle.hp_model.specs.files.CopyWrite.{copy_write, is_held_once, owner_write, taken_back}
-use Rattle.hp_model.specs.files.File.{Mount, new_file, with_cell, with_file, with_map}
-use Rattle.hp_model.specs.files.Fill.{lacking, range_filled, rising_nodes}
-use Rattle.hp_model.specs.files.Fork.{forked}
-use Rattle.hp_model.specs.files.GiveBack.{punched, truncated, unlinked, unmapped_from, without_task}
-use Rattle.hp_model.specs.pool.Grant.{is_full, rise}
-use Rattle.hp_model.specs.files.MakeMap.{asked, mapped, next_number, with_new}
-use Rattle.hp_model.specs.files.Mapping.{with_place}
-use Rattle.hp_model.specs.files.Page.{Copy, Page, zeros}
-use Rattle.hp_model.specs.machine.Plan.{Answered, Ask, Choice, Finish, Outcome, Plan, Refused, Slot, and_then}
-use Rattle.hp_model.specs.machine.Plan.{fall_of, gives, grant, grant_page, puts_of, reserved_page, unless, when_granted}
-use Rattle.hp_model.specs.machine.SlotEvent.{byte_access, byte_tests, bytes_answer, edited, fault_tests, on_mount, preallocated, unentered}
-use Rattle.hp_model.specs.files.Spot.{Spot, again, written}
-use Rattle.hp_model.specs.files.Value.{value}
+use Rattle.hp_laws.proofs.Variants.{Answer, Cell, Done, Entered, FillPages, GiveBack, Grant, GrantPage, Hole, Intent, Live, MapNo, MountFull, OutOfMemory, Place, Present, Read, Refusal, SlotEvent}
+use Rattle.hp_laws.proofs.Variants.{TakePage, Write}
+use Rattle.hp_model.proofs.Words.{Answered, Ask, Choice, Copy, Finish, Mount, Outcome, Page, Plan, Refused, Slot, Spot, access, again, and_then, asked, byte_access, byte_tests, bytes_answer}
+use Rattle.hp_model.proofs.Words.{copy_write, edited, fall_of, fault_tests, forked, gives, grant, grant_page, is_full, is_held_once, lacking, mapped, new_copy, new_file, next_number, on_mount}
+use Rattle.hp_model.proofs.Words.{owner_write, preallocated, private_access, punched, puts_of, range_filled, reserved_page, rise, rising_nodes, shared_access, taken_back, truncated, uncopied_access}
+use Rattle.hp_model.proofs.Words.{unentered, unless, unlinked, unmapped_from, value, when_granted, with_cell, with_file, with_map, with_new, with_place, without_task, written, zeros}
 use Rattle.hp_laws.proofs.steps.Walk.{Walks, plan_unless, remounting, walk_all}
 
 module _ (W : Plan → Type 0) where

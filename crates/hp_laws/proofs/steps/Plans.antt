@@ -1,20 +1,11 @@
 -- How each way of making a plan balances.
 use Rattle.std.proofs.lemmas.Grind.{common_steps}
-use Rattle.std.proofs.Common.{◌≡◌, inl, ℕ, ◌≤◌}
-use Rattle.std.proofs.Common.{Bool, false, ◌&&◌, ◌==◌, None, Some, List, [], ◌∷◌, refl, arith, if◌then◌else◌}
+use Rattle.std.proofs.Common.{◌≡◌, inl, ℕ, ◌≤◌, Bool, false, ◌&&◌, ◌==◌, None, Some, List, [], ◌∷◌, refl, arith, if◌then◌else◌}
 use Rattle.std.proofs.lemmas.Bool.{cond_both}
-use Rattle.hp_model.specs.declared.answer.Answer.{Answer}
-use Rattle.hp_model.specs.declared.answer.Answer.TheVariants.{Done}
-use Rattle.hp_model.specs.declared.refusal.Refusal.{Refusal}
-use Rattle.hp_model.specs.declared.refusal.Refusal.TheVariants.{NoPages, MountFull, OutOfMemory}
+use Rattle.hp_laws.proofs.Variants.{Answer, Done, FillPages, MountFull, NoPages, OutOfMemory, Refusal}
 use Rattle.hp_laws.specs.Balance.{Change, Stays, IsBalanced, left_by}
-use Rattle.hp_model.specs.machine.Plan.{slot_usage}
-use Rattle.hp_model.specs.files.File.{Mount}
-use Rattle.hp_model.specs.files.Fill.{rising_nodes}
-use Rattle.hp_model.specs.pool.Grant.{rise, is_full}
-use Rattle.hp_model.specs.machine.Plan.{Slot, Outcome, Refused, Answered, Plan, Finish, Ask, Choice, refuse, unless, continued}
-use Rattle.hp_model.specs.machine.Plan.{and_then, grant, grant_page, reserved_page, when_granted, slot_committed, slot_pages_at, gives}
-use Rattle.hp_model.specs.declared.section.Section.TheVariants.{FillPages}
+use Rattle.hp_model.proofs.Words.{Answered, Ask, Choice, Finish, Mount, Outcome, Plan, Refused, Slot, and_then, continued, gives, grant, grant_page, is_full, refuse, reserved_page, rise, rising_nodes}
+use Rattle.hp_model.proofs.Words.{slot_committed, slot_pages_at, slot_usage, unless, when_granted}
 use Rattle.hp_laws.proofs.counts.MountMoves.{MountGrows, MountFills, MountFalls}
 use Rattle.hp_laws.proofs.lists.NodesOf.{count_of}
 use Rattle.hp_laws.proofs.counts.NodeSums.{pages-le-committed}

@@ -1,36 +1,12 @@
 -- A refused event leaves everything as it was.
-use Rattle.std.proofs.Common.{◌≡◌, subst, ℕ, Bool, true, false, None, Some, Result, Err, List, refl, sym, ap, ◌∙◌, arith, if◌then◌else◌}
-use Rattle.std.specs.Bool.{MatchBool}
-use Rattle.std.specs.Prelude.{max}
-use Rattle.hp_model.specs.declared.answer.Answer.{Answer}
-use Rattle.hp_model.specs.declared.answer.Answer.TheVariants.{Done}
-use Rattle.hp_model.specs.declared.event.Event.{Event}
-use Rattle.hp_model.specs.declared.event.Event.TheVariants.{Slot as OnSlot}
-use Rattle.hp_model.specs.declared.event.PoolEvent.{PoolEvent}
-use Rattle.hp_model.specs.declared.event.SlotEvent.{SlotEvent}
+use Rattle.std.proofs.Common.{◌≡◌, subst, ℕ, Bool, true, false, None, Some, Result, Err, List, refl, sym, ap, ◌∙◌, arith, if◌then◌else◌, MatchBool, max}
+use Rattle.hp_laws.proofs.Variants.{Answer, Done, Event, GrantAndReturn, Limits, OutOfMemory, PoolAnswer, PoolEvent, ReadAndGrant, Refusal, Slot as OnSlot, SlotEvent, SlotTaken, TableEvent}
 use Rattle.hp_model.specs.declared.event.SlotEvent.TheVariants as slot
-use Rattle.hp_model.specs.declared.event.TableEvent.{TableEvent}
-use Rattle.hp_model.specs.declared.limits.Limits.{Limits}
-use Rattle.hp_model.specs.declared.refusal.Refusal.{Refusal}
-use Rattle.hp_model.specs.declared.refusal.Refusal.TheVariants.{OutOfMemory, SlotTaken}
-use Rattle.hp_model.specs.machine.Event.{after, with_outcome, planned}
-use Rattle.hp_model.specs.files.File.{Mount}
-use Rattle.hp_model.specs.pool.Grant.{can_grant, granted}
-use Rattle.hp_model.specs.pool.NodeRows.{total_of}
-use Rattle.hp_model.specs.machine.Promises.{is_late, SameButNodes}
+use Rattle.hp_model.proofs.Words.{Answered, Ask, Choice, Finish, IsSettledPool, IsSettledState, Mount, Outcome, Plan, Pool, Refused, SameButNodes, Slot, State, Table, after, and_then, can_grant}
+use Rattle.hp_model.proofs.Words.{continued, filled_by, granted, granted_at, is_late, limits, mount_outcome, mount_pages, mount_section, no_pages, nr_answer, on_none, page_taken, pages_taken, planned}
+use Rattle.hp_model.proofs.Words.{pool_event, pool_of, released, remount_outcome, remount_section, section, slot_at, slot_event, table_event, take_node, takes_of, total_of, trimmed as settled_pool}
+use Rattle.hp_model.proofs.Words.{wanted_of, when_granted, with_outcome, with_pool}
 use Rattle.hp_laws.specs.Laws.{RefusalsChangeNothing}
-use Rattle.hp_model.specs.machine.Machine.{pool_of, with_pool}
-use Rattle.hp_model.specs.files.Options.{limits, wanted_of}
-use Rattle.hp_model.specs.machine.Plan.{Slot, Outcome, Refused, Answered, Plan, Finish, Ask, Choice, continued, and_then, when_granted}
-use Rattle.hp_model.specs.pool.Pool.{section, filled_by, granted_at, no_pages, pages_taken, nr_answer, released, takes_of, trimmed as settled_pool, take_node, page_taken}
-use Rattle.hp_model.specs.declared.section.PoolAnswer.{PoolAnswer}
-use Rattle.hp_model.specs.declared.section.Section.TheVariants.{ReadAndGrant, GrantAndReturn}
-use Rattle.hp_model.specs.pool.PoolCounts.{Pool}
-use Rattle.hp_model.specs.pool.Resize.{pool_event}
-use Rattle.hp_model.specs.machine.Settled.{IsSettledPool, IsSettledState}
-use Rattle.hp_model.specs.machine.SlotEvent.{slot_event, on_none, mount_section, mount_pages, mount_outcome, remount_outcome, remount_section}
-use Rattle.hp_model.specs.machine.State.{State, slot_at}
-use Rattle.hp_model.specs.machine.Table.{Table, table_event}
 use Rattle.hp_laws.proofs.steps.SlotsBalanced.{remount_tells, tells_nr}
 use Rattle.hp_laws.proofs.steps.PlanRules.{PlanRules, plan_walk}
 use Rattle.hp_laws.proofs.sections.PoolTied.{pool_back}

@@ -1,10 +1,7 @@
 -- Runs by steps of any kind.
-use Rattle.std.proofs.Common.{arith}
-use Rattle.std.proofs.Common.{List, [], ◌∷◌, ◌++◌, refl, sym, subst}
-use Rattle.hp_model.specs.declared.step.Step.{Step}
-use Rattle.hp_model.specs.machine.Plan.{Reply}
-use Rattle.hp_model.specs.beside.Run.{RunsBy}
-use Rattle.hp_model.specs.machine.State.{State}
+use Rattle.std.proofs.Common.{arith, List, [], ◌∷◌, ◌++◌, refl, sym, subst}
+use Rattle.hp_laws.proofs.Variants.{Step}
+use Rattle.hp_model.proofs.Words.{Reply, RunsBy, State}
 
 -- a run goes on by one step
 pub run_more : (R : State → Step → Reply → State → Type 0) (s mid t : State) (steps : List Step) (replies : List Reply) (step : Step) (reply : Reply)

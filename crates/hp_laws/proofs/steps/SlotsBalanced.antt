@@ -1,39 +1,16 @@
 -- Each event on a slot balances.
-use Rattle.std.proofs.Common.{◌≡◌, subst, ℕ, Bool, false, ◌||◌, ◌==◌, None, Some, Result, List, [], ◌∷◌, length, refl, ap, ◌∙◌, arith, if◌then◌else◌}
-use Rattle.std.specs.List.{list_any, flat_map}
+use Rattle.std.proofs.Common.{◌≡◌, subst, ℕ, Bool, false, ◌||◌, ◌==◌, None, Some, Result, List, [], ◌∷◌, length, refl, ap, ◌∙◌, arith, if◌then◌else◌, flat_map}
+use Rattle.std.specs.List.{list_any}
 use Rattle.std.proofs.lemmas.Bool.{cond_both, not-true, leb-false, false_from_ne_true, both_ways}
 use Rattle.std.proofs.lemmas.List.Folds.{list_any_at}
-use Rattle.hp_model.specs.declared.answer.Answer.TheVariants.{Done, MapNo}
-use Rattle.hp_model.specs.declared.event.SlotEvent.{SlotEvent}
+use Rattle.hp_laws.proofs.Variants.{BeyondEnd, Done, GrantAndReturn, Intent, Limits, MapNo, OutOfRange, Read, ReadAndGrant, Refusal, SlotEvent, Write}
 use Rattle.hp_model.specs.declared.event.SlotEvent.TheVariants.{Mount as MountEvent}
-use Rattle.hp_model.specs.declared.refusal.Refusal.{Refusal}
-use Rattle.hp_model.specs.declared.refusal.Refusal.TheVariants.{BeyondEnd, OutOfRange}
-use Rattle.hp_model.specs.declared.step.Intent.{Intent}
-use Rattle.hp_model.specs.declared.step.Intent.TheVariants.{Read, Write}
-use Rattle.hp_model.specs.files.Access.{access}
+use Rattle.hp_model.proofs.Words.{Choice, File, IsSoundFile, IsSoundMount, Mount, Plan, Pool, Slot, Spot, access, again, asked, byte_access, bytes_answer, fault, file_forked, file_named}
+use Rattle.hp_model.proofs.Words.{file_pages_at, file_unmapped, file_without, gives, granted, has_name, is_among, is_beyond, is_map, is_unmapped, lacking, limits, load, mapped, mount_outcome}
+use Rattle.hp_model.proofs.Words.{mount_pages, mount_section, new_file, next_number, on_mount, on_none, pages_at, punched, range_filled, refuse, remount_outcome, remount_section, rising_nodes}
+use Rattle.hp_model.proofs.Words.{section, spot, stamps_of, store, truncated, unentered, unless, unlinked, value, wanted_of, with_file, written}
 use Rattle.hp_laws.specs.Balance.{Change, Moves, IsBalanced, left_by}
 use Rattle.hp_laws.specs.Laws.{SlotsAreBalanced}
-use Rattle.hp_model.specs.files.File.{new_file, with_file, File, Mount}
-use Rattle.hp_model.specs.files.Fill.{lacking, range_filled, rising_nodes}
-use Rattle.hp_model.specs.files.Fork.{file_forked}
-use Rattle.hp_model.specs.files.GiveBack.{file_unmapped, file_without, punched, truncated, unlinked}
-use Rattle.hp_model.specs.pool.Grant.{granted}
-use Rattle.hp_model.specs.Lists.{is_among}
-use Rattle.hp_model.specs.files.MakeMap.{asked, mapped, next_number}
-use Rattle.hp_model.specs.files.Mapping.{is_map}
-use Rattle.hp_model.specs.files.MountCounts.{stamps_of, file_pages_at, pages_at}
-use Rattle.hp_model.specs.files.Options.{limits, wanted_of}
-use Rattle.hp_model.specs.machine.Plan.{Slot, Plan, Choice, refuse, unless, gives}
-use Rattle.hp_model.specs.pool.Pool.{section}
-use Rattle.hp_model.specs.declared.section.Section.TheVariants.{GrantAndReturn, ReadAndGrant}
-use Rattle.hp_model.specs.pool.PoolCounts.{Pool}
-use Rattle.hp_model.specs.machine.SlotEvent.{byte_access, bytes_answer, fault, file_named, has_name, is_beyond, is_unmapped, load}
-use Rattle.hp_model.specs.machine.SlotEvent.{mount_outcome, mount_pages, mount_section, on_mount, on_none, store, unentered}
-use Rattle.hp_model.specs.machine.SlotEvent.{remount_outcome, remount_section}
-use Rattle.hp_model.specs.machine.Sound.{IsSoundFile, IsSoundMount}
-use Rattle.hp_model.specs.files.Spot.{Spot, written, again, spot}
-use Rattle.hp_model.specs.files.Value.{value}
-use Rattle.hp_model.specs.declared.limits.Limits.{Limits}
 use Rattle.hp_laws.proofs.steps.Accesses.{access_balanced, written_same}
 use Rattle.hp_model.proofs.Distinct.{is_among-append}
 use Rattle.hp_laws.proofs.counts.Copies.{agreed_file}

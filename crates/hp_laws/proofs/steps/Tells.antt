@@ -1,13 +1,7 @@
 -- What an event asks of the pool depends on nr only where the pool tells it.
-use Rattle.std.proofs.Common.{arith}
-use Rattle.std.proofs.Common.{◌≡◌, ℕ}
-use Rattle.hp_model.specs.declared.answer.Answer.{Answer}
-use Rattle.hp_model.specs.declared.event.SlotEvent.{SlotEvent}
-use Rattle.hp_model.specs.machine.Plan.{Slot, Plan, Finish, Ask, Choice, gives}
-use Rattle.hp_model.specs.pool.Pool.{section}
-use Rattle.hp_model.specs.declared.section.PoolAnswer.{PoolAnswer}
-use Rattle.hp_model.specs.pool.PoolCounts.{Pool}
-use Rattle.hp_model.specs.machine.SlotEvent.{slot_event, on_none}
+use Rattle.std.proofs.Common.{arith, ◌≡◌, ℕ}
+use Rattle.hp_laws.proofs.Variants.{Answer, PoolAnswer, SlotEvent}
+use Rattle.hp_model.proofs.Words.{Ask, Choice, Finish, Plan, Pool, Slot, gives, on_none, section, slot_event}
 use Rattle.hp_laws.proofs.steps.PlanRules.{PlanRules, plan_gives, plan_walk}
 use Rattle.hp_laws.proofs.steps.SlotsBalanced.{remount_tells, tells_nr}
 

@@ -1,29 +1,12 @@
 -- One walk over the events of an open mount: what holds of the plan of each change holds of the plan of each event.
-use Rattle.std.proofs.Common.{arith}
+use Rattle.std.proofs.Common.{arith, ◌≡◌, ℕ, Bool, true, false, Option, None, Some, is_some, List, [], ◌∷◌, ◌||◌, length, nat_lt}
 use Rattle.std.proofs.lemmas.Grind.{common_steps}
-use Rattle.std.proofs.Common.{◌≡◌, ℕ, Bool, true, false, Option, None, Some, is_some, List, [], ◌∷◌, ◌||◌, length, nat_lt}
 use Rattle.std.proofs.lemmas.Bool.{cond_both}
-use Rattle.hp_model.specs.declared.answer.Answer.{Answer}
-use Rattle.hp_model.specs.declared.answer.Answer.TheVariants.{Done, MapNo}
-use Rattle.hp_model.specs.declared.event.SlotEvent.{SlotEvent}
+use Rattle.hp_laws.proofs.Variants.{Answer, Done, Intent, MapNo, NoSuchFile, NoSuchMap, Refusal, Reserving, Sharing, SlotEvent}
 use Rattle.hp_model.specs.declared.event.SlotEvent.TheVariants as slot
-use Rattle.hp_model.specs.declared.refusal.Refusal.{Refusal}
-use Rattle.hp_model.specs.declared.refusal.Refusal.TheVariants.{NoSuchFile, NoSuchMap}
-use Rattle.hp_model.specs.declared.step.Intent.{Intent}
-use Rattle.hp_model.specs.declared.step.Reserving.{Reserving}
-use Rattle.hp_model.specs.declared.step.Sharing.{Sharing}
-use Rattle.hp_model.specs.files.File.{File, Mount, new_file, with_file, maps_of}
-use Rattle.hp_model.specs.files.Fork.{forked}
-use Rattle.hp_model.specs.files.GiveBack.{punched, truncated, unlinked, unmapped_from, without_task}
-use Rattle.hp_model.specs.files.MakeMap.{asked, mapped, next_number, with_new, tasks_of}
-use Rattle.hp_model.specs.files.Mapping.{is_map}
-use Rattle.hp_model.specs.machine.Plan.{Answered, Ask, Choice, Finish, Plan, gives, grant, refuse, unless, with_value}
-use Rattle.hp_model.specs.Profile.{most_bytes, most_map_pages, most_maps, most_tasks}
-use Rattle.hp_model.specs.machine.SlotEvent.{are_too_many_maps, bytes_answer, edited, fault, file_named, fill, load}
-use Rattle.hp_model.specs.machine.SlotEvent.{on_mount, remount_outcome}
-use Rattle.hp_model.specs.machine.SlotEvent.{remount_section, store}
-use Rattle.hp_model.specs.files.Options.{limits, wanted_of}
-use Rattle.hp_model.specs.files.Spot.{Spot, spot}
+use Rattle.hp_model.proofs.Words.{Answered, Ask, Choice, File, Finish, Mount, Plan, Spot, are_too_many_maps, asked, bytes_answer, edited, fault, file_named, fill, forked, gives, grant, is_map, limits}
+use Rattle.hp_model.proofs.Words.{load, mapped, maps_of, most_bytes, most_map_pages, most_maps, most_tasks, new_file, next_number, on_mount, punched, refuse, remount_outcome, remount_section, spot}
+use Rattle.hp_model.proofs.Words.{store, tasks_of, truncated, unless, unlinked, unmapped_from, wanted_of, with_file, with_new, with_value, without_task}
 
 -- ---- tests and what is found
 

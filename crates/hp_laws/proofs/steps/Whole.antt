@@ -1,22 +1,12 @@
 -- From events to steps: what the one event of a step does is what the step does. A fork and an exit are several events.
-use Rattle.std.proofs.Common.{arith}
-use Rattle.std.proofs.Common.{◌≡◌, ⊎_elim, subst, ℕ, ◌==◌, Bool, true, false, Err, length, refl, sym}
-use Rattle.hp_model.specs.declared.event.Event.{Event}
-use Rattle.hp_model.specs.declared.event.Event.TheVariants.{Tasks, Slot as OnSlot, Pool as OnPool}
+use Rattle.std.proofs.Common.{arith, ◌≡◌, ⊎_elim, subst, ℕ, ◌==◌, Bool, true, false, Err, length, refl, sym}
+use Rattle.hp_laws.proofs.Variants.{Anon, Attach, Connect, Create, Df, Event, Exit, Fault, Fork, Load, Ls, Map, Meminfo, Mount, NoSuchSlot, NoSuchTask, Nodes, Nr, Overcommit, Pool as OnPool}
+use Rattle.hp_laws.proofs.Variants.{Preallocate, Punch, Refusal, Remount, Slot as OnSlot, SlotEvent, Stat, Step, Store, Tasks, Truncate, Umount, Unlink, Unmap}
 use Rattle.hp_model.specs.declared.event.PoolEvent.TheVariants as pool
-use Rattle.hp_model.specs.declared.event.SlotEvent.{SlotEvent}
 use Rattle.hp_model.specs.declared.event.SlotEvent.TheVariants as slot
 use Rattle.hp_model.specs.declared.event.TableEvent.TheVariants as table
-use Rattle.hp_model.specs.declared.refusal.Refusal.{Refusal}
-use Rattle.hp_model.specs.declared.refusal.Refusal.TheVariants.{NoSuchSlot, NoSuchTask}
-use Rattle.hp_model.specs.declared.step.Step.{Step}
-use Rattle.hp_model.specs.declared.step.Step.TheVariants.{Connect, Attach, Fork, Exit, Mount, Remount, Umount, Create, Unlink, Truncate, Punch, Preallocate, Read, Ls}
-use Rattle.hp_model.specs.declared.step.Step.TheVariants.{Stat, Map, Anon, Unmap, Fault, Load, Store, Nr, Overcommit, Meminfo, Nodes, Df}
-use Rattle.hp_model.specs.machine.Event.{IsEvent}
-use Rattle.hp_model.specs.machine.Plan.{Reply}
-use Rattle.hp_model.specs.machine.Promises.{is_for_pages}
-use Rattle.hp_model.specs.machine.State.{State}
-use Rattle.hp_model.specs.machine.Step.{IsScripted, IsScript, IsStep, finding, on_slot, only}
+use Rattle.hp_model.specs.declared.step.Step.TheVariants.{Read}
+use Rattle.hp_model.proofs.Words.{IsEvent, IsScript, IsScripted, IsStep, Reply, State, finding, is_for_pages, on_slot, only}
 use Rattle.hp_laws.proofs.steps.Outcomes.{IsLeft, finding_goes, only_goes, slot_goes}
 
 -- ---- the step of an event

@@ -3,7 +3,7 @@ use Rattle.std.proofs.lemmas.Bool.{eqb-true, false≢true}
 use Rattle.std.proofs.lemmas.List.{map-append}
 use Rattle.std.specs.Global.{Vec}
 use Rattle.std.specs.Vec.Iter.{into_iter_items}
-use Rattle.hp_model.specs.declared.entry.Receipt.{Receipt}
+use Rattle.hp_laws.proofs.Variants.{Receipt}
 use Rattle.hp_trail.specs.Walk.{lists}
 use Rattle.hp_closing.proofs.Whole.{one_joins}
 use Rattle.hp_closing.proofs.closing.all_join.Given.{Over}

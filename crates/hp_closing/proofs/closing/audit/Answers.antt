@@ -1,10 +1,7 @@
-use Rattle.std.proofs.Common.{◌≡◌, subst}
-use Rattle.std.specs.Prelude.{OnOk}
-use Rattle.hp_model.specs.machine.Settled.{IsSettledState}
-use Rattle.hp_model.specs.machine.State.{State}
+use Rattle.std.proofs.Common.{◌≡◌, subst, OnOk}
+use Rattle.hp_model.proofs.Words.{IsReadyMachine, IsSettledState, Machine, State}
 use Rattle.hp_shared.specs.Sharing.{EndsRuns, entries_of}
 use Rattle.hp_closing.proofs.Ready.{when_joined}
-use Rattle.hp_model.specs.machine.Ready.{IsReadyMachine, Machine}
 use Rattle.hp_trail.specs.Walk.{lists, trails_of}
 use Rattle.hp_closing.proofs.closing.audit.Goals as goal
 

@@ -1,8 +1,7 @@
-use Rattle.std.proofs.Common.{◌≡◌, ◌==◌, true, Option, List, Ok, sym, ap, subst, ◌∙◌}
-use Rattle.std.specs.Prelude.{IfSome, is_some}
+use Rattle.std.proofs.Common.{◌≡◌, ◌==◌, true, Option, List, Ok, sym, ap, subst, ◌∙◌, IfSome, is_some}
 use Rattle.hp_locked.specs.Views.{frames_list}
-use Rattle.hp_model.specs.declared.entry.Receipt.{Receipt}
-use Rattle.hp_model.specs.machine.Machine.{start}
+use Rattle.hp_laws.proofs.Variants.{Receipt}
+use Rattle.hp_model.proofs.Words.{start}
 use Rattle.hp_trail.specs.Audit.{Disagree, IsJointList}
 use Rattle.hp_shared.specs.Sharing.{EndsRuns, entries_of}
 use Rattle.hp_shared.specs.declared.shared.Trails.{Trails}

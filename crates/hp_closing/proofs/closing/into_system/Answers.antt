@@ -1,8 +1,6 @@
-use Rattle.std.proofs.Common.{◌==◌, sym, subst}
-use Rattle.std.specs.Prelude.{IfSome}
+use Rattle.std.proofs.Common.{◌==◌, sym, subst, IfSome}
 use Rattle.hp_locked.specs.Views.{frames_list}
-use Rattle.hp_model.specs.machine.Machine.{start}
-use Rattle.hp_model.specs.machine.Ready.{Machine}
+use Rattle.hp_model.proofs.Words.{Machine, start}
 use Rattle.hp_mount_door.specs.Door.{IsReady}
 use Rattle.hp_shared.specs.Ended.{HasEnded}
 use Rattle.hp_shared.specs.Sharing.{EndsRuns, entries_of}

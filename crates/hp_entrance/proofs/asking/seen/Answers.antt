@@ -1,7 +1,5 @@
 use Rattle.std.proofs.Common.{◌==◌, ℕ, Ok, sym, subst}
-use Rattle.hp_model.specs.declared.answer.Answer.TheVariants.{Home}
-use Rattle.hp_model.specs.declared.event.Event.TheVariants.{Tasks as OnTasks}
-use Rattle.hp_model.specs.declared.event.TableEvent.{TableEvent}
+use Rattle.hp_laws.proofs.Variants.{Home, TableEvent, Tasks as OnTasks}
 use Rattle.hp_events.specs.Answered.{IsHanded}
 use Rattle.hp_entrance.proofs.asking.seen.Goals as goal
 

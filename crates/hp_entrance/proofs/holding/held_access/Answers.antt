@@ -1,12 +1,7 @@
 use Rattle.std.proofs.Common.{◌≡◌, ◌==◌, ℕ, sym, subst, ap, ◌∙◌}
-use Rattle.hp_model.specs.beside.Accesses.{fault_step, load_step, store_step}
-use Rattle.hp_model.specs.beside.Told.{told_reply}
-use Rattle.hp_model.specs.declared.event.Event.TheVariants.{Slot as OnSlot}
-use Rattle.hp_model.specs.declared.event.SlotEvent.{SlotEvent}
+use Rattle.hp_model.proofs.Words.{Reply, fault_step, load_step, store_step, told_reply}
+use Rattle.hp_laws.proofs.Variants.{Access, Slot as OnSlot, SlotEvent, Step}
 use Rattle.hp_model.specs.declared.event.SlotEvent.TheVariants as slot
-use Rattle.hp_model.specs.declared.service.Access.{Access}
-use Rattle.hp_model.specs.declared.step.Step.{Step}
-use Rattle.hp_model.specs.machine.Plan.{Reply}
 use Rattle.hp_events.specs.Answered.{IsHanded}
 use Rattle.hp_events.specs.Queues.{IsAccessHanded}
 use Rattle.hp_events.proofs.Fitting.{fits_result}

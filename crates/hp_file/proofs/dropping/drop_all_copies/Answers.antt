@@ -1,7 +1,7 @@
 use Rattle.std.proofs.Common.{arith, ◌<◌, length}
 use Rattle.std.proofs.lemmas.List.Sums.{sum_by-set}
-use Rattle.hp_model.specs.files.Mapping.{map_punched}
-use Rattle.hp_lookup.specs.Held.{in_map}
+use Rattle.hp_model.proofs.Words.{map_punched}
+use Rattle.hp_lookup.proofs.Words.{in_map}
 use Rattle.hp_file.proofs.Counting.{dropped_then}
 use Rattle.hp_file.proofs.Punched.{first_step}
 use Rattle.hp_file.proofs.dropping.drop_all_copies.Goals as goal

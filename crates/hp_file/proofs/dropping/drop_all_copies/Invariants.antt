@@ -1,7 +1,6 @@
-use Rattle.std.specs.Prelude.{◌≡◌}
-use Rattle.std.specs.List.{sum_by}
-use Rattle.hp_model.specs.files.Mapping.{map_punched}
-use Rattle.hp_lookup.specs.Held.{in_map}
+use Rattle.std.proofs.Common.{◌≡◌, sum_by}
+use Rattle.hp_model.proofs.Words.{map_punched}
+use Rattle.hp_lookup.proofs.Words.{in_map}
 use Rattle.hp_file.specs.HeldPages.{AreDropped}
 use Rattle.hp_file.proofs.Punched.{first_mapped}
 use Rattle.hp_file.proofs.dropping.drop_all_copies.Given as goal

@@ -1,6 +1,6 @@
 use Rattle.std.proofs.lemmas.Grind.{common_steps}
 use Rattle.std.proofs.Common.{ℕ, ◌∙◌, arith}
-use Rattle.hp_lookup.specs.Held.{in_map}
+use Rattle.hp_lookup.proofs.Words.{in_map}
 use Rattle.hp_file.proofs.Counting.{one_dropped, one_held}
 use Rattle.hp_file.proofs.Drops.{IsCopyTaken, copy_taken, uncopied}
 use Rattle.hp_file.proofs.dropping.drop_copies.Goals as goal

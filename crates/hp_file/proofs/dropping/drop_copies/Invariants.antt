@@ -1,8 +1,7 @@
-use Rattle.std.specs.Prelude.{◌≡◌}
-use Rattle.std.specs.List.{count_by}
+use Rattle.std.proofs.Common.{◌≡◌, count_by}
 use Rattle.hp_mapping.specs.Mapped.{has_copy}
-use Rattle.hp_model.specs.files.Mapping.{map_punched}
-use Rattle.hp_lookup.specs.Held.{in_map}
+use Rattle.hp_model.proofs.Words.{map_punched}
+use Rattle.hp_lookup.proofs.Words.{in_map}
 use Rattle.hp_file.specs.HeldPages.{AreDropped}
 use Rattle.hp_file.proofs.dropping.drop_copies.Given as goal
 

@@ -1,7 +1,6 @@
 use Rattle.std.proofs.lemmas.Grind.{common_steps}
-use Rattle.std.proofs.Common.{◌≡◌, ◌<◌, ◌+◌, ◌-◌, ap, drop, length, arith}
-use Rattle.std.specs.List.{sum_by}
-use Rattle.hp_lookup.specs.Held.{in_place}
+use Rattle.std.proofs.Common.{◌≡◌, ◌<◌, ◌+◌, ◌-◌, ap, drop, length, arith, sum_by}
+use Rattle.hp_lookup.proofs.Words.{in_place}
 use Rattle.hp_file.proofs.Counting.{dropped_as, dropped_then, left_held, none_dropped, part_held}
 use Rattle.hp_file.proofs.Runs.{left_sum, run_first, run_fits, run_sum}
 use Rattle.hp_file.proofs.Sharing.{bare_in, no_copy, stands_at, to_copy}

@@ -1,6 +1,5 @@
-use Rattle.std.proofs.Common.{drop}
-use Rattle.std.specs.List.{sum_by}
-use Rattle.hp_lookup.specs.Held.{in_map}
+use Rattle.std.proofs.Common.{drop, sum_by}
+use Rattle.hp_lookup.proofs.Words.{in_map}
 use Rattle.hp_file.specs.HeldPages.{AreDropped}
 use Rattle.hp_file.proofs.dropping.drop_maps.Given as goal
 

@@ -1,6 +1,5 @@
-use Rattle.std.proofs.Common.{ℕ, ap, arith, sym, ◌∙◌}
-use Rattle.std.specs.List.{sum_by}
-use Rattle.hp_lookup.specs.Held.{in_cell}
+use Rattle.std.proofs.Common.{ℕ, ap, arith, sym, ◌∙◌, sum_by}
+use Rattle.hp_lookup.proofs.Words.{in_cell}
 use Rattle.hp_file.proofs.Counting.{dropped_as, one_dropped, one_held}
 use Rattle.hp_file.proofs.Drops.{IsTaken, taken, unchanged, untaken}
 use Rattle.hp_file.proofs.dropping.drop_pages.Goals as goal

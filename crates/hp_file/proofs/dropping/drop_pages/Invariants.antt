@@ -1,8 +1,6 @@
-use Rattle.std.specs.Prelude.{◌≡◌}
-use Rattle.std.specs.List.{count_by, sum_by}
-use Rattle.hp_model.specs.files.File.{cell_punched, has_page}
-use Rattle.hp_model.specs.Lists.{edit_range}
-use Rattle.hp_lookup.specs.Held.{in_cell}
+use Rattle.std.proofs.Common.{◌≡◌, count_by, sum_by}
+use Rattle.hp_model.proofs.Words.{cell_punched, edit_range, has_page}
+use Rattle.hp_lookup.proofs.Words.{in_cell}
 use Rattle.hp_file.specs.HeldPages.{AreDropped}
 use Rattle.hp_file.proofs.dropping.drop_pages.Given as goal
 

@@ -1,7 +1,6 @@
 use Rattle.std.proofs.lemmas.Grind.{common_steps}
-use Rattle.std.proofs.Common.{◌+◌, drop, sym, ◌∙◌, arith}
-use Rattle.std.specs.List.{sum_by}
-use Rattle.hp_lookup.specs.Held.{in_place}
+use Rattle.std.proofs.Common.{◌+◌, drop, sym, ◌∙◌, arith, sum_by}
+use Rattle.hp_lookup.proofs.Words.{in_place}
 use Rattle.hp_file.proofs.Drops.{drop_next, drop_start, still_held}
 use Rattle.hp_file.proofs.Sharing.{copied_in, sum_read}
 use Rattle.hp_file.proofs.dropping.drop_run.Goals as goal

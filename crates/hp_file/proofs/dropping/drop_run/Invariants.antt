@@ -1,7 +1,5 @@
-use Rattle.std.proofs.Common.{◌≡◌, ◌+◌, ◌-◌, ◌≤◌, drop, length}
-use Rattle.std.specs.List.{sum_by}
-use Rattle.hp_lookup.specs.Dropping.{IsDropping}
-use Rattle.hp_lookup.specs.Held.{in_place, more_in}
+use Rattle.std.proofs.Common.{◌≡◌, ◌+◌, ◌-◌, ◌≤◌, drop, length, sum_by}
+use Rattle.hp_lookup.proofs.Words.{IsDropping, in_place, more_in}
 use Rattle.hp_file.proofs.dropping.drop_run.Given as goal
 
 abbrev pub invariant-loop-at : goal.invariant-loop-at

@@ -1,11 +1,8 @@
 use Rattle.std.proofs.lemmas.Grind.{common_steps}
-use Rattle.std.proofs.Common.{arith, ℕ, ◌+◌, ◌<◌, cond, length, take, ap, ◌∙◌}
-use Rattle.std.specs.Prelude.{slice_index_or}
-use Rattle.std.specs.List.{count_by}
+use Rattle.std.proofs.Common.{arith, ℕ, ◌+◌, ◌<◌, cond, length, take, ap, ◌∙◌, slice_index_or, count_by}
 use Rattle.std.proofs.lemmas.List.Sums.{get_or-le-sum_by, sum_by-set, sum_by_more}
-use Rattle.hp_model.specs.files.Mapping.{Mapping, is_map}
-use Rattle.hp_lookup.specs.Held.{in_map}
-use Rattle.hp_lookup.specs.Leaving.{ended_for, one_if_named, owed}
+use Rattle.hp_model.proofs.Words.{Mapping, is_map}
+use Rattle.hp_lookup.proofs.Words.{ended_for, in_map, one_if_named, owed}
 use Rattle.hp_file.proofs.Counting.{dropped_then, left_held, part_held}
 use Rattle.hp_file.proofs.Leaves.{gone_then}
 use Rattle.hp_file.proofs.Punched.{first_next, first_step}

@@ -1,9 +1,7 @@
-use Rattle.std.specs.Prelude.{◌≡◌, ◌+◌, take}
-use Rattle.std.specs.List.{count_by, sum_by}
-use Rattle.hp_model.specs.files.Mapping.{is_map}
-use Rattle.hp_lookup.specs.Held.{in_map}
+use Rattle.std.proofs.Common.{◌≡◌, ◌+◌, take, count_by, sum_by}
+use Rattle.hp_model.proofs.Words.{is_map}
+use Rattle.hp_lookup.proofs.Words.{IsMoreButTask, ended_for, in_map, owed}
 use Rattle.hp_file.specs.HeldPages.{AreDropped}
-use Rattle.hp_lookup.specs.Leaving.{IsMoreButTask, ended_for, owed}
 use Rattle.hp_file.proofs.Punched.{first_mapped}
 use Rattle.hp_file.proofs.dropping.end_maps_of.Given as goal
 

@@ -1,7 +1,7 @@
 use Rattle.std.proofs.Common.{ℕ, ap, subst, sym, ◌∙◌, arith}
 use Rattle.hp_mapping.specs.Mapped.{IsClear, reserves_in}
-use Rattle.hp_model.specs.files.Mapping.{Mapping, without_range}
-use Rattle.hp_lookup.specs.Held.{in_map}
+use Rattle.hp_model.proofs.Words.{Mapping, without_range}
+use Rattle.hp_lookup.proofs.Words.{in_map}
 use Rattle.hp_file.proofs.Counting.{dropped_as}
 use Rattle.hp_file.proofs.Leaves.{left_holds, punched_clear, punched_left, punched_reserves}
 use Rattle.hp_file.proofs.dropping.leave_range.Goals as goal

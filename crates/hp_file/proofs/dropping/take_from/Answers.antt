@@ -1,6 +1,6 @@
 use Rattle.std.proofs.Common.{rules, ◌≡◌, ℕ, Some, ap}
-use Rattle.hp_model.specs.files.Mapping.{Mapping, copy_of, place_at}
-use Rattle.hp_lookup.specs.Held.{in_map}
+use Rattle.hp_model.proofs.Words.{Mapping, copy_of, place_at}
+use Rattle.hp_lookup.proofs.Words.{in_map}
 use Rattle.hp_file.proofs.Counting.{none_dropped, one_dropped}
 use Rattle.hp_file.proofs.Drops.{less_copy}
 use Rattle.hp_file.proofs.dropping.take_from.Goals as goal

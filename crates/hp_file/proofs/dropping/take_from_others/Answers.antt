@@ -1,10 +1,8 @@
 use Rattle.std.proofs.lemmas.Grind.{common_steps}
-use Rattle.std.proofs.Common.{ℕ, ◌<◌, length, refl, arith}
-use Rattle.std.specs.Prelude.{slice_index_or}
+use Rattle.std.proofs.Common.{ℕ, ◌<◌, length, refl, arith, slice_index_or}
 use Rattle.std.proofs.lemmas.List.Sums.{sum_by-set}
-use Rattle.hp_model.specs.files.Mapping.{Mapping}
-use Rattle.hp_lookup.specs.Held.{in_map}
-use Rattle.hp_lookup.specs.Numbered.{no_mapping}
+use Rattle.hp_model.proofs.Words.{Mapping}
+use Rattle.hp_lookup.proofs.Words.{in_map, no_mapping}
 use Rattle.hp_file.specs.Taking.{robbed_at}
 use Rattle.hp_file.proofs.Counting.{dropped_as, dropped_then, left_held, part_held}
 use Rattle.hp_lookup.proofs.Keys.{set_read}

@@ -1,7 +1,5 @@
-use Rattle.std.specs.Prelude.{◌≡◌, slice_index_or, slice_set}
-use Rattle.std.specs.List.{sum_by}
-use Rattle.hp_lookup.specs.Held.{in_map}
-use Rattle.hp_lookup.specs.Numbered.{no_mapping}
+use Rattle.std.proofs.Common.{◌≡◌, slice_index_or, slice_set, sum_by}
+use Rattle.hp_lookup.proofs.Words.{in_map, no_mapping}
 use Rattle.hp_file.specs.HeldPages.{AreDropped}
 use Rattle.hp_file.specs.Taking.{robbed_at}
 use Rattle.hp_file.proofs.Punched.{first_mapped}

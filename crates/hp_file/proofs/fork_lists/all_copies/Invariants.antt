@@ -1,6 +1,5 @@
-use Rattle.std.proofs.Common.{◌≡◌, ◌+◌, ◌-◌, ◌<◌, ◌^◌, drop}
-use Rattle.std.specs.List.{sum_by}
-use Rattle.hp_lookup.specs.Forking.{list_copies}
+use Rattle.std.proofs.Common.{◌≡◌, ◌+◌, ◌-◌, ◌<◌, ◌^◌, drop, sum_by}
+use Rattle.hp_lookup.proofs.Words.{list_copies}
 use Rattle.hp_file.proofs.fork_lists.all_copies.Given as goal
 
 abbrev pub invariant-loop-list : goal.invariant-loop-list

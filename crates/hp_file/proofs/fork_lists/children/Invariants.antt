@@ -1,6 +1,5 @@
-use Rattle.std.proofs.Common.{◌≡◌, ◌+◌, ◌-◌}
-use Rattle.std.specs.List.{sum_by}
-use Rattle.hp_lookup.specs.Forking.{AreFilled, list_length}
+use Rattle.std.proofs.Common.{◌≡◌, ◌+◌, ◌-◌, sum_by}
+use Rattle.hp_lookup.proofs.Words.{AreFilled, list_length}
 use Rattle.hp_file.proofs.fork_lists.children.Given as goal
 
 abbrev pub invariant-loop-left : goal.invariant-loop-left

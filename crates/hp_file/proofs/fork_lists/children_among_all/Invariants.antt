@@ -1,7 +1,5 @@
-use Rattle.std.proofs.Common.{◌≡◌, ◌-◌, ◌≤◌, drop, length, take}
-use Rattle.std.specs.Prelude.{vec_capacity}
-use Rattle.std.specs.List.{sum_by}
-use Rattle.hp_lookup.specs.Forking.{AreReady, maps_by}
+use Rattle.std.proofs.Common.{◌≡◌, ◌-◌, ◌≤◌, drop, length, take, vec_capacity, sum_by}
+use Rattle.hp_lookup.proofs.Words.{AreReady, maps_by}
 use Rattle.hp_file.proofs.fork_lists.children_among_all.Given as goal
 
 abbrev pub invariant-loop-left : goal.invariant-loop-left

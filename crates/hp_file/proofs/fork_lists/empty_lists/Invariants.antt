@@ -1,7 +1,5 @@
-use Rattle.std.proofs.Common.{◌≡◌, ◌-◌, ◌≤◌, length}
-use Rattle.std.specs.Prelude.{vec_capacity}
-use Rattle.std.specs.List.{sum_by}
-use Rattle.hp_lookup.specs.Forking.{list_length}
+use Rattle.std.proofs.Common.{◌≡◌, ◌-◌, ◌≤◌, length, vec_capacity, sum_by}
+use Rattle.hp_lookup.proofs.Words.{list_length}
 use Rattle.hp_file.proofs.fork_lists.empty_lists.Given as goal
 
 abbrev pub invariant-loop-alloc : goal.invariant-loop-alloc

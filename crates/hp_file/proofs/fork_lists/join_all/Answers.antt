@@ -1,10 +1,8 @@
 use Rattle.std.proofs.lemmas.Grind.{common_steps}
-use Rattle.std.proofs.Common.{◌≡◌, ℕ, ◌+◌, ◌-◌, ap, arith, length, rules, subst, sym, take, ◌∙◌}
-use Rattle.std.specs.List.{sum_by}
+use Rattle.std.proofs.Common.{◌≡◌, ℕ, ◌+◌, ◌-◌, ap, arith, length, rules, subst, sym, take, ◌∙◌, sum_by}
 use Rattle.std.proofs.lemmas.List.{get_or-set_same, nil_from_length}
 use Rattle.std.proofs.lemmas.List.Sums.{sum_by_push, sum_by-take-le}
-use Rattle.hp_lookup.specs.Forking.{HasNoted, HaveNoted, HaveRoom, in_list, in_lists, joined, joined_at, list_copies, maps_by, with_list}
-use Rattle.hp_lookup.specs.Numbered.{numbered_at}
+use Rattle.hp_lookup.proofs.Words.{HasNoted, HaveNoted, HaveRoom, in_list, in_lists, joined, joined_at, list_copies, maps_by, numbered_at, with_list}
 use Rattle.hp_lookup.proofs.Cells.{no_file}
 use Rattle.hp_file.proofs.Joining.{last_joined, last_keys, last_none, last_room, last_within, none_joined, rest_none, rest_room}
 use Rattle.hp_file.proofs.Noting.{noted_bare_all, noted_at}

@@ -1,7 +1,5 @@
-use Rattle.std.proofs.Common.{◌≡◌, ℕ, ◌+◌, ◌-◌, ◌≤◌, length, take}
-use Rattle.std.specs.List.{sum_by}
-use Rattle.hp_lookup.specs.Forking.{HaveNoted, HaveRoom, IsSharing, in_lists, joined, list_copies, maps_by}
-use Rattle.hp_lookup.specs.Held.{more_in}
+use Rattle.std.proofs.Common.{◌≡◌, ℕ, ◌+◌, ◌-◌, ◌≤◌, length, take, sum_by}
+use Rattle.hp_lookup.proofs.Words.{HaveNoted, HaveRoom, IsSharing, in_lists, joined, list_copies, maps_by, more_in}
 use Rattle.hp_file.proofs.fork_lists.join_all.Given as goal
 
 abbrev pub invariant-loop-list : goal.invariant-loop-list

@@ -1,4 +1,4 @@
-use Rattle.hp_lookup.specs.Numbered.{numbered_at}
+use Rattle.hp_lookup.proofs.Words.{numbered_at}
 use Rattle.hp_file.proofs.Noting.{noted_bare}
 use Rattle.hp_file.proofs.fork_lists.join_at.Goals as goal
 

@@ -1,5 +1,5 @@
 use Rattle.std.proofs.Common.{◌≡◌, ◌++◌, drop}
-use Rattle.hp_lookup.specs.Forking.{children_of}
+use Rattle.hp_lookup.proofs.Words.{children_of}
 use Rattle.hp_file.proofs.forking.children.Given as goal
 
 abbrev pub invariant-loop-map : goal.invariant-loop-map

@@ -1,6 +1,5 @@
-use Rattle.std.proofs.Common.{◌≡◌, ◌+◌, ◌-◌, ◌<◌, ◌^◌, drop}
-use Rattle.std.specs.List.{sum_by}
-use Rattle.hp_lookup.specs.Forking.{copies_in}
+use Rattle.std.proofs.Common.{◌≡◌, ◌+◌, ◌-◌, ◌<◌, ◌^◌, drop, sum_by}
+use Rattle.hp_lookup.proofs.Words.{copies_in}
 use Rattle.hp_file.proofs.forking.copies_of.Given as goal
 
 abbrev pub invariant-loop-map : goal.invariant-loop-map

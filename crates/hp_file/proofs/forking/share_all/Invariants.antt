@@ -1,7 +1,5 @@
-use Rattle.std.proofs.Common.{take}
-use Rattle.std.specs.List.{sum_by}
-use Rattle.hp_lookup.specs.Forking.{copies_in}
-use Rattle.hp_lookup.specs.Held.{in_map}
+use Rattle.std.proofs.Common.{take, sum_by}
+use Rattle.hp_lookup.proofs.Words.{copies_in, in_map}
 use Rattle.hp_file.specs.HeldPages.{AreShared}
 use Rattle.hp_file.proofs.forking.share_all.Given as goal
 

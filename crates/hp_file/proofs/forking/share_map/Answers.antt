@@ -1,8 +1,7 @@
 use Rattle.std.proofs.lemmas.Grind.{common_steps}
-use Rattle.std.proofs.Common.{◌≡◌, ◌<◌, ◌+◌, ◌-◌, ap, drop, length, arith}
-use Rattle.std.specs.List.{count_by, sum_by}
+use Rattle.std.proofs.Common.{◌≡◌, ◌<◌, ◌+◌, ◌-◌, ap, drop, length, arith, count_by, sum_by}
 use Rattle.hp_mapping.specs.Mapped.{has_copy}
-use Rattle.hp_lookup.specs.Held.{in_place}
+use Rattle.hp_lookup.proofs.Words.{in_place}
 use Rattle.hp_file.proofs.Runs.{behind, left_sum, run_first, run_fits, run_sum, shared_before}
 use Rattle.hp_file.proofs.Sharing.{bare_in, bare_one, has_one, no_copy, shared_all, shared_as, shared_none, shared_then, stands_at, to_copy}
 use Rattle.hp_file.proofs.forking.share_map.Goals as goal

@@ -1,7 +1,6 @@
 use Rattle.std.proofs.lemmas.Grind.{common_steps}
-use Rattle.std.proofs.Common.{◌+◌, ◌∷◌, drop, refl, sym, ◌∙◌, arith}
-use Rattle.std.specs.List.{sum_by}
-use Rattle.hp_lookup.specs.Held.{in_place}
+use Rattle.std.proofs.Common.{◌+◌, ◌∷◌, drop, refl, sym, ◌∙◌, arith, sum_by}
+use Rattle.hp_lookup.proofs.Words.{in_place}
 use Rattle.hp_lookup.proofs.Lifting.{is_it}
 use Rattle.hp_file.proofs.Sharing.{copied_in, drop_read, has_one, shared_as, shared_none, shared_one, some_one, shared_then, sum_read}
 use Rattle.hp_file.proofs.forking.share_run.Goals as goal

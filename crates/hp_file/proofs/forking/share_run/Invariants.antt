@@ -1,8 +1,6 @@
-use Rattle.std.proofs.Common.{◌≡◌, ◌+◌, ◌-◌, ◌≤◌, drop, length}
-use Rattle.std.specs.List.{count_by}
+use Rattle.std.proofs.Common.{◌≡◌, ◌+◌, ◌-◌, ◌≤◌, drop, length, count_by}
 use Rattle.hp_mapping.specs.Mapped.{has_copy}
-use Rattle.hp_lookup.specs.Forking.{IsShared}
-use Rattle.hp_lookup.specs.Held.{more_in}
+use Rattle.hp_lookup.proofs.Words.{IsShared, more_in}
 use Rattle.hp_file.proofs.forking.share_run.Given as goal
 
 abbrev pub invariant-loop-at : goal.invariant-loop-at

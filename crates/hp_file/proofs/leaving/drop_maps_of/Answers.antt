@@ -1,13 +1,8 @@
 use Rattle.std.proofs.lemmas.Grind.{common_steps}
-use Rattle.std.proofs.Common.{arith, ap, ◌+◌, ◌<◌, length, take, ◌∙◌}
-use Rattle.std.specs.Prelude.{slice_index_or}
-use Rattle.std.specs.List.{sum_by}
+use Rattle.std.proofs.Common.{arith, ap, ◌+◌, ◌<◌, length, take, ◌∙◌, slice_index_or, sum_by}
 use Rattle.std.proofs.lemmas.List.{length-set}
 use Rattle.std.proofs.lemmas.List.Sums.{get_or-le-sum_by, sum_by-set, sum_by_more}
-use Rattle.hp_lookup.specs.Forking.{maps_named}
-use Rattle.hp_lookup.specs.Held.{in_file}
-use Rattle.hp_lookup.specs.Leaving.{emptied, file_owed, left_by}
-use Rattle.hp_lookup.specs.Numbered.{NumberedFile}
+use Rattle.hp_lookup.proofs.Words.{NumberedFile, emptied, file_owed, in_file, left_by, maps_named}
 use Rattle.hp_file.proofs.Counting.{dropped_then, left_held, part_held}
 use Rattle.hp_file.proofs.Leaves.{gone_then}
 use Rattle.hp_file.proofs.Punched.{first_next, first_step}

@@ -1,9 +1,5 @@
-use Rattle.std.specs.Prelude.{◌≡◌, ◌+◌, length, take}
-use Rattle.std.specs.List.{sum_by}
-use Rattle.hp_lookup.specs.Forking.{maps_named}
-use Rattle.hp_lookup.specs.Held.{in_files}
-use Rattle.hp_lookup.specs.Leaving.{IsMoreButTask, emptied, file_owed, left_by, map_sum}
-use Rattle.hp_lookup.specs.Numbered.{NumberedFile}
+use Rattle.std.proofs.Common.{◌≡◌, ◌+◌, length, take, sum_by}
+use Rattle.hp_lookup.proofs.Words.{IsMoreButTask, NumberedFile, emptied, file_owed, in_files, left_by, map_sum, maps_named}
 use Rattle.hp_file.specs.HeldPages.{AreDropped}
 use Rattle.hp_file.proofs.Punched.{first_mapped}
 use Rattle.hp_file.proofs.leaving.drop_maps_of.Given as goal

@@ -1,6 +1,6 @@
 use Rattle.std.proofs.Common.{rules, ◌≡◌, ◌-◌, ◌∙◌, ap}
 use borrow.Rule.Slice.PartMut.{put_mid}
-use Rattle.hp_model.specs.files.Page.{zeros}
+use Rattle.hp_model.proofs.Words.{zeros}
 use Rattle.hp_frames.proofs.Zeros.{zeros_filled}
 use Rattle.hp_frames.proofs.frame.zero_between.Goals as goal
 

@@ -1,5 +1,5 @@
 use Rattle.std.proofs.Common.{◌≡◌}
-use Rattle.hp_model.specs.files.File.{cells_to}
+use Rattle.hp_model.proofs.Words.{cells_to}
 use Rattle.hp_inode.specs.Form.{cells_in}
 use Rattle.hp_inode.proofs.Bare.{holes_kept}
 use Rattle.hp_inode.proofs.CellFacts.{resized}

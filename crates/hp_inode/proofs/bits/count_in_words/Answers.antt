@@ -1,5 +1,5 @@
-use Rattle.std.proofs.Common.{arith, sym, ◌∙◌, ◌<◌, ◌^◌, ◌*◌, ◌+◌, ◌-◌, ◌/◌, ◌≡◌, get_or, None, Some}
-use Rattle.std.specs.List.{count_by, range_with_len}
+use Rattle.std.proofs.Common.{arith, sym, ◌∙◌, ◌<◌, ◌^◌, ◌*◌, ◌+◌, ◌-◌, ◌/◌, ◌≡◌, get_or, None, Some, count_by}
+use Rattle.std.specs.List.{range_with_len}
 use Rattle.hp_marks.proofs.Range.{bit_marked}
 use Rattle.hp_inode.specs.EntryBlock.{IsNextWord}
 use Rattle.hp_inode.proofs.Spread.{finds_word, ours, counted_none, counted_few, counted_full, counted_next, counted_end}

@@ -1,5 +1,5 @@
-use Rattle.std.proofs.Common.{◌≡◌, ◌*◌, ◌/◌, ◌≤◌, ◌-◌, length}
-use Rattle.std.specs.List.{count_by, range_with_len}
+use Rattle.std.proofs.Common.{◌≡◌, ◌*◌, ◌/◌, ◌≤◌, ◌-◌, length, count_by}
+use Rattle.std.specs.List.{range_with_len}
 use Rattle.hp_inode.proofs.Spread.{ours}
 use Rattle.hp_inode.proofs.bits.count_in_words.Given as goal
 

@@ -1,5 +1,4 @@
-use Rattle.std.proofs.Common.{ℕ, ◌≡◌, ◌+◌, ◌-◌, ◌<◌, length}
-use Rattle.std.specs.List.{slice_index_or}
+use Rattle.std.proofs.Common.{ℕ, ◌≡◌, ◌+◌, ◌-◌, ◌<◌, length, slice_index_or}
 use Rattle.hp_inode.specs.Later.{made_count}
 use Rattle.hp_inode.proofs.places.make_place.Given as goal
 

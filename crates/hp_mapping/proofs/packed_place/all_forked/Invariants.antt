@@ -1,5 +1,5 @@
 use Rattle.std.proofs.Common.{◌≡◌, take, map, vec_len, vec_capacity}
-use Rattle.hp_model.specs.files.Mapping.{unconsumed}
+use Rattle.hp_model.proofs.Words.{unconsumed}
 use Rattle.hp_mapping.proofs.packed_place.all_forked.Given as goal
 
 abbrev pub invariant-loop-place : goal.invariant-loop-place

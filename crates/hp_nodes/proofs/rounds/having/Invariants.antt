@@ -1,6 +1,5 @@
-use Rattle.std.proofs.Common.{◌≡◌, ◌≤◌, take}
-use Rattle.std.specs.List.{count_by}
-use Rattle.hp_model.specs.pool.NodeRows.{has}
+use Rattle.std.proofs.Common.{◌≡◌, ◌≤◌, take, count_by}
+use Rattle.hp_model.proofs.Words.{has}
 use Rattle.hp_nodes.proofs.rounds.having.Given as goal
 
 abbrev pub invariant-loop-node : goal.invariant-loop-node

@@ -1,7 +1,7 @@
 use Rattle.std.proofs.Common.{◌≡◌, ◌<◌, ◌+◌, length, slice_index_or, sym, ap, ◌∙◌, rules}
 use Rattle.std.proofs.lemmas.Bool.{cond-true, cond-false}
 use Rattle.hp_model.specs.declared.node.Kind.TheVariants.{Free}
-use Rattle.hp_model.specs.pool.NodeRows.{row_at, has}
+use Rattle.hp_model.proofs.Words.{has, row_at}
 use Rattle.hp_nodes.specs.Moves.{where_has, shrink_by}
 use Rattle.hp_nodes.proofs.Each.{changed_before, changed_next, read_at}
 use Rattle.hp_nodes.proofs.rounds.shrink_each.Goals as goal

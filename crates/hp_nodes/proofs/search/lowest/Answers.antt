@@ -1,8 +1,7 @@
-use Rattle.std.proofs.Common.{◌∙◌, ap, length, rules, tests}
-use Rattle.std.specs.Prelude.{unwrap_or}
+use Rattle.std.proofs.Common.{◌∙◌, ap, length, rules, tests, unwrap_or}
 use Rattle.std.proofs.lemmas.Iterator.{YieldsList-from_slice}
 use Rattle.std.proofs.lemmas.Iterator.Search.{position_from_yields_List}
-use Rattle.hp_model.specs.pool.NodeRows.{has}
+use Rattle.hp_model.proofs.Words.{has}
 use Rattle.hp_nodes.proofs.Finds.{found_or_len, lowest_le}
 use Rattle.hp_nodes.proofs.search.lowest.Goals as goal
 

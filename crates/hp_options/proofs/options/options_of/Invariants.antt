@@ -1,5 +1,5 @@
 use Rattle.std.proofs.Common.{◌≡◌, length}
-use Rattle.hp_model.specs.files.Options.{options_of, parts}
+use Rattle.hp_model.proofs.Words.{options_of, parts}
 use Rattle.hp_options.specs.Seen.{wanted_seen}
 use Rattle.hp_text.specs.Pieces.{from_separator, pieces_after}
 use Rattle.hp_options.proofs.options.options_of.Given as goal

@@ -1,5 +1,4 @@
-use Rattle.std.proofs.Common.{◌≡◌, ◌+◌, ◌<◌, ◌++◌}
-use Rattle.std.specs.Prelude.{replicate}
+use Rattle.std.proofs.Common.{◌≡◌, ◌+◌, ◌<◌, ◌++◌, replicate}
 use Rattle.hp_mount_door.specs.Filling.{nodes_in}
 use Rattle.hp_own_pool.proofs.filling.add_claim.Given as goal
 

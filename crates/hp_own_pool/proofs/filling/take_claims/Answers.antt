@@ -1,5 +1,5 @@
 use Rattle.std.proofs.Common.{arith, ap, ◌≡◌, ◌∙◌}
-use Rattle.hp_model.specs.pool.Pool.{takes_of}
+use Rattle.hp_model.proofs.Words.{takes_of}
 use Rattle.hp_own_pool.proofs.Takings.{all_taken, more_taken}
 use Rattle.hp_own_pool.proofs.filling.take_claims.Goals as goal
 

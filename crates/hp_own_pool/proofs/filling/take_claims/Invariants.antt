@@ -1,5 +1,5 @@
 use Rattle.std.proofs.Common.{◌-◌, ◌≤◌}
-use Rattle.hp_model.specs.pool.PoolCounts.{IsSettled}
+use Rattle.hp_model.proofs.Words.{IsSettled}
 use Rattle.hp_own_pool.proofs.Takings.{AreTaken}
 use Rattle.hp_own_pool.proofs.filling.take_claims.Given as goal
 

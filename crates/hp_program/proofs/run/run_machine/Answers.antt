@@ -1,5 +1,5 @@
 use Rattle.std.proofs.Common.{◌≡◌, ◌∙◌, ℕ, List, ap, rules}
-use Rattle.hp_model.specs.machine.Machine.{start}
+use Rattle.hp_model.proofs.Words.{start}
 use Rattle.hp_system.proofs.Ready.{ready_pool}
 use Rattle.hp_program.proofs.Runs.{run_ended, script_answered}
 use Rattle.hp_program.proofs.run.run_machine.Goals as goal

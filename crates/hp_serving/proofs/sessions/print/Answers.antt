@@ -1,6 +1,6 @@
 use Rattle.std.proofs.Common.{◌≡◌, rules}
 use Rattle.std.proofs.lemmas.Result.{err_from_is_err_and}
-use Rattle.hp_model.specs.text.Writing.{meminfo_text}
+use Rattle.hp_model.proofs.Words.{meminfo_text}
 use Rattle.hp_serving.specs.Ended.{text_of_audit}
 use Rattle.hp_serving.proofs.Printed.{cut_first, cut_second, sent_second}
 use Rattle.hp_serving.proofs.sessions.print.Goals as goal

@@ -1,5 +1,4 @@
-use Rattle.std.proofs.Common.{◌≡◌, ◌≤◌, ◌*◌, take}
-use Rattle.std.specs.List.{sum}
+use Rattle.std.proofs.Common.{◌≡◌, ◌≤◌, ◌*◌, take, sum}
 use Rattle.hp_shared.proofs.making.all_frames.Given as goal
 
 abbrev pub invariant-loop-count : goal.invariant-loop-count

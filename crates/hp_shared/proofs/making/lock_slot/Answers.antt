@@ -1,5 +1,4 @@
-use Rattle.std.proofs.Common.{◌≡◌, suc, [], ◌∷◌, sym, ap, ◌∙◌, arith}
-use Rattle.std.specs.Prelude.{vec_len}
+use Rattle.std.proofs.Common.{◌≡◌, suc, [], ◌∷◌, sym, ap, ◌∙◌, arith, vec_len}
 use Rattle.hp_history.specs.declared.held.Held.TheVariants.{Slot as SlotPart}
 use Rattle.hp_shared.proofs.Parted.{slot_first, slot_goes, slots_left}
 use Rattle.hp_shared.proofs.making.lock_slot.Goals as goal

@@ -1,5 +1,4 @@
-use Rattle.std.proofs.Common.{◌≡◌, ◌≤◌, ◌<◌, ◌+◌, []}
-use Rattle.std.specs.Prelude.{replicate, vec_len, vec_capacity}
+use Rattle.std.proofs.Common.{◌≡◌, ◌≤◌, ◌<◌, ◌+◌, [], replicate, vec_len, vec_capacity}
 use Rattle.hp_history.specs.History.{held_from}
 use Rattle.hp_shared.proofs.making.lock_slots.Given as goal
 

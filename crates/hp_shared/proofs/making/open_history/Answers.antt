@@ -1,5 +1,4 @@
-use Rattle.std.proofs.Common.{[], sym, ap, ◌∙◌, subst}
-use Rattle.std.specs.Prelude.{replicate}
+use Rattle.std.proofs.Common.{[], sym, ap, ◌∙◌, subst, replicate}
 use Rattle.hp_history.specs.History.{CanGo, rest_of_view}
 use Rattle.hp_shared.proofs.Parted.{opener_goes, pool_goes, tasks_go}
 use Rattle.hp_shared.proofs.making.open_history.Goals as goal

@@ -1,10 +1,7 @@
 use Rattle.std.proofs.Common.{Err, None, Ok, Some, sym, subst}
-use Rattle.hp_model.specs.declared.answer.Answer.{Answer}
-use Rattle.hp_model.specs.declared.answer.Answer.TheVariants.{Names}
+use Rattle.hp_laws.proofs.Variants.{Answer, Names, NoSuchSlot}
 use Rattle.hp_model.specs.declared.event.SlotEvent.TheVariants.{Ls}
-use Rattle.hp_model.specs.declared.refusal.Refusal.TheVariants.{NoSuchSlot}
-use Rattle.hp_model.specs.machine.Plan.{Slot}
-use Rattle.hp_model.specs.beside.Told.{told_answer}
+use Rattle.hp_model.proofs.Words.{Slot, told_answer}
 use Rattle.hp_events.specs.Answered.{Went}
 use Rattle.hp_shared.proofs.Naming.{ls_names, none_listed, went_alone}
 use Rattle.hp_shared.proofs.SlotsKept.{not_full}

@@ -1,7 +1,6 @@
-use Rattle.std.proofs.Common.{ℕ, List, None, sym, subst}
-use Rattle.std.specs.Prelude.{Result}
+use Rattle.std.proofs.Common.{ℕ, List, None, sym, subst, Result}
 use Rattle.hp_model.specs.declared.event.SlotEvent.TheVariants.{Ls}
-use Rattle.hp_model.specs.declared.refusal.Refusal.{Refusal}
+use Rattle.hp_laws.proofs.Variants.{Refusal}
 use Rattle.hp_events.specs.Answered.{Went}
 use Rattle.hp_events.specs.Replies.{names_reply}
 use Rattle.hp_shared.proofs.Naming.{list_denied}

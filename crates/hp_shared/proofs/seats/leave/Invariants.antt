@@ -1,4 +1,4 @@
-use Rattle.hp_model.specs.beside.Told.{told_reply}
+use Rattle.hp_model.proofs.Words.{told_reply}
 use Rattle.hp_events.specs.SlotWork.{asked_event}
 use Rattle.hp_shared.proofs.seats.leave.Given as goal
 

@@ -1,8 +1,7 @@
-use Rattle.std.proofs.Common.{ap, ◌∙◌}
-use Rattle.std.specs.Prelude.{Result}
+use Rattle.std.proofs.Common.{ap, ◌∙◌, Result}
 use Rattle.hp_history.proofs.TablesOf.{add_done, add_refused}
-use Rattle.hp_model.specs.beside.Accesses.{done_reply}
-use Rattle.hp_model.specs.declared.refusal.Refusal.{Refusal}
+use Rattle.hp_model.proofs.Words.{done_reply}
+use Rattle.hp_laws.proofs.Variants.{Refusal}
 use Rattle.hp_shared.proofs.table.add.Goals as goal
 
 pub returns-in-Ok-clause-change : goal.returns-in-Ok-clause-change

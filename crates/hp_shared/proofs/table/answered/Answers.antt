@@ -1,5 +1,5 @@
 use Rattle.std.proofs.Common.{ap, ◌∙◌}
-use Rattle.hp_model.specs.machine.Table.{table_event}
+use Rattle.hp_model.proofs.Words.{table_event}
 use Rattle.hp_shared.proofs.table.answered.Goals as goal
 
 pub returns-in-FindAndAdd-clause-event : goal.returns-in-FindAndAdd-clause-event

@@ -1,5 +1,5 @@
 use Rattle.std.proofs.Common.{List, [], ◌∷◌, ap}
-use Rattle.hp_model.specs.declared.entry.TableEntry.{TableEntry}
+use Rattle.hp_laws.proofs.Variants.{TableEntry}
 use Rattle.hp_events.specs.Replies.{table_reply}
 use Rattle.hp_history.proofs.Sections.{taken, together}
 use Rattle.hp_history.specs.declared.held.Held.{Held}

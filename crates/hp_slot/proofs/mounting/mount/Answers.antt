@@ -1,7 +1,7 @@
 use Rattle.std.proofs.Common.{Err, Ok, Some, sym, ap, subst, ◌∙◌}
 use Rattle.hp_model.specs.declared.event.SlotEvent.TheVariants.{Mount as Mounting}
 use Rattle.hp_model.specs.declared.refusal.Refusal.TheVariants.{SlotTaken}
-use Rattle.hp_model.specs.machine.Plan.{Slot}
+use Rattle.hp_model.proofs.Words.{Slot}
 use Rattle.hp_mount_laws.specs.Done.{IsDone}
 use Rattle.hp_slot.proofs.Mounts.{mounted_on, none_mount, opened_held, opened_pages, some_mount, taken}
 use Rattle.hp_slot.proofs.mounting.mount.Goals as goal

@@ -2,7 +2,7 @@ use Rattle.std.proofs.Common.{Err, Some, sym, subst, arith}
 use Rattle.std.proofs.lemmas.Bool.Decides.{nat_tests}
 use Rattle.hp_model.specs.declared.event.SlotEvent.TheVariants.{Remount}
 use Rattle.hp_model.specs.declared.refusal.Refusal.TheVariants.{NoSuchSlot, SlotTaken}
-use Rattle.hp_model.specs.machine.Plan.{Slot}
+use Rattle.hp_model.proofs.Words.{Slot}
 use Rattle.hp_mount_laws.specs.Done.{IsDone}
 use Rattle.hp_slot.proofs.Mounts.{limits_first, limits_none}
 use Rattle.hp_slot.proofs.mounting.remount.Goals as goal

@@ -1,10 +1,9 @@
-use Rattle.std.proofs.Common.{◌≡◌, ◌==◌, false, Err, Ok, Some, sym, ap, subst, ◌∙◌, arith}
-use Rattle.std.specs.Prelude.{not}
+use Rattle.std.proofs.Common.{◌≡◌, ◌==◌, false, Err, Ok, Some, sym, ap, subst, ◌∙◌, arith, not}
 use Rattle.std.proofs.lemmas.Bool.Decides.{nat_tests}
 use Rattle.hp_model.specs.declared.answer.Answer.TheVariants.{Done}
 use Rattle.hp_model.specs.declared.event.SlotEvent.TheVariants.{Umount}
 use Rattle.hp_model.specs.declared.refusal.Refusal.TheVariants.{Busy, NoSuchSlot}
-use Rattle.hp_model.specs.machine.Plan.{Slot}
+use Rattle.hp_model.proofs.Words.{Slot}
 use Rattle.hp_mount_laws.specs.Done.{IsDone}
 use Rattle.hp_slot.proofs.Mounts.{none_mount, some_mount, unmounted, unmounted_busy, unmounted_none}
 use Rattle.hp_slot.proofs.mounting.unmount.Goals as goal

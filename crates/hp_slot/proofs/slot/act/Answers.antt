@@ -1,7 +1,7 @@
 use Rattle.std.proofs.Common.{Err, sym, subst}
 use Rattle.hp_events.specs.Event.{as_event}
 use Rattle.hp_model.specs.declared.refusal.Refusal.TheVariants.{NoSuchSlot}
-use Rattle.hp_model.specs.machine.Plan.{Slot}
+use Rattle.hp_model.proofs.Words.{Slot}
 use Rattle.hp_mount_laws.specs.Done.{IsDone}
 use Rattle.hp_slot.proofs.Asking.{none_done}
 use Rattle.hp_slot.proofs.slot.act.Goals as goal

@@ -1,8 +1,6 @@
 use Rattle.std.proofs.Common.{Some, sym, subst}
-use Rattle.hp_model.specs.beside.Accesses.{done_reply}
+use Rattle.hp_model.proofs.Words.{Choice, Slot, done_reply, slot_event}
 use Rattle.hp_model.specs.declared.event.SlotEvent.TheVariants.{ForkMaps}
-use Rattle.hp_model.specs.machine.Plan.{Choice, Slot}
-use Rattle.hp_model.specs.machine.SlotEvent.{slot_event}
 use Rattle.hp_mount_laws.specs.Done.{IsDone}
 use Rattle.hp_slot.proofs.Asking.{as_noted}
 use Rattle.hp_slot.proofs.slot.fork.Goals as goal

@@ -1,7 +1,7 @@
 use Rattle.std.proofs.Common.{Ok, Some, sym, subst}
 use Rattle.hp_model.specs.declared.answer.Answer.TheVariants.{Done}
 use Rattle.hp_model.specs.declared.event.SlotEvent.TheVariants.{ExitMaps}
-use Rattle.hp_model.specs.machine.Plan.{Slot}
+use Rattle.hp_model.proofs.Words.{Slot}
 use Rattle.hp_mount_laws.specs.Done.{IsDone}
 use Rattle.hp_slot.proofs.slot.leave.Goals as goal
 

@@ -1,5 +1,4 @@
-use Rattle.hp_model.specs.machine.Promises.{IsPromisedStep}
-use Rattle.hp_model.specs.machine.Ready.{Machine}
+use Rattle.hp_model.proofs.Words.{IsPromisedStep, Machine}
 use Rattle.hp_system.proofs.Scripts.{ran_script}
 use Rattle.hp_system.proofs.Seen.{serves_seen}
 use Rattle.hp_system.proofs.script.run_script.Goals as goal

@@ -1,8 +1,6 @@
 use Rattle.std.proofs.Common.{Ok, Some, ◌∷◌, ◌++◌, []}
-use Rattle.hp_model.specs.declared.answer.Answer.TheVariants.{Done}
-use Rattle.hp_model.specs.declared.event.SlotEvent.TheVariants.{ExitMaps}
-use Rattle.hp_model.specs.machine.Plan.{Choice}
-use Rattle.hp_model.specs.machine.SlotEvent.{slot_event}
+use Rattle.hp_laws.proofs.Variants.{Done, ExitMaps}
+use Rattle.hp_model.proofs.Words.{Choice, slot_event}
 use Rattle.hp_system.proofs.Carries.{never_full}
 use Rattle.hp_system.proofs.Ending.{exits_more}
 use Rattle.hp_system.specs.Event.{IsExit}

@@ -1,5 +1,5 @@
 use Rattle.std.proofs.Common.{length}
-use Rattle.hp_model.specs.files.File.{maps_of}
+use Rattle.hp_model.proofs.Words.{maps_of}
 use Rattle.hp_mount_door.specs.Door.{IsReady}
 use Rattle.hp_system.specs.Event.{AllExit}
 use Rattle.hp_system.proofs.system.exit_all.Given as goal

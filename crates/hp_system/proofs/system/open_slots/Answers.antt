@@ -1,6 +1,5 @@
 use Rattle.std.proofs.Common.{◌≡◌, ◌+◌, ◌-◌, suc, [], ◌∷◌, ◌++◌, Some, None, replicate, ap, ◌∙◌, arith}
-use Rattle.hp_model.specs.machine.Machine.{open_mount}
-use Rattle.hp_model.specs.machine.Plan.{Slot}
+use Rattle.hp_model.proofs.Words.{Slot, open_mount}
 use Rattle.hp_system.proofs.Start.{none_more}
 use Rattle.hp_system.proofs.system.open_slots.Goals as goal
 

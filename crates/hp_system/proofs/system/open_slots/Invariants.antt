@@ -1,6 +1,5 @@
-use Rattle.std.proofs.Common.{◌≡◌, ◌-◌, ◌≤◌, ◌∷◌, Some, None, replicate}
-use Rattle.std.specs.Prelude.{vec_len, vec_capacity}
-use Rattle.hp_model.specs.machine.Machine.{open_mount}
+use Rattle.std.proofs.Common.{◌≡◌, ◌-◌, ◌≤◌, ◌∷◌, Some, None, replicate, vec_len, vec_capacity}
+use Rattle.hp_model.proofs.Words.{open_mount}
 use Rattle.hp_system.proofs.system.open_slots.Given as goal
 
 abbrev pub invariant-loop : goal.invariant-loop

@@ -1,5 +1,4 @@
-use Rattle.std.proofs.Common.{rules, arith, sym, subst, ap, ◌∙◌, length}
-use Rattle.std.specs.Option.{is_some}
+use Rattle.std.proofs.Common.{rules, arith, sym, subst, ap, ◌∙◌, length, is_some}
 use Rattle.std.proofs.lemmas.Fn.{filter_same}
 use Rattle.hp_tasks.specs.Table.{HasEachOnce, tasks_in}
 use Rattle.hp_tasks.proofs.Noted.{closed_alone}

@@ -1,4 +1,4 @@
-use Rattle.std.specs.Prelude.{◌≡◌, length}
+use Rattle.std.proofs.Common.{◌≡◌, length}
 use Rattle.hp_tasks.specs.Table.{rests}
 use Rattle.hp_tasks.proofs.Noted.{AreNotedBefore}
 use Rattle.hp_tasks.proofs.table.note_all.Given as goal

@@ -1,9 +1,8 @@
-use Rattle.std.proofs.Common.{◌≡◌, ℕ, ◌<◌, ◌↔◌, inl, inr, List, [], ◌∷◌, ◌++◌, length, Option, None, Some, IsSome, slice_index_or, refl, ap, ◌∙◌, arith, length-append}
-use Rattle.std.specs.Prelude.{option_to_list}
+use Rattle.std.proofs.Common.{◌≡◌, ℕ, ◌<◌, ◌↔◌, inl, inr, List, [], ◌∷◌, ◌++◌, length, Option, None, Some, IsSome, slice_index_or, refl, ap, ◌∙◌, arith, length-append, option_to_list}
 use Rattle.std.proofs.lemmas.Bool.{cases_eq, cases_lt}
 use Rattle.std.proofs.lemmas.Grind.{common_steps}
 use Rattle.std.proofs.lemmas.List.{get_or-set_same, get_or-set_other, get_or_past, length-set}
-use Rattle.hp_model.specs.files.Page.{Page}
+use Rattle.hp_model.proofs.Words.{Page}
 use Rattle.hp_store.specs.Store.{Holding, Store, page_at, holders_of, held_page, with_page, dropped, dropped_by}
 use Rattle.hp_tests.proofs.store.emptied.Goals as goal
 

@@ -1,8 +1,6 @@
-use Rattle.std.proofs.Common.{subst}
-use Rattle.std.specs.Prelude.{MatchOption}
+use Rattle.std.proofs.Common.{subst, MatchOption}
 use Rattle.hp_laws.proofs.settled.JoinedRun.{joined_law}
-use Rattle.hp_model.specs.threads.Differ.{Differ}
-use Rattle.hp_model.specs.threads.JointRun.{Trails}
+use Rattle.hp_model.proofs.Words.{Differ, Trails}
 use Rattle.hp_trail.specs.Walk.{JoinsBy, lists, trails_of}
 use Rattle.hp_trail.proofs.Exact.{joined_differ_not}
 use Rattle.hp_trail.proofs.audit.audit.Goals as goal

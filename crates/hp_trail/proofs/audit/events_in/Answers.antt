@@ -1,7 +1,5 @@
-use Rattle.std.proofs.Common.{◌≡◌, ◌<◌, ℕ, [], ◌∷◌, ◌++◌, List, length, sym, ap, ◌∙◌, subst, arith}
-use Rattle.std.specs.List.{slice_index_or, slice_set}
-use Rattle.hp_model.specs.declared.event.Event.{Event}
-use Rattle.hp_model.specs.declared.entry.Receipt.{Receipt}
+use Rattle.std.proofs.Common.{◌≡◌, ◌<◌, ℕ, [], ◌∷◌, ◌++◌, List, length, sym, ap, ◌∙◌, subst, arith, slice_index_or, slice_set}
+use Rattle.hp_laws.proofs.Variants.{Event, Receipt}
 use Rattle.hp_trail.specs.Walk.{lists}
 use Rattle.hp_trail.proofs.Emptying.{IsEmptying, emptied, none_there, some_left, there}
 use Rattle.hp_trail.proofs.Indexing.{lists_long, lists_read, lists_set}

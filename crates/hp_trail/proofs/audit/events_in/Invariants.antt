@@ -1,5 +1,5 @@
 use Rattle.std.proofs.Common.{◌≡◌, List, length, map}
-use Rattle.hp_model.specs.threads.JointRun.{IsTold, Item}
+use Rattle.hp_model.proofs.Words.{IsTold, Item}
 use Rattle.hp_trail.specs.Walk.{lists}
 use Rattle.hp_trail.proofs.Emptying.{IsEmptying, session_of}
 use Rattle.hp_trail.proofs.audit.events_in.Given as goal

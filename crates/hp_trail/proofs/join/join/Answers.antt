@@ -1,11 +1,8 @@
-use Rattle.std.proofs.Common.{inl, inr, ℕ, [], ◌∷◌, ◌++◌, List, length, refl, sym, ◌∙◌, subst, arith}
-use Rattle.std.specs.List.{Contains}
-use Rattle.std.specs.Prelude.{MatchOption}
+use Rattle.std.proofs.Common.{inl, inr, ℕ, [], ◌∷◌, ◌++◌, List, length, refl, sym, ◌∙◌, subst, arith, Contains, MatchOption}
 use Rattle.std.proofs.lemmas.Bool.Decides.{eqb_tells}
 use Rattle.std.proofs.lemmas.List.Elements.{Contains-append_left, Contains-push}
-use Rattle.hp_model.specs.declared.entry.Receipt.{Receipt}
-use Rattle.hp_model.specs.threads.Differ.{Differ}
-use Rattle.hp_model.specs.threads.JointRun.{Trails}
+use Rattle.hp_laws.proofs.Variants.{Receipt}
+use Rattle.hp_model.proofs.Words.{Differ, Trails}
 use Rattle.hp_trail.specs.Tellers.{AreTold, TellerRows}
 use Rattle.hp_trail.specs.Walk.{AreCovered, HasReceiptsLeft, HaveEnded, JoinsBy, WalkedBy, Walking, lists, trails_of}
 use Rattle.hp_trail.proofs.Covering.{all_wait}

@@ -1,5 +1,4 @@
-use Rattle.std.proofs.Common.{◌<◌, ℕ}
-use Rattle.std.specs.List.{Contains}
+use Rattle.std.proofs.Common.{◌<◌, ℕ, Contains}
 use Rattle.hp_trail.proofs.join.join.Given as goal
 
 abbrev pub invariant-loop-session : goal.invariant-loop-session

@@ -1,7 +1,7 @@
 use Rattle.std.proofs.Common.{◌≡◌, ℕ, List, length, refl, sym, subst, arith}
 use Rattle.std.proofs.lemmas.List.{nil_from_length}
-use Rattle.hp_model.specs.declared.entry.Receipt.{Receipt}
-use Rattle.hp_model.specs.threads.JointRun.{Trails}
+use Rattle.hp_laws.proofs.Variants.{Receipt}
+use Rattle.hp_model.proofs.Words.{Trails}
 use Rattle.hp_trail.specs.Tellers.{AreRight, HaveSections, teller}
 use Rattle.hp_trail.specs.Walk.{AreCovered, IsWoken, cursor}
 use Rattle.hp_trail.proofs.Joining.{smaller, turned, turned_back}

@@ -1,6 +1,6 @@
 use Rattle.std.proofs.Common.{◌∙◌, inl, sym, refl, arith}
 use Rattle.std.proofs.lemmas.Bool.{false≢true}
-use Rattle.hp_model.specs.threads.Differ.{of_pool}
+use Rattle.hp_model.proofs.Words.{of_pool}
 use Rattle.hp_trail.proofs.Claiming.{past_misses, other_misses, noted, noted_before}
 use Rattle.hp_trail.proofs.tellers.add_pool.Goals as goal
 

@@ -1,6 +1,5 @@
-use Rattle.std.proofs.Common.{◌≡◌, ◌≢◌, ◌<◌, length, inl, inr, refl, ap, arith}
+use Rattle.std.proofs.Common.{◌≡◌, ◌≢◌, ◌<◌, length, inl, inr, refl, ap, arith, slice_index_or}
 use Rattle.std.proofs.lemmas.Bool.{false≢true}
-use Rattle.std.specs.List.{slice_index_or}
 use Rattle.hp_trail.specs.Tellers.{Claims, Finds, Misses, entry_of_slot}
 use Rattle.hp_trail.proofs.Claiming.{finds, list_read, moved, no_trail, other_misses, past_misses}
 use Rattle.hp_trail.proofs.Indexing.{lists_set}

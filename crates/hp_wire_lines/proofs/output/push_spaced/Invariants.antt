@@ -1,5 +1,5 @@
 use Rattle.std.proofs.Common.{◌≤◌, ◌+◌, ◌-◌, ◌*◌, length, drop, vec_len, vec_capacity}
-use Rattle.hp_model.specs.text.Writing.{spaced}
+use Rattle.hp_model.proofs.Words.{spaced}
 use Rattle.hp_text.proofs.Added.{Adding}
 use Rattle.hp_wire_lines.proofs.output.push_spaced.Given as goal
 

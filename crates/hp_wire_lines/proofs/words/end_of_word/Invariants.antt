@@ -1,6 +1,6 @@
 use Rattle.std.proofs.Common.{◌≡◌, ◌+◌, ◌-◌, ◌≤◌, ◌<◌, length, true}
 use Rattle.std.specs.List.{list_all}
-use Rattle.hp_model.specs.text.Words.{is_word_byte}
+use Rattle.hp_model.proofs.Words.{is_word_byte}
 use Rattle.hp_wire_lines.specs.Words.{between, piece_with, pieces_from}
 use Rattle.hp_wire_lines.proofs.words.end_of_word.Given as goal
 

@@ -1,5 +1,5 @@
 use Rattle.std.proofs.Common.{◌≡◌, ◌≤◌, ◌<◌, ◌-◌, ◌^◌}
-use Rattle.hp_model.specs.text.Words.{number_at}
+use Rattle.hp_model.proofs.Words.{number_at}
 use Rattle.hp_wire_lines.specs.Words.{number_after, pieces_from}
 use Rattle.hp_wire_lines.proofs.words.front_number.Given as goal
 

@@ -1,5 +1,5 @@
 use Rattle.std.proofs.Common.{◌≤◌, ◌+◌, ◌-◌, ◌*◌, length, drop, vec_len, vec_capacity}
-use Rattle.hp_model.specs.text.Writing.{names_text}
+use Rattle.hp_model.proofs.Words.{names_text}
 use Rattle.hp_text.proofs.Added.{Adding}
 use Rattle.hp_wire_lines.proofs.writing.push_name_lines.Given as goal
 

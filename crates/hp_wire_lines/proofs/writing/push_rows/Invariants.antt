@@ -1,5 +1,5 @@
 use Rattle.std.proofs.Common.{◌≡◌, ◌≤◌, ◌+◌, ◌-◌, ◌*◌, length, drop, vec_len, vec_capacity}
-use Rattle.hp_model.specs.text.Writing.{rows_text}
+use Rattle.hp_model.proofs.Words.{rows_text}
 use Rattle.hp_text.proofs.Added.{Adding}
 use Rattle.hp_wire_lines.proofs.writing.push_rows.Given as goal
 

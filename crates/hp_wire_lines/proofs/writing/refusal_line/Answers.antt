@@ -2,7 +2,7 @@
 use Rattle.std.proofs.Common.{◌≡◌, ℕ, List, Err, refl, sym, subst}
 use Rattle.std.specs.Fmt.{digits}
 use Rattle.hp_model.specs.declared.refusal.Refusal.{Refusal}
-use Rattle.hp_model.specs.text.Writing.{line_of}
+use Rattle.hp_model.proofs.Words.{line_of}
 use Rattle.hp_wire_lines.proofs.writing.refusal_line.Goals as goal
 
 its_line : {text : List ℕ} {found is : Refusal} → found ≡ is → text ≡ line_of 0 (Err is) → text ≡ line_of 0 (Err found)

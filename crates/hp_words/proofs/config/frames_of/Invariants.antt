@@ -1,6 +1,5 @@
 use Rattle.std.proofs.Common.{◌≡◌, ◌≤◌, ◌++◌, length, map, All, Ok}
-use Rattle.hp_model.specs.text.Words.{number_read}
-use Rattle.hp_model.specs.Profile.{most_frames}
+use Rattle.hp_model.proofs.Words.{most_frames, number_read}
 use Rattle.hp_words.specs.Asked.{comma_pieces}
 use Rattle.hp_words.proofs.config.frames_of.Given as goal
 

@@ -1,7 +1,7 @@
 use Rattle.std.proofs.Common.{◌≡◌, ◌∙◌, ℕ, List, ap, arith, map}
 use denote.Param.Send.{sendable}
 use Rattle.hp_locked.specs.Views.{frames_list}
-use Rattle.hp_model.specs.machine.Machine.{start}
+use Rattle.hp_model.proofs.Words.{start}
 use Rattle.hp_shared.proofs.Crossing.{shared_sync}
 use Rattle.hp_shared.proofs.Opened.{frames_named}
 use Rattle.hp_shared.specs.Ended.{FinishedView}

@@ -1,7 +1,6 @@
 use Rattle.std.proofs.Common.{◌==◌, ℕ, Err, Ok, ap, ◌∙◌, subst}
-use Rattle.hp_model.specs.beside.Told.{told_answer}
-use Rattle.hp_model.specs.declared.event.Event.TheVariants.{Slot as OnSlot}
-use Rattle.hp_model.specs.declared.event.SlotEvent.TheVariants.{ForkMaps}
+use Rattle.hp_model.proofs.Words.{told_answer}
+use Rattle.hp_laws.proofs.Variants.{ForkMaps, Slot as OnSlot}
 use Rattle.hp_events.specs.Answered.{IsHanded}
 use Rattle.hp_shared.specs.Seated.{SeatedView}
 use Rattle.hp_entrance.proofs.Forking.{fork_done}

@@ -1,6 +1,6 @@
 use Rattle.std.proofs.Common.{◌≡◌, ◌==◌, ℕ, sym, ap, ◌∙◌, subst}
-use Rattle.hp_model.specs.beside.Told.{told_reply}
-use Rattle.hp_model.specs.declared.event.Event.TheVariants.{Slot as OnSlot}
+use Rattle.hp_model.proofs.Words.{told_reply}
+use Rattle.hp_laws.proofs.Variants.{Slot as OnSlot}
 use Rattle.hp_events.specs.Answered.{IsHanded}
 use Rattle.hp_events.specs.SlotWork.{asked_event}
 use Rattle.hp_events.specs.declared.slot_work.SlotWork.{SlotWork}

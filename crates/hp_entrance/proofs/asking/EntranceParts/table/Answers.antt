@@ -1,5 +1,5 @@
 use Rattle.std.proofs.Common.{◌==◌, subst}
-use Rattle.hp_model.specs.declared.event.Event.TheVariants.{Tasks as OnTasks}
+use Rattle.hp_laws.proofs.Variants.{Tasks as OnTasks}
 use Rattle.hp_events.specs.Answered.{IsHanded}
 use Rattle.hp_events.specs.Replies.{table_reply}
 use Rattle.hp_entrance.proofs.asking.EntranceParts.table.Goals as goal

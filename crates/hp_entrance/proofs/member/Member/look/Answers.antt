@@ -1,13 +1,9 @@
-use Rattle.std.proofs.Common.{◌≡◌, ◌==◌, ℕ, Bool, Option, None, Some, Ok, List, sym, ap}
-use Rattle.std.specs.Prelude.{IfSome}
+use Rattle.std.proofs.Common.{◌≡◌, ◌==◌, ℕ, Bool, Option, None, Some, Ok, List, sym, ap, IfSome}
 use Rattle.hp_entrance.specs.Members.{MemberView, told_at}
 use Rattle.hp_entrance.proofs.Handed.{handed_as, looked_told, told_before}
 use Rattle.hp_history.specs.declared.held.Held.{Held}
 use Rattle.hp_history.specs.History.{looked, receipts_in}
-use Rattle.hp_model.specs.declared.answer.Answer.TheVariants.{Home}
-use Rattle.hp_model.specs.declared.entry.Receipt.{Receipt}
-use Rattle.hp_model.specs.declared.event.Event.TheVariants.{Tasks as OnTasks}
-use Rattle.hp_model.specs.declared.event.TableEvent.TheVariants.{Find}
+use Rattle.hp_laws.proofs.Variants.{Find, Home, Receipt, Tasks as OnTasks}
 use Rattle.hp_events.specs.Answered.{IsHanded}
 use Rattle.hp_entrance.proofs.member.Member.look.Goals as goal
 

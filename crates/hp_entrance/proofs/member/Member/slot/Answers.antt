@@ -3,8 +3,8 @@ use Rattle.hp_entrance.specs.Members.{MemberView, told_at}
 use Rattle.hp_entrance.proofs.Handed.{handed_as, told_before, work_handed}
 use Rattle.hp_history.specs.declared.held.Held.{Held}
 use Rattle.hp_history.specs.History.{receipts_in}
-use Rattle.hp_model.specs.beside.Told.{told_reply}
-use Rattle.hp_model.specs.declared.event.Event.TheVariants.{Slot as OnSlot}
+use Rattle.hp_model.proofs.Words.{told_reply}
+use Rattle.hp_laws.proofs.Variants.{Slot as OnSlot}
 use Rattle.hp_events.specs.SlotWork.{asked_event, full_for}
 use Rattle.hp_entrance.proofs.member.Member.slot.Goals as goal
 

@@ -1,9 +1,7 @@
 use Rattle.std.proofs.lemmas.Grind.{common_steps}
-use Rattle.std.proofs.Common.{◌≡◌, [], ◌+◌, ap, sym, ◌∙◌, arith}
-use Rattle.std.specs.List.{sum_by}
-use Rattle.hp_model.specs.files.File.{cell_punched}
-use Rattle.hp_model.specs.Lists.{edit_range}
-use Rattle.hp_lookup.specs.Held.{in_cell, in_file, in_map}
+use Rattle.std.proofs.Common.{◌≡◌, [], ◌+◌, ap, sym, ◌∙◌, arith, sum_by}
+use Rattle.hp_model.proofs.Words.{cell_punched, edit_range}
+use Rattle.hp_lookup.proofs.Words.{in_cell, in_file, in_map}
 use Rattle.hp_file.proofs.Cutting.{all_waiting, bare_pages, no_pages}
 use Rattle.hp_file.proofs.Counting.{dropped_then}
 use Rattle.hp_file.proofs.file.File.close.Goals as goal

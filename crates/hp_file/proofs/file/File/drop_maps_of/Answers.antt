@@ -1,7 +1,6 @@
-use Rattle.std.proofs.Common.{◌≡◌, ℕ, length, not, rules, sym, ◌∙◌, arith}
-use Rattle.std.specs.Prelude.{vec_len}
+use Rattle.std.proofs.Common.{◌≡◌, ℕ, length, not, rules, sym, ◌∙◌, arith, vec_len}
 use Rattle.std.proofs.lemmas.Fn.{filter_same}
-use Rattle.hp_model.specs.files.Mapping.{Mapping, is_of}
+use Rattle.hp_model.proofs.Words.{Mapping, is_of}
 use Rattle.hp_file.proofs.Counting.{dropped_then}
 use Rattle.hp_file.proofs.FileLeaves.{gone_is, gone_reserves, left_dropping, left_reserves, left_used}
 use Rattle.hp_file.proofs.file.File.drop_maps_of.Goals as goal

@@ -2,8 +2,8 @@ use Rattle.std.proofs.Common.{ℕ, ◌∙◌, ap, rules, tests}
 use Rattle.std.specs.List.{list_any}
 use Rattle.std.proofs.lemmas.Iterator.{YieldsList-from_slice}
 use Rattle.std.proofs.lemmas.Iterator.Search.{any_from_yields_List}
-use Rattle.hp_model.specs.files.Mapping.{is_map}
-use Rattle.hp_lookup.specs.Numbered.{NumberedFile}
+use Rattle.hp_model.proofs.Words.{is_map}
+use Rattle.hp_lookup.proofs.Words.{NumberedFile}
 use Rattle.hp_file.proofs.file.File.has_map.Goals as goal
 
 pub returns : goal.returns

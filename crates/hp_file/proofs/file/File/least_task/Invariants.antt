@@ -1,5 +1,5 @@
-use Rattle.std.specs.Prelude.{◌≡◌, map, take}
-use Rattle.hp_lookup.specs.Leaving.{least_among}
+use Rattle.std.proofs.Common.{◌≡◌, map, take}
+use Rattle.hp_lookup.proofs.Words.{least_among}
 use Rattle.hp_file.proofs.file.File.least_task.Given as goal
 
 abbrev pub invariant-loop-map : goal.invariant-loop-map

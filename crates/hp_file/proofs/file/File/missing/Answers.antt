@@ -1,7 +1,6 @@
-use Rattle.std.proofs.Common.{◌+◌, ◌-◌, min, ap, drop, take, ◌∙◌}
-use Rattle.std.specs.List.{count_by}
-use Rattle.hp_model.specs.files.File.{at_least, is_hole}
-use Rattle.hp_lookup.specs.Numbered.{NumberedFile}
+use Rattle.std.proofs.Common.{◌+◌, ◌-◌, min, ap, drop, take, ◌∙◌, count_by}
+use Rattle.hp_model.proofs.Words.{at_least, is_hole}
+use Rattle.hp_lookup.proofs.Words.{NumberedFile}
 use Rattle.hp_lookup.proofs.Holes.{holes_known}
 use Rattle.hp_file.proofs.file.File.missing.Goals as goal
 

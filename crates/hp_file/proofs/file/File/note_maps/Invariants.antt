@@ -1,7 +1,6 @@
-use Rattle.std.specs.Prelude.{take}
-use Rattle.std.specs.List.{count_by}
-use Rattle.hp_model.specs.files.Mapping.{is_map, is_of}
-use Rattle.hp_lookup.specs.Forking.{IsNoted}
+use Rattle.std.proofs.Common.{take, count_by}
+use Rattle.hp_model.proofs.Words.{is_map, is_of}
+use Rattle.hp_lookup.proofs.Words.{IsNoted}
 use Rattle.hp_file.proofs.file.File.note_maps.Given as goal
 
 abbrev pub invariant-loop-map : goal.invariant-loop-map

@@ -1,10 +1,9 @@
-use Rattle.std.proofs.Common.{ℕ, ◌∙◌, ap, length, rules, tests}
+use Rattle.std.proofs.Common.{ℕ, ◌∙◌, ap, length, rules, tests, unwrap_or}
 use Rattle.std.specs.List.{position_or_len}
-use Rattle.std.specs.Prelude.{unwrap_or}
 use Rattle.std.proofs.lemmas.Iterator.{YieldsList-from_slice}
 use Rattle.std.proofs.lemmas.Iterator.Search.{position_from_yields_List}
-use Rattle.hp_model.specs.files.Mapping.{is_map}
-use Rattle.hp_lookup.specs.Numbered.{NumberedFile}
+use Rattle.hp_model.proofs.Words.{is_map}
+use Rattle.hp_lookup.proofs.Words.{NumberedFile}
 use Rattle.hp_lookup.proofs.Finding.{found_or_len, position_le}
 use Rattle.hp_file.proofs.file.File.place_of.Goals as goal
 

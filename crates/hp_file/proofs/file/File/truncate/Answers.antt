@@ -1,8 +1,6 @@
 use Rattle.std.proofs.lemmas.Grind.{common_steps}
-use Rattle.std.proofs.Common.{[], ap, ◌∙◌, arith, length}
-use Rattle.std.specs.List.{sum_by}
-use Rattle.hp_lookup.specs.Held.{in_cell, in_file}
-use Rattle.hp_lookup.specs.Numbered.{NumberedFile}
+use Rattle.std.proofs.Common.{[], ap, ◌∙◌, arith, length, sum_by}
+use Rattle.hp_lookup.proofs.Words.{NumberedFile, in_cell, in_file}
 use Rattle.hp_file.proofs.Cutting.{bare_pages, cut_file, cut_holds, cut_is, gone_holes}
 use Rattle.hp_file.proofs.Counting.{dropped_as}
 use Rattle.hp_file.proofs.file.File.truncate.Goals as goal

@@ -1,8 +1,8 @@
 use Rattle.std.proofs.lemmas.Grind.{common_steps}
 use Rattle.std.proofs.Common.{◌≡◌, false, cond, ap, arith, sym, ◌∙◌}
 use Rattle.std.proofs.lemmas.List.{get_or_default, get_or-set_same}
-use Rattle.hp_model.specs.files.Mapping.{is_mapped, without_range}
-use Rattle.hp_lookup.specs.Numbered.{mapping_at}
+use Rattle.hp_model.proofs.Words.{is_mapped, without_range}
+use Rattle.hp_lookup.proofs.Words.{mapping_at}
 use Rattle.hp_file.proofs.Counting.{dropped_as}
 use Rattle.hp_file.proofs.Ended.{all_gone, cut_holds, cut_left, cut_owes, left_without}
 use Rattle.hp_file.proofs.file.File.unmap.Given.{Over}

@@ -1,8 +1,5 @@
-use Rattle.std.proofs.Common.{◌≡◌, ◌+◌, ◌-◌, min, ap, ◌∙◌, arith}
-use Rattle.std.specs.List.{count_by}
-use Rattle.hp_model.specs.files.File.{at_least, has_page}
-use Rattle.hp_model.specs.files.Fill.{lacks_page}
-use Rattle.hp_model.specs.Lists.{part}
+use Rattle.std.proofs.Common.{◌≡◌, ◌+◌, ◌-◌, min, ap, ◌∙◌, arith, count_by}
+use Rattle.hp_model.proofs.Words.{at_least, has_page, lacks_page, part}
 use Rattle.hp_file.proofs.Lacking.{lacking_all}
 use Rattle.hp_file.proofs.file.filling.lacking.Goals as goal
 

@@ -1,7 +1,7 @@
 use Rattle.std.proofs.lemmas.Grind.{common_steps}
 use Rattle.std.proofs.Common.{subst, arith}
 use Rattle.std.proofs.lemmas.List.Sums.{sum_by_push}
-use Rattle.hp_lookup.specs.Held.{in_files}
+use Rattle.hp_lookup.proofs.Words.{in_files}
 use Rattle.hp_file.specs.HeldPages.{AreDropped}
 use Rattle.hp_file.proofs.Counting.{dropped_then, left_held, part_held}
 use Rattle.hp_file.proofs.file_list.FileList.close.Goals as goal

@@ -1,5 +1,5 @@
-use Rattle.std.specs.Prelude.{length}
-use Rattle.hp_lookup.specs.Held.{in_files}
+use Rattle.std.proofs.Common.{length}
+use Rattle.hp_lookup.proofs.Words.{in_files}
 use Rattle.hp_file.specs.HeldPages.{AreDropped}
 use Rattle.hp_file.proofs.file_list.FileList.close.Given as goal
 

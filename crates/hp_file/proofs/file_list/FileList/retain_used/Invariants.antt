@@ -1,6 +1,5 @@
-use Rattle.std.specs.Prelude.{◌≡◌, ◌≤◌, ◌++◌, drop, length, take}
-use Rattle.std.specs.List.{filter}
-use Rattle.hp_lookup.specs.Leaving.{is_used}
+use Rattle.std.proofs.Common.{◌≡◌, ◌≤◌, ◌++◌, drop, length, take, filter}
+use Rattle.hp_lookup.proofs.Words.{is_used}
 use Rattle.hp_file.proofs.file_list.FileList.retain_used.Given as goal
 
 abbrev pub invariant-loop-at : goal.invariant-loop-at

@@ -1,6 +1,6 @@
 use Rattle.std.proofs.Common.{◌≡◌, ◌≤◌, ◌-◌, vec_len, vec_capacity}
 use Rattle.std_alloc.specs.Vec.{vec_ptr}
-use Rattle.hp_model.specs.files.Page.{zeros}
+use Rattle.hp_model.proofs.Words.{zeros}
 use Rattle.hp_frames.proofs.frame.Frame.new.Given as goal
 
 abbrev pub invariant-loop-bytes : goal.invariant-loop-bytes

@@ -1,6 +1,5 @@
-use Rattle.std.proofs.Common.{rules, ◌≡◌, ◌<◌, ap, subst, ◌∙◌, refl, arith}
+use Rattle.std.proofs.Common.{rules, ◌≡◌, ◌<◌, ap, subst, ◌∙◌, refl, arith, All, length}
 use Rattle.std.proofs.lemmas.Grind.{common_steps}
-use Rattle.std.specs.Prelude.{All, length}
 use Rattle.linked_list_allocator.specs.Heap.{heap_holes, heap_region}
 use Rattle.linked_list_allocator.specs.Holes.{taken}
 use Rattle.linked_list_allocator.specs.Region.{block_size}

@@ -1,4 +1,4 @@
-use Rattle.std.specs.Prelude.{All, ◌≡◌}
+use Rattle.std.proofs.Common.{All, ◌≡◌}
 use Rattle.linked_list_allocator.specs.Heap.{heap_region}
 use Rattle.hp_frames.proofs.stock.Stock.drop.Given as goal
 

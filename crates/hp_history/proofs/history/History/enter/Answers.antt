@@ -1,5 +1,5 @@
 use Rattle.std.proofs.Common.{List, [], ◌∷◌, ap}
-use Rattle.hp_model.specs.declared.entry.PoolEntry.{PoolEntry}
+use Rattle.hp_laws.proofs.Variants.{PoolEntry}
 use Rattle.hp_history.specs.declared.held.Held.{Held}
 use Rattle.hp_history.specs.declared.held.Held.TheVariants.{Pool}
 use Rattle.hp_history.specs.Sections.{free_slot, pool_in, session_view}

@@ -1,5 +1,5 @@
 use Rattle.std.proofs.Common.{ℕ, ◌≡◌, ◌-◌, ◌<◌, ◌≤◌, max, true, ◌||◌}
-use Rattle.hp_model.specs.beside.Ranges.{within}
+use Rattle.hp_model.proofs.Words.{within}
 use Rattle.hp_inode.specs.Blocks.{entered_at, has_word_for}
 use Rattle.hp_inode.proofs.entries.Entries.add.Given as goal
 

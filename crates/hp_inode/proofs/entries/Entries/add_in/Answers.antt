@@ -1,5 +1,5 @@
 use Rattle.std.proofs.Common.{◌||◌, refl}
-use Rattle.hp_model.specs.beside.Ranges.{within}
+use Rattle.hp_model.proofs.Words.{within}
 use Rattle.hp_marks.specs.Marks.{marked}
 use Rattle.hp_inode.proofs.Blocks.{changed_there, others_stay_there}
 use Rattle.hp_inode.proofs.entries.Entries.add_in.Goals as goal

@@ -1,6 +1,6 @@
 use Rattle.std.proofs.lemmas.Grind.{common_steps}
 use Rattle.std.proofs.Common.{◌&&◌, not, refl, arith}
-use Rattle.hp_model.specs.beside.Ranges.{within}
+use Rattle.hp_model.proofs.Words.{within}
 use Rattle.hp_marks.specs.Marks.{marked}
 use Rattle.hp_inode.proofs.Blocks.{changed_there, none_counted, others_stay_there, was_there}
 use Rattle.hp_inode.proofs.Later.{none_there}

@@ -1,5 +1,5 @@
 use Rattle.std.proofs.Common.{rules, ap, ◌∙◌, ◌≡◌, ◌≤◌, ◌*◌, ◌||◌, ◌/◌, ◌%◌, ◌+◌, min, ℕ, length}
-use Rattle.hp_model.specs.beside.Ranges.{within}
+use Rattle.hp_model.proofs.Words.{within}
 use Rattle.hp_marks.specs.Marks.{marked}
 use Rattle.hp_inode.proofs.Spread.{spread_entries}
 use Rattle.hp_inode.proofs.Tables.{written_back}

@@ -1,5 +1,5 @@
 use Rattle.std.proofs.Common.{rules, ℕ, refl, sym, ap, ◌∙◌, ◌≡◌, ◌<◌, ◌*◌, ◌||◌, ◌/◌, ◌%◌, ◌+◌, ◌^◌, min, get_or, length, arith}
-use Rattle.hp_model.specs.beside.Ranges.{within}
+use Rattle.hp_model.proofs.Words.{within}
 use Rattle.hp_marks.specs.Marks.{marked}
 use Rattle.hp_inode.proofs.Alone.{put_in}
 use Rattle.hp_inode.proofs.Spread.{spread_entries}

@@ -1,5 +1,5 @@
 use Rattle.std.proofs.Common.{rules, ap, ◌∙◌, ◌≡◌, ◌&&◌, not, ◌*◌, ℕ, length}
-use Rattle.hp_model.specs.beside.Ranges.{within}
+use Rattle.hp_model.proofs.Words.{within}
 use Rattle.hp_inode.specs.EntryBlock.{IsRemoved}
 use Rattle.hp_marks.specs.Marks.{marked}
 use Rattle.hp_inode.proofs.Removed.{removed_entries}

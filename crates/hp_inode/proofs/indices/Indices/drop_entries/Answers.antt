@@ -1,9 +1,7 @@
 use Rattle.std.proofs.lemmas.Grind.{common_steps}
-use Rattle.std.proofs.Common.{ap, sym, ◌∙◌, ◌≡◌, ℕ, false, arith}
-use Rattle.std.specs.List.{All, count_by}
+use Rattle.std.proofs.Common.{ap, sym, ◌∙◌, ◌≡◌, ℕ, false, arith, All, count_by}
 use Rattle.hp_model.specs.declared.cell.Cell.{Cell}
-use Rattle.hp_model.specs.Lists.{part}
-use Rattle.hp_model.specs.files.File.{has_page}
+use Rattle.hp_model.proofs.Words.{has_page, part}
 use Rattle.hp_inode.specs.Kept.{cells_of}
 use Rattle.hp_inode.proofs.Paged.{dropped_paged}
 use Rattle.hp_inode.proofs.CellFacts.{length-cells, entered_cells}

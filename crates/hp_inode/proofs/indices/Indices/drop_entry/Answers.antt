@@ -1,6 +1,6 @@
 use Rattle.std.proofs.Common.{◌≡◌}
 use Rattle.hp_model.specs.declared.cell.Cell.TheVariants.{Entered}
-use Rattle.hp_model.specs.files.File.{cell_in}
+use Rattle.hp_model.proofs.Words.{cell_in}
 use Rattle.hp_inode.specs.Kept.{cells_of}
 use Rattle.hp_inode.proofs.CellFacts.{entered_cell}
 use Rattle.hp_inode.proofs.Readying.{one_dropped, one_left, some_entered}

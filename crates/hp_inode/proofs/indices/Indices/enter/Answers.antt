@@ -1,6 +1,5 @@
-use Rattle.std.proofs.Common.{sym, ap, ◌∙◌, arith}
-use Rattle.std.specs.List.{count_by}
-use Rattle.hp_model.specs.files.File.{at_least, has_page}
+use Rattle.std.proofs.Common.{sym, ap, ◌∙◌, arith, count_by}
+use Rattle.hp_model.proofs.Words.{at_least, has_page}
 use Rattle.hp_inode.specs.Kept.{cells_of}
 use Rattle.hp_inode.proofs.Paged.{entered_paged, longer_paged}
 use Rattle.hp_inode.proofs.Readying.{unready, few_entered, few_missing, enter_kept, enter_cells}

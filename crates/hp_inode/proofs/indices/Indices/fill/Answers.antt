@@ -1,8 +1,7 @@
 use Rattle.std.proofs.lemmas.Grind.{common_steps}
-use Rattle.std.proofs.Common.{◌+◌, Some, sym, ap, ◌∙◌, arith}
-use Rattle.std.specs.List.{count_by}
+use Rattle.std.proofs.Common.{◌+◌, Some, sym, ap, ◌∙◌, arith, count_by}
 use Rattle.std.proofs.lemmas.List.Sums.{count_by-le-length}
-use Rattle.hp_model.specs.files.File.{has_page}
+use Rattle.hp_model.proofs.Words.{has_page}
 use Rattle.hp_inode.specs.Kept.{cells_of}
 use Rattle.hp_inode.proofs.CellFacts.{entered_cell, changed, changed_kept, length-cells}
 use Rattle.hp_inode.proofs.Paged.{filled_paged}

@@ -1,6 +1,5 @@
-use Rattle.std.proofs.Common.{sym, ap, ◌∙◌}
-use Rattle.std.specs.List.{count_by}
-use Rattle.hp_model.specs.files.File.{has_page}
+use Rattle.std.proofs.Common.{sym, ap, ◌∙◌, count_by}
+use Rattle.hp_model.proofs.Words.{has_page}
 use Rattle.hp_inode.specs.Kept.{cells_of}
 use Rattle.hp_inode.proofs.Paged.{longer_paged}
 use Rattle.hp_inode.proofs.Readying.{longer_cells, longer_kept}

@@ -1,12 +1,10 @@
-use Rattle.std.proofs.Common.{ap, sym, ◌∙◌, ◌≡◌, ◌+◌, ◌-◌, arith, refl, None, set}
+use Rattle.std.proofs.Common.{ap, sym, ◌∙◌, ◌≡◌, ◌+◌, ◌-◌, arith, refl, None, set, count_by}
 use Rattle.hp_model.specs.declared.cell.Cell.TheVariants.{Hole, Entered}
-use Rattle.hp_model.specs.Lists.{edit_range}
+use Rattle.hp_model.proofs.Words.{cell_in, edit_range, has_page}
 use Rattle.hp_model.proofs.Editing.{edit_one}
 use Rattle.hp_inode.specs.Kept.{cells_of}
 use Rattle.hp_inode.proofs.CellFacts.{length-cells, page_at_cell, changed, changed_kept, has_page_cell}
 use Rattle.hp_inode.proofs.Paged.{taken_paged}
-use Rattle.std.specs.List.{count_by}
-use Rattle.hp_model.specs.files.File.{cell_in, has_page}
 use Rattle.std.proofs.lemmas.List.{get_or-set_same}
 use Rattle.hp_inode.proofs.Taken.{no_page_there, found_no_page, found_page, paged_below}
 use Rattle.hp_inode.proofs.indices.Indices.take_next.Goals as goal

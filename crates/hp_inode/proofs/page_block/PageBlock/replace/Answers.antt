@@ -1,6 +1,5 @@
 use Rattle.std.proofs.lemmas.Grind.{common_steps}
-use Rattle.std.proofs.Common.{rules, ◌≡◌, ℕ, ◌/◌, ◌<◌, ◌^◌, true, eqb, length, get_or, not, refl, sym, ap, ◌∙◌, arith}
-use Rattle.std.specs.Option.{is_some}
+use Rattle.std.proofs.Common.{rules, ◌≡◌, ℕ, ◌/◌, ◌<◌, ◌^◌, true, eqb, length, get_or, not, refl, sym, ap, ◌∙◌, arith, is_some}
 use Rattle.hp_marks.specs.Marks.{marked}
 use Rattle.hp_inode.specs.Rows.{has_slot}
 use Rattle.hp_inode.proofs.Tables.{bit_there, has_slot_set, mark_is, mark_stays, no_bit, page_in_others, page_in_set, table_set, written_back}

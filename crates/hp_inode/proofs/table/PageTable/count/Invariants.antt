@@ -1,6 +1,5 @@
-use Rattle.std.proofs.Common.{◌≡◌, ◌-◌, ◌≤◌, max}
-use Rattle.std.specs.List.{count_by, range_with_len}
-use Rattle.std.specs.Option.{is_some}
+use Rattle.std.proofs.Common.{◌≡◌, ◌-◌, ◌≤◌, max, count_by, is_some}
+use Rattle.std.specs.List.{range_with_len}
 use Rattle.hp_inode.specs.Blocks.{page_at}
 use Rattle.hp_inode.proofs.table.PageTable.count.Given as goal
 

@@ -1,6 +1,5 @@
-use Rattle.std.proofs.Common.{◌≡◌, ◌+◌, ◌-◌, ◌%◌, ap, ◌∙◌, arith}
-use Rattle.std.specs.List.{count_by, range_with_len}
-use Rattle.std.specs.Option.{is_some}
+use Rattle.std.proofs.Common.{◌≡◌, ◌+◌, ◌-◌, ◌%◌, ap, ◌∙◌, arith, count_by, is_some}
+use Rattle.std.specs.List.{range_with_len}
 use Rattle.hp_inode.specs.Rows.{page_in}
 use Rattle.hp_inode.proofs.Counted.{counted_in_block, none_in_block}
 use Rattle.hp_inode.proofs.table.PageTable.count_in.Goals as goal

@@ -1,4 +1,4 @@
-use Rattle.std.specs.Prelude.{◌≡◌, [], length}
+use Rattle.std.proofs.Common.{◌≡◌, [], length}
 use Rattle.hp_own_pool.proofs.Returning.{AreCounted}
 use Rattle.hp_locked.proofs.nodes.NodeLocks.gather.Given as goal
 

@@ -1,5 +1,5 @@
 use Rattle.std.proofs.Common.{sym, ◌∙◌}
-use Rattle.hp_model.specs.declared.entry.PoolEntry.TheVariants.{OfPool}
+use Rattle.hp_laws.proofs.Variants.{OfPool}
 use Rattle.hp_locked.specs.Told.{pool_reply}
 use Rattle.hp_locked.proofs.Added.{entry_kept}
 use Rattle.hp_laws.proofs.promises.SmallPool.{event_small}

@@ -1,5 +1,4 @@
-use Rattle.std.proofs.Common.{ap, ◌+◌, arith}
-use Rattle.std.specs.List.{sum}
+use Rattle.std.proofs.Common.{ap, ◌+◌, arith, sum}
 use Rattle.hp_model.specs.pool.PoolCounts.{used}
 use Rattle.hp_subpool.specs.Subpool.{fall}
 use Rattle.hp_locked.proofs.Giving.{both_moved, lowers, puts_cover, ready_after, same_after}

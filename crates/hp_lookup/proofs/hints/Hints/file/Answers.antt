@@ -1,6 +1,6 @@
 use Rattle.std.proofs.Common.{◌≡◌, ℕ, List, false, refl, subst, sym}
 use Rattle.std.specs.Str.{bytes_eq}
-use Rattle.hp_lookup.specs.Hints.{Noted, is_noted_as}
+use Rattle.hp_lookup.proofs.Words.{Noted, is_noted_as}
 use Rattle.hp_lookup.proofs.Hinted.{not_found}
 use Rattle.hp_lookup.proofs.hints.Hints.file.Goals as goal
 

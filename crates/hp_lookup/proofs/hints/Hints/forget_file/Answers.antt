@@ -1,11 +1,10 @@
-use Rattle.std.proofs.Common.{rules, ◌≡◌, [], Bool, true, false, None, Some, IfSome, slice_get, refl, ap, subst, sym, ◌∙◌, List, ℕ}
+use Rattle.std.proofs.Common.{rules, ◌≡◌, [], Bool, true, false, None, Some, IfSome, slice_get, refl, ap, subst, sym, ◌∙◌, List, ℕ, swap_remove}
 use Rattle.std.specs.Bool.{⊤}
 use Rattle.std.specs.Str.{bytes_eq}
 use Rattle.std.proofs.lemmas.Slice.Eq.{bytes_eq-Decides}
-use Rattle.std.specs.List.{swap_remove}
 use Rattle.std.proofs.lemmas.Option.{get_or_from_slice_get, slice_get_within}
 use Rattle.indexmap.specs.IndexMap.{Updates, spare}
-use Rattle.hp_lookup.specs.Hints.{IsMoreBut, Noted, is_noted_as, keys_of, names_of}
+use Rattle.hp_lookup.proofs.Words.{IsMoreBut, Noted, is_noted_as, keys_of, names_of}
 use Rattle.hp_lookup.proofs.Hinted.{key_still_out, keyed_at, not_found, others_stay, rest_stay, still_out}
 use Rattle.hp_lookup.proofs.hints.Hints.forget_file.Goals as goal
 

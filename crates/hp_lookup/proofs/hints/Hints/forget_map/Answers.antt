@@ -1,8 +1,7 @@
 use Rattle.std.proofs.Common.{◌≡◌, [], ℕ, true, false, ap, subst, sym, arith}
 use Rattle.std.proofs.lemmas.Bool.Decides.{nat_tests}
 use Rattle.indexmap.specs.IndexMap.{spare}
-use Rattle.hp_lookup.specs.Hints.{Noted, has_key, is_pair, keys_of, names_of}
-use Rattle.hp_lookup.specs.Leaving.{IsMoreButMap}
+use Rattle.hp_lookup.proofs.Words.{IsMoreButMap, Noted, has_key, is_pair, keys_of, names_of}
 use Rattle.hp_lookup.proofs.Hinted.{key_still_out, not_found, others_stay}
 use Rattle.hp_lookup.proofs.hints.Hints.forget_map.Goals as goal
 

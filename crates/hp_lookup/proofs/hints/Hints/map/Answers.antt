@@ -1,5 +1,5 @@
 use Rattle.std.proofs.Common.{◌≡◌, ℕ, false, ap, subst, sym}
-use Rattle.hp_lookup.specs.Hints.{Noted, has_key, is_pair}
+use Rattle.hp_lookup.proofs.Words.{Noted, has_key, is_pair}
 use Rattle.hp_lookup.proofs.Hinted.{not_found}
 use Rattle.hp_lookup.proofs.hints.Hints.map.Goals as goal
 

@@ -3,7 +3,7 @@ use Rattle.std.specs.Bool.{⊤}
 use Rattle.std.specs.Str.{bytes_eq}
 use Rattle.std.proofs.lemmas.Slice.Eq.{bytes_eq-Decides}
 use Rattle.indexmap.specs.IndexMap.{spare}
-use Rattle.hp_lookup.specs.Hints.{IsMoreByName, Noted, is_noted_as, keys_of, names_of}
+use Rattle.hp_lookup.proofs.Words.{IsMoreByName, Noted, is_noted_as, keys_of, names_of}
 use Rattle.hp_lookup.proofs.Hinted.{other_in, put_in, stays}
 use Rattle.hp_lookup.proofs.hints.Hints.note_file.Goals as goal
 

@@ -2,7 +2,7 @@ use Rattle.std.proofs.Common.{◌≡◌, ℕ, List, [], true, false, subst, sym,
 use Rattle.std.specs.Bool.{⊤}
 use Rattle.std.proofs.lemmas.Bool.Decides.{nat_tests}
 use Rattle.indexmap.specs.IndexMap.{spare}
-use Rattle.hp_lookup.specs.Hints.{IsMoreByMap, Noted, has_key, is_pair, keys_of, names_of}
+use Rattle.hp_lookup.proofs.Words.{IsMoreByMap, Noted, has_key, is_pair, keys_of, names_of}
 use Rattle.hp_lookup.proofs.Hinted.{other_in, put_in, stays}
 use Rattle.hp_lookup.proofs.hints.Hints.note_map.Goals as goal
 

@@ -1,5 +1,5 @@
 use Rattle.std.proofs.Common.{ap, ◌∙◌}
-use Rattle.hp_lookup.specs.Tally.{Tally, count_of}
+use Rattle.hp_lookup.proofs.Words.{Tally, count_of}
 use Rattle.hp_lookup.proofs.Tallies.{tasks_once}
 use Rattle.hp_lookup.proofs.task_counts.TaskCounts.len.Goals as goal
 

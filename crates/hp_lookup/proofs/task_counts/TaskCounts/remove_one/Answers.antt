@@ -1,9 +1,8 @@
-use Rattle.std.proofs.Common.{◌≡◌, ◌==◌, ℕ, ◌-◌, cond, nat_eq, Option, None, Some, IfSome, ap, sym, subst, ◌∙◌, arith}
+use Rattle.std.proofs.Common.{◌≡◌, ◌==◌, ℕ, ◌-◌, cond, nat_eq, Option, None, Some, IfSome, ap, sym, subst, ◌∙◌, arith, unwrap_or}
 use Rattle.std.specs.Cmp.{nat_eq_equiv}
-use Rattle.std.specs.Option.{unwrap_or}
 use Rattle.indexmap.proofs.CallerLemmas.{updates-with_value_at}
 use Rattle.indexmap.specs.IndexMap.{Updates, get, with_value_at}
-use Rattle.hp_lookup.specs.Tally.{Tally, count_of}
+use Rattle.hp_lookup.proofs.Words.{Tally, count_of}
 use Rattle.hp_lookup.proofs.Tallies.{entry_found, one_fewer, stay_positive}
 use Rattle.hp_lookup.proofs.task_counts.TaskCounts.remove_one.Goals as goal
 

@@ -1,8 +1,7 @@
 use Rattle.std.proofs.lemmas.Grind.{common_steps}
-use Rattle.std.proofs.Common.{length, sym, ap, arith, ◌∙◌}
-use Rattle.std.specs.List.{count_by}
+use Rattle.std.proofs.Common.{length, sym, ap, arith, ◌∙◌, count_by}
 use Rattle.hp_model.specs.declared.place.Place.TheVariants.{Gone}
-use Rattle.hp_model.specs.files.Mapping.{is_unconsumed}
+use Rattle.hp_model.proofs.Words.{is_unconsumed}
 use Rattle.hp_model.proofs.Editing.{length-edit_range}
 use Rattle.hp_mapping.specs.Mapped.{owned_reserves}
 use Rattle.hp_mapping.proofs.Ranges.{clear_places, freed_range, freed_reserves}

@@ -1,6 +1,6 @@
 use Rattle.std.proofs.Common.{◌≡◌, slice_index_or, true, None}
 use Rattle.hp_model.specs.declared.place.Place.TheVariants.{Gone}
-use Rattle.hp_model.specs.files.Mapping.{copy_of, is_live}
+use Rattle.hp_model.proofs.Words.{copy_of, is_live}
 use Rattle.hp_mapping.proofs.MarkedPlaces.{counted_left}
 use Rattle.hp_mapping.proofs.places.Places.leave.Goals as goal
 

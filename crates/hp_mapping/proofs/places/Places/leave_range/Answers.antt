@@ -1,8 +1,7 @@
-use Rattle.std.proofs.Common.{◌≡◌, ℕ, ◌≤◌, ◌<◌, inl, inr, slice_index_or, ap, arith}
+use Rattle.std.proofs.Common.{◌≡◌, ℕ, ◌≤◌, ◌<◌, inl, inr, slice_index_or, ap, arith, count_by}
 use Rattle.std.proofs.lemmas.Bool.{cases_lt}
-use Rattle.std.specs.List.{count_by}
 use Rattle.hp_model.specs.declared.place.Place.TheVariants.{Gone}
-use Rattle.hp_model.specs.files.Mapping.{is_unconsumed}
+use Rattle.hp_model.proofs.Words.{is_unconsumed}
 use Rattle.hp_mapping.proofs.Ranges.{left_range, freed_range}
 use Rattle.hp_mapping.proofs.places.Places.leave_range.Goals as goal
 

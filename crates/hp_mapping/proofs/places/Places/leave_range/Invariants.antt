@@ -1,7 +1,6 @@
-use Rattle.std.proofs.Common.{◌≡◌, ℕ, ◌+◌, ◌-◌, ◌<◌, ◌≤◌, length, slice_index_or}
-use Rattle.std.specs.List.{count_by}
+use Rattle.std.proofs.Common.{◌≡◌, ℕ, ◌+◌, ◌-◌, ◌<◌, ◌≤◌, length, slice_index_or, count_by}
 use Rattle.hp_model.specs.declared.place.Place.TheVariants.{Gone}
-use Rattle.hp_model.specs.files.Mapping.{is_unconsumed}
+use Rattle.hp_model.proofs.Words.{is_unconsumed}
 use Rattle.hp_mapping.proofs.places.Places.leave_range.Given as goal
 
 abbrev pub invariant-loop-live : goal.invariant-loop-live

@@ -1,6 +1,6 @@
 use Rattle.std.proofs.Common.{◌≡◌, slice_index_or, true}
 use Rattle.hp_model.specs.declared.place.Place.TheVariants.{Gone}
-use Rattle.hp_model.specs.files.Mapping.{is_live}
+use Rattle.hp_model.proofs.Words.{is_live}
 use Rattle.hp_mapping.proofs.MarkedPlaces.{counted_copied}
 use Rattle.hp_mapping.proofs.places.Places.set_copy.Goals as goal
 

@@ -1,5 +1,5 @@
 use Rattle.std.proofs.Common.{◌≡◌, take, drop}
-use Rattle.hp_model.specs.beside.Queue.{DoesAll}
+use Rattle.hp_model.proofs.Words.{DoesAll}
 use Rattle.hp_model.proofs.service.Service.do_queued.Given as goal
 
 abbrev pub invariant-loop-at : goal.invariant-loop-at

@@ -1,8 +1,7 @@
 use Rattle.std.proofs.Common.{◌<◌, None, Ok, Some, length, refl, sym, ap, subst, ◌∙◌}
-use Rattle.hp_model.specs.declared.answer.Answer.TheVariants.{MapNo}
-use Rattle.hp_model.specs.files.File.{Mount, new_file}
-use Rattle.hp_model.specs.files.MakeMap.{with_new}
-use Rattle.hp_lookup.specs.Asking.{with_range}
+use Rattle.hp_laws.proofs.Variants.{MapNo}
+use Rattle.hp_model.proofs.Words.{Mount, new_file, with_new}
+use Rattle.hp_lookup.proofs.Words.{with_range}
 use Rattle.hp_mount_laws.specs.Done.{Tried}
 use Rattle.hp_mount_laws.specs.Kept.{mount_from}
 use Rattle.hp_mount_laws.specs.Making.{anon_plan}

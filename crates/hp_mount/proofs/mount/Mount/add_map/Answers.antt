@@ -1,8 +1,7 @@
 use Rattle.std.proofs.Common.{◌<◌, Ok, Err, Some, length, refl, sym, ap, subst, ◌∙◌}
-use Rattle.hp_model.specs.declared.answer.Answer.TheVariants.{MapNo}
-use Rattle.hp_model.specs.files.File.{Mount, with_file}
-use Rattle.hp_lookup.specs.Asking.{IsAsked, IsGranted, with_range}
-use Rattle.hp_lookup.specs.Files.{file_at}
+use Rattle.hp_laws.proofs.Variants.{MapNo}
+use Rattle.hp_model.proofs.Words.{Mount, with_file}
+use Rattle.hp_lookup.proofs.Words.{IsAsked, IsGranted, file_at, with_range}
 use Rattle.hp_mount_laws.specs.Done.{Tried}
 use Rattle.hp_mount_laws.specs.Kept.{mount_from}
 use Rattle.hp_mount_laws.specs.Making.{map_plan}

@@ -1,8 +1,6 @@
 use Rattle.std.proofs.Common.{None, Err, Some, subst}
-use Rattle.hp_model.specs.declared.answer.Answer.TheVariants.{MapNo}
-use Rattle.hp_model.specs.files.File.{new_file}
-use Rattle.hp_model.specs.files.MakeMap.{asked, mapped, with_new}
-use Rattle.hp_model.specs.machine.Plan.{Answered, Choice, grant}
+use Rattle.hp_laws.proofs.Variants.{MapNo}
+use Rattle.hp_model.proofs.Words.{Answered, Choice, asked, grant, mapped, new_file, with_new}
 use Rattle.hp_mount_laws.specs.Done.{Tried}
 use Rattle.hp_mount_laws.specs.Making.{made_reply}
 use Rattle.hp_mount_laws.proofs.Making.{anon_refused, anon_went}

@@ -1,11 +1,7 @@
 use Rattle.std.proofs.lemmas.Grind.{common_steps}
 use Rattle.std.proofs.Common.{◌≡◌, ℕ, Ok, Err, Some, refl, arith}
-use Rattle.hp_model.specs.beside.Told.{told_reply}
-use Rattle.hp_model.specs.declared.refusal.Refusal.TheVariants.{TraceFull}
-use Rattle.hp_model.specs.declared.section.PoolAnswer.{PoolAnswer}
-use Rattle.hp_model.specs.declared.section.Section.{Section}
-use Rattle.hp_model.specs.machine.Plan.{Choice, Reply, Slot}
-use Rattle.hp_model.specs.machine.SlotEvent.{slot_event}
+use Rattle.hp_model.proofs.Words.{Choice, Reply, Slot, slot_event, told_reply}
+use Rattle.hp_laws.proofs.Variants.{PoolAnswer, Section, TraceFull}
 use Rattle.hp_events.specs.Event.{as_event}
 use Rattle.hp_events.specs.declared.event.MountEvent.{MountEvent}
 use Rattle.hp_mount_laws.specs.Alone.{IsDoneAlone}

@@ -1,8 +1,6 @@
 use Rattle.std.proofs.Common.{Ok, None, Some, subst, arith}
-use Rattle.hp_model.specs.declared.answer.Answer.TheVariants.{Done}
-use Rattle.hp_model.specs.files.File.{Mount}
-use Rattle.hp_model.specs.threads.LocalRun.{ThroughDoor}
-use Rattle.hp_model.specs.machine.Plan.{gives}
+use Rattle.hp_laws.proofs.Variants.{Done}
+use Rattle.hp_model.proofs.Words.{Mount, ThroughDoor, gives}
 use Rattle.hp_mount_laws.specs.Kept.{mount_from}
 use Rattle.hp_mount_laws.proofs.Ending.{ended}
 use Rattle.hp_subpool.specs.Subpool.{committed_of}

@@ -1,17 +1,10 @@
 use Rattle.std.proofs.lemmas.Grind.{common_steps}
-use Rattle.std.proofs.Common.{◌≡◌, ℕ, ◌||◌, Bool, max, false, None, Some, refl, sym, ap, subst, ◌∙◌, arith}
-use Rattle.std.specs.List.{flat_map}
-use Rattle.hp_model.specs.declared.place.Place.TheVariants.{Live}
-use Rattle.hp_model.specs.files.File.{Mount}
-use Rattle.hp_model.specs.files.Mapping.{place_at}
-use Rattle.hp_model.specs.files.Page.{Page}
-use Rattle.hp_model.specs.files.MountCounts.{stamps_of}
-use Rattle.hp_model.specs.Lists.{is_among}
-use Rattle.hp_model.specs.files.Value.{value}
-use Rattle.hp_model.specs.machine.Promises.{file_in, map_in}
+use Rattle.std.proofs.Common.{◌≡◌, ℕ, ◌||◌, Bool, max, false, None, Some, refl, sym, ap, subst, ◌∙◌, arith, flat_map}
+use Rattle.hp_laws.proofs.Variants.{Live}
+use Rattle.hp_model.proofs.Words.{Mount, Page, file_in, is_among, map_in, place_at, stamps_of, value}
 use Rattle.hp_model.specs.pool.Grant as grant
 use Rattle.hp_mount_door.specs.Door.{with_granted}
-use Rattle.hp_lookup.specs.Files.{Files, copied_at, file_at}
+use Rattle.hp_lookup.proofs.Words.{Files, copied_at, file_at}
 use Rattle.hp_mount_laws.specs.Reach.{has_reserve, with_place_at}
 use Rattle.hp_mount_laws.specs.Kept.{IsKept, mount_from}
 use Rattle.hp_mount.proofs.Copying as keeps

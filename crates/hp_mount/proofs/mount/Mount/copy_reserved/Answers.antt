@@ -1,12 +1,6 @@
-use Rattle.std.proofs.Common.{◌≡◌, ℕ, ◌||◌, Bool, true, false, None, Some, sym, ap, subst, ◌∙◌, arith}
-use Rattle.hp_model.specs.declared.place.Place.TheVariants.{Live}
-use Rattle.hp_model.specs.declared.section.Section.TheVariants.{TakePage}
-use Rattle.hp_model.specs.files.File.{Mount}
-use Rattle.hp_model.specs.files.Mapping.{place_at, copy_of, is_live}
-use Rattle.hp_model.specs.files.Page.{Page}
-use Rattle.hp_model.specs.files.Value.{value}
-use Rattle.hp_model.specs.machine.Promises.{file_in, map_in}
-use Rattle.hp_model.specs.pool.Pool.{granted_at}
+use Rattle.std.proofs.Common.{◌≡◌, ℕ, ◌||◌, Bool, true, false, None, Some, sym, ap, subst, ◌∙◌, arith, flat_map}
+use Rattle.hp_laws.proofs.Variants.{Live, TakePage}
+use Rattle.hp_model.proofs.Words.{Mount, Page, copy_of, file_in, granted_at, is_among, is_live, map_in, place_at, stamps_of, value}
 use Rattle.hp_mount_door.specs.Door.{IsDoorRefusal, with_page}
 use Rattle.hp_mount_laws.specs.Done.{IsAccessed}
 use Rattle.std.proofs.lemmas.Result.{err_from_is_err_and}
@@ -15,11 +9,8 @@ use Rattle.hp_mount.proofs.Copying as keeps
 use Rattle.hp_mount_laws.proofs.Private as private
 use Rattle.hp_mount_laws.proofs.Private.{place_touched, stamped_fresh}
 use Rattle.hp_subpool.specs.Subpool as share
-use Rattle.std.specs.List.{flat_map}
-use Rattle.hp_model.specs.files.MountCounts.{stamps_of}
-use Rattle.hp_model.specs.Lists.{is_among}
 use Rattle.hp_mount_laws.specs.Kept.{IsKept, mount_from}
-use Rattle.hp_lookup.specs.Files.{Files, copied_at, file_at}
+use Rattle.hp_lookup.proofs.Words.{Files, copied_at, file_at}
 use Rattle.hp_mount.proofs.mount.Mount.copy_reserved.Given.{Over}
 use Rattle.hp_mount.proofs.Here.{place_here}
 use Rattle.hp_mount.proofs.mount.Mount.copy_reserved.Goals as goal

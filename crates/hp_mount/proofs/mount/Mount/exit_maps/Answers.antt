@@ -1,9 +1,7 @@
 use Rattle.std.proofs.lemmas.Grind.{common_steps}
 use Rattle.std.proofs.Common.{Some, ap, ◌∙◌, arith}
-use Rattle.hp_model.specs.declared.answer.Answer.TheVariants.{Done}
-use Rattle.hp_model.specs.files.File.{Mount}
-use Rattle.hp_model.specs.files.GiveBack.{file_without, without_task}
-use Rattle.hp_model.specs.machine.Plan.{gives}
+use Rattle.hp_laws.proofs.Variants.{Done}
+use Rattle.hp_model.proofs.Words.{Mount, file_without, gives, without_task}
 use Rattle.hp_mount_laws.specs.Kept.{mount_from}
 use Rattle.hp_mount_laws.proofs.Giving.{gave_through, keeps, leaves}
 use Rattle.hp_mount_laws.proofs.Leaving.{few_reserves, fewer, fewer_maps, tried}

@@ -1,8 +1,5 @@
 use Rattle.std.proofs.Common.{◌<◌, length, sym, ap, subst, ◌∙◌, arith}
-use Rattle.hp_model.specs.files.File.{Mount, with_file}
-use Rattle.hp_model.specs.files.Fill.{lacking, range_filled, rising_nodes}
-use Rattle.hp_model.specs.machine.Promises.{file_in}
-use Rattle.hp_model.specs.machine.SlotEvent.{unentered}
+use Rattle.hp_model.proofs.Words.{Mount, file_in, lacking, range_filled, rising_nodes, unentered, with_file}
 use Rattle.hp_mount_files.proofs.Lent.{unentered_lent}
 use Rattle.hp_mount_laws.specs.Kept.{mount_from}
 use Rattle.hp_mount.proofs.Filling.{enough_held, fill_denied, fill_full, fill_given, filled_kept, filled_left, taken_share}

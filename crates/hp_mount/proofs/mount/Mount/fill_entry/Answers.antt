@@ -1,12 +1,8 @@
 use Rattle.std.proofs.lemmas.Grind.{common_steps}
 use Rattle.std.proofs.Common.{◌<◌, length, sym, ap, subst, ◌∙◌, arith}
 use Rattle.std.proofs.lemmas.Result.{err_from_is_err_and}
-use Rattle.hp_model.specs.files.File.{Mount, with_cell, with_file}
-use Rattle.hp_model.specs.declared.cell.Cell.TheVariants.{Present}
-use Rattle.hp_model.specs.files.Page.{Page}
-use Rattle.hp_model.specs.declared.section.Section.TheVariants.{TakePage}
-use Rattle.hp_model.specs.pool.Pool.{granted_at}
-use Rattle.hp_model.specs.machine.Promises.{file_in}
+use Rattle.hp_model.proofs.Words.{Mount, Page, file_in, granted_at, with_cell, with_file}
+use Rattle.hp_laws.proofs.Variants.{Present, TakePage}
 use Rattle.hp_mount_laws.proofs.Keeping.{entry_kept, entry_left}
 use Rattle.hp_mount_laws.proofs.Shared.{entered_full, shared_entered}
 use Rattle.hp_mount.proofs.mount.Mount.fill_entry.Goals as goal

@@ -1,11 +1,9 @@
 use Rattle.std.proofs.lemmas.Grind.{common_steps}
 use Rattle.std.proofs.Common.{Bool, ◌≡◌, refl, sym, ap, ◌∙◌, arith}
-use Rattle.hp_model.specs.files.File.{Mount, with_cell, with_file}
-use Rattle.hp_model.specs.declared.cell.Cell.TheVariants.{Hole, Present}
+use Rattle.hp_model.proofs.Words.{Mount, Page, file_in, with_cell, with_file}
+use Rattle.hp_laws.proofs.Variants.{Hole, Present}
 use Rattle.hp_model.specs.pool.Grant as grant
-use Rattle.hp_model.specs.files.Page.{Page}
-use Rattle.hp_model.specs.machine.Promises.{file_in}
-use Rattle.hp_lookup.specs.Files.{Files, filled_at, with_cell_at}
+use Rattle.hp_lookup.proofs.Words.{Files, filled_at, with_cell_at}
 use Rattle.hp_subpool.specs.Subpool as share
 use Rattle.hp_mount.proofs.mount.Mount.fill_hole.Given.{Over}
 use Rattle.hp_mount.proofs.mount.Mount.fill_hole.Goals.{After-is_full}

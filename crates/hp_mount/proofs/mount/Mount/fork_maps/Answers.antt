@@ -1,7 +1,6 @@
 use Rattle.std.proofs.Common.{ℕ, ◌≤◌, ◌≡◌, ◌∙◌, ap, false, sym, arith}
-use Rattle.hp_model.specs.files.Fork.{file_forked}
-use Rattle.hp_model.specs.files.File.{Mount}
-use Rattle.hp_lookup.specs.Files.{Files}
+use Rattle.hp_model.proofs.Words.{Mount, file_forked}
+use Rattle.hp_lookup.proofs.Words.{Files}
 use Rattle.hp_subpool.specs.Subpool.{Subpool}
 use Rattle.hp_mount_laws.specs.Kept.{IsKept, mount_from}
 use Rattle.hp_mount_laws.proofs.Forking.{few_maps, forks, many, no_memory, too_many}

@@ -1,7 +1,6 @@
 use Rattle.std.proofs.Common.{ap, ◌∙◌}
 use Rattle.std.specs.List.{list_any}
-use Rattle.hp_model.specs.files.File.{Mount, maps_of}
-use Rattle.hp_model.specs.files.Mapping.{is_of}
+use Rattle.hp_model.proofs.Words.{Mount, is_of, maps_of}
 use Rattle.hp_mount_laws.proofs.Leaving.{has_as}
 use Rattle.hp_mount.proofs.mount.Mount.has_maps.Goals as goal
 

@@ -1,10 +1,7 @@
 use Rattle.std.proofs.lemmas.Grind.{common_steps}
 use Rattle.std.proofs.Common.{◌≡◌, Some, take, drop, ap, subst, ◌∙◌, arith}
-use Rattle.hp_model.specs.declared.step.Intent.TheVariants.{Read}
-use Rattle.hp_model.specs.files.File.{Mount}
-use Rattle.hp_model.specs.files.Value.{value}
-use Rattle.hp_model.specs.machine.Plan.{and_then}
-use Rattle.hp_model.specs.machine.Promises.{file_in, map_in}
+use Rattle.hp_laws.proofs.Variants.{Read}
+use Rattle.hp_model.proofs.Words.{Mount, and_then, file_in, map_in, value}
 use Rattle.hp_mount_files.specs.Lent.{IsReadable}
 use Rattle.hp_mount.specs.declared.mount.reach.Asked.TheVariants.{Bytes}
 use Rattle.hp_mount.specs.Found.{IsPlaced, why_not}

@@ -1,9 +1,6 @@
-use Rattle.std.proofs.Common.{Ok, Some, false, true, refl, ap, ◌∙◌}
-use Rattle.std.specs.List.{filter_map}
-use Rattle.hp_model.specs.declared.answer.Answer.TheVariants.{Names}
-use Rattle.hp_model.specs.declared.refusal.Refusal.TheVariants.{OutOfMemory}
-use Rattle.hp_model.specs.files.File.{File, Mount}
-use Rattle.hp_model.specs.machine.Plan.{Answered, Refused}
+use Rattle.std.proofs.Common.{Ok, Some, false, true, refl, ap, ◌∙◌, filter_map}
+use Rattle.hp_laws.proofs.Variants.{Names, OutOfMemory}
+use Rattle.hp_model.proofs.Words.{Answered, File, Mount, Refused}
 use Rattle.hp_mount_laws.proofs.Ways.{fresh_choice, is_fresh}
 use Rattle.hp_mount.proofs.mount.Mount.ls.Goals as goal
 

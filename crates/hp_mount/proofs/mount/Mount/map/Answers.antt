@@ -1,10 +1,6 @@
 use Rattle.std.proofs.Common.{◌≡◌, Err, None, Some, subst}
-use Rattle.hp_model.specs.declared.answer.Answer.TheVariants.{MapNo}
-use Rattle.hp_model.specs.files.File.{Mount, with_file}
-use Rattle.hp_model.specs.files.MakeMap.{asked, mapped}
-use Rattle.hp_model.specs.machine.Plan.{Answered, Choice, grant}
-use Rattle.hp_model.specs.machine.Promises.{file_in}
-use Rattle.hp_model.specs.machine.SlotEvent.{file_named}
+use Rattle.hp_laws.proofs.Variants.{MapNo}
+use Rattle.hp_model.proofs.Words.{Answered, Choice, Mount, asked, file_in, file_named, grant, mapped, with_file}
 use Rattle.hp_mount_laws.specs.Done.{Tried}
 use Rattle.hp_mount_laws.specs.Making.{made_reply}
 use Rattle.hp_mount_laws.proofs.Making.{map_nowhere, map_refused, map_went}

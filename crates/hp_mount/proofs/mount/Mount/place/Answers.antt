@@ -1,9 +1,6 @@
 use Rattle.std.proofs.Common.{◌≡◌, ◌<◌, true, None, Some, length, sym, ap, subst, ◌∙◌}
-use Rattle.hp_model.specs.declared.limits.Limits.{Limits}
-use Rattle.hp_model.specs.files.File.{Mount}
-use Rattle.hp_model.specs.files.Mapping.{is_live, is_map, place_at}
-use Rattle.hp_model.specs.machine.Promises.{file_in, map_in}
-use Rattle.hp_model.specs.files.Spot.{spot}
+use Rattle.hp_laws.proofs.Variants.{Limits}
+use Rattle.hp_model.proofs.Words.{Mount, file_in, is_live, is_map, map_in, place_at, spot}
 use Rattle.hp_mount.specs.Found.{IsPlaced, tests_of}
 use Rattle.hp_mount_laws.specs.Reach.{first_of, spot_at}
 use Rattle.hp_mount_laws.specs.Kept.{mount_from}

@@ -1,10 +1,6 @@
 use Rattle.std.proofs.lemmas.Grind.{common_steps}
 use Rattle.std.proofs.Common.{◌≡◌, ◌<◌, None, Some, ap, subst, sym, ◌∙◌, arith}
-use Rattle.hp_model.specs.files.File.{Mount}
-use Rattle.hp_model.specs.files.Fill.{lacking}
-use Rattle.hp_model.specs.beside.Accesses.{done_reply}
-use Rattle.hp_model.specs.machine.Promises.{file_in}
-use Rattle.hp_model.specs.machine.SlotEvent.{file_named}
+use Rattle.hp_model.proofs.Words.{Mount, done_reply, file_in, file_named, lacking}
 use Rattle.hp_mount_files.proofs.Lent.{lacking_lent}
 use Rattle.hp_mount.proofs.Filling.{fill_nothing, fill_nowhere, fill_refused, fill_went}
 use Rattle.hp_mount.proofs.mount.Mount.preallocate.Goals as goal

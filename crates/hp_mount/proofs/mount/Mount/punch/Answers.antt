@@ -1,8 +1,6 @@
 use Rattle.std.proofs.Common.{[], ◌∷◌}
-use Rattle.hp_model.specs.declared.refusal.Refusal.TheVariants.{OutOfRange}
-use Rattle.hp_model.specs.files.File.{Mount}
-use Rattle.hp_model.specs.files.GiveBack.{punched}
-use Rattle.hp_model.specs.machine.SlotEvent.{is_bad_range}
+use Rattle.hp_laws.proofs.Variants.{OutOfRange}
+use Rattle.hp_model.proofs.Words.{Mount, is_bad_range, punched}
 use Rattle.hp_mount_laws.specs.Kept.{mount_from}
 use Rattle.hp_mount_laws.proofs.Giving.{bad_range, gave_back, gave_through, good_range, keeps, no_more, nowhere, out_of_range}
 use Rattle.hp_mount.proofs.mount.Mount.punch.Goals as goal

@@ -1,9 +1,6 @@
 use Rattle.std.proofs.lemmas.Grind.{common_steps}
 use Rattle.std.proofs.Common.{refl, sym, ap, ◌∙◌, Some, arith}
-use Rattle.hp_model.specs.files.Access.{access, shared_access}
-use Rattle.hp_model.specs.files.File.{Mount, cell_at, file_in, map_in}
-use Rattle.hp_model.specs.files.Mapping.{is_shared}
-use Rattle.hp_model.specs.machine.Plan.{Choice}
+use Rattle.hp_model.proofs.Words.{Choice, Mount, access, cell_at, file_in, is_shared, map_in, shared_access}
 use Rattle.hp_mount_files.proofs.Lent.{shared_lent}
 use Rattle.hp_mount_laws.specs.Done.{done}
 use Rattle.hp_mount_laws.specs.Reach.{spot_at}

@@ -1,8 +1,6 @@
 use Rattle.std.proofs.lemmas.Grind.{common_steps}
 use Rattle.std.proofs.Common.{sym, ap, ◌∙◌, arith}
-use Rattle.hp_model.specs.files.File.{Mount, cell_at}
-use Rattle.hp_model.specs.files.Mapping.{place_at}
-use Rattle.hp_model.specs.machine.Promises.{file_in, map_in}
+use Rattle.hp_model.proofs.Words.{Mount, cell_at, file_in, map_in, place_at}
 use Rattle.hp_mount_files.proofs.Lent.{unmapped_lent, reserve_lent}
 use Rattle.hp_mount_laws.proofs.Private as private
 use Rattle.hp_mount_laws.specs.Reach.{shows_page}

@@ -1,23 +1,9 @@
-use Rattle.std.proofs.Common.{map as mapped, Bool, ℕ, ◌≡◌, false, Ok, Err, Some, refl, sym, ap, subst, ◌∙◌}
-use Rattle.std.specs.Prelude.{Result}
-use Rattle.std.specs.List.{flat_map}
-use Rattle.hp_model.specs.declared.place.Place.TheVariants.{Live}
-use Rattle.hp_model.specs.declared.refusal.Refusal.{Refusal}
-use Rattle.hp_model.specs.declared.refusal.Refusal.TheVariants.{NoPages, OutOfMemory}
-use Rattle.hp_model.specs.declared.section.Section.TheVariants.{GrantPage}
-use Rattle.hp_model.specs.declared.step.Intent.TheVariants.{Write}
-use Rattle.hp_model.specs.files.CopyWrite.{is_held_once, robbed}
-use Rattle.hp_model.specs.files.File.{File, Mount, with_file, with_map}
-use Rattle.hp_model.specs.files.Mapping.{copy_of, place_at}
-use Rattle.hp_model.specs.files.MountCounts.{stamps_of}
-use Rattle.hp_model.specs.files.Page.{Copy, Page}
-use Rattle.hp_model.specs.Lists.{is_among}
-use Rattle.hp_model.specs.machine.Promises.{file_in, map_in}
+use Rattle.std.proofs.Common.{map as mapped, Bool, ℕ, ◌≡◌, false, Ok, Err, Some, refl, sym, ap, subst, ◌∙◌, Result, flat_map}
+use Rattle.hp_laws.proofs.Variants.{GrantPage, Live, NoPages, OutOfMemory, Refusal, Write}
+use Rattle.hp_model.proofs.Words.{Copy, File, Mount, Page, copy_of, file_in, is_among, is_held_once, map_in, no_pages, place_at, robbed, stamps_of, with_file, with_map}
 use Rattle.hp_model.specs.pool.Grant as grant
-use Rattle.hp_model.specs.pool.Pool.{no_pages}
 use Rattle.hp_mount_door.specs.Door.{IsDoorRefusal, with_granted}
-use Rattle.hp_lookup.specs.Dropping.{IsLeft}
-use Rattle.hp_lookup.specs.Files.{Files, file_at, parted_at, taken_back_at}
+use Rattle.hp_lookup.proofs.Words.{Files, IsLeft, file_at, parted_at, taken_back_at}
 use Rattle.hp_file.specs.States.{AreAgreed}
 use Rattle.hp_mount_files.proofs.Lent.{owner_lent}
 use Rattle.hp_mount_laws.specs.Reach.{IsFileTouched, with_place_at}

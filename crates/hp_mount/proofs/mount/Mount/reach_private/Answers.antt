@@ -1,7 +1,5 @@
 use Rattle.std.proofs.Common.{subst}
-use Rattle.hp_model.specs.files.File.{Mount}
-use Rattle.hp_model.specs.files.Mapping.{place_at}
-use Rattle.hp_model.specs.machine.Promises.{file_in, map_in}
+use Rattle.hp_model.proofs.Words.{Mount, file_in, map_in, place_at}
 use Rattle.hp_lookup.specs.declared.copy_state.CopyState.TheVariants as state
 use Rattle.hp_file.specs.States.{IsCopyState}
 use Rattle.hp_mount_laws.proofs.Private as private

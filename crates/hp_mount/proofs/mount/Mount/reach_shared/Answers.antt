@@ -1,8 +1,6 @@
 use Rattle.std.proofs.Common.{◌≡◌, subst}
-use Rattle.hp_model.specs.files.File.{Mount, cell_at}
-use Rattle.hp_model.specs.declared.cell.Cell.TheVariants.{Present}
-use Rattle.hp_model.specs.files.Page.{Page}
-use Rattle.hp_model.specs.machine.Promises.{file_in}
+use Rattle.hp_model.proofs.Words.{Mount, Page, cell_at, file_in}
+use Rattle.hp_laws.proofs.Variants.{Present}
 use Rattle.hp_mount_laws.proofs.Shared.{shared_present}
 use Rattle.hp_mount.proofs.mount.Mount.reach_shared.Goals as goal
 

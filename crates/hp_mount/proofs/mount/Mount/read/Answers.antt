@@ -1,10 +1,6 @@
 use Rattle.std.proofs.Common.{◌≡◌, None, Some, refl, sym, subst, ◌∙◌}
 use Rattle.hp_model.specs.declared.event.SlotEvent.TheVariants.{Read}
-use Rattle.hp_model.specs.files.File.{Mount, cell_at}
-use Rattle.hp_model.specs.files.Value.{shown}
-use Rattle.hp_model.specs.machine.Plan.{Answered, Finish, Reply}
-use Rattle.hp_model.specs.machine.Promises.{file_in}
-use Rattle.hp_model.specs.machine.SlotEvent.{bytes_answer, file_named, read, read_tests}
+use Rattle.hp_model.proofs.Words.{Answered, Finish, Mount, Reply, bytes_answer, cell_at, file_in, file_named, read, read_tests, shown}
 use Rattle.hp_mount_laws.specs.Alone.{IsDoneAlone}
 use Rattle.hp_mount_laws.specs.Reach.{first_of}
 use Rattle.hp_mount_laws.proofs.Trying.{tests_fail, tests_pass}

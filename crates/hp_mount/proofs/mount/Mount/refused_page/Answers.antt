@@ -1,11 +1,8 @@
 use Rattle.std.proofs.lemmas.Grind.{common_steps}
 use Rattle.std.proofs.Common.{◌≡◌, [], ◌∷◌, Bool, not, ap, sym, ◌∙◌, arith}
 use Rattle.std.proofs.lemmas.Bool.Decides.{nat_tests}
-use Rattle.hp_model.specs.declared.refusal.Refusal.TheVariants.{BeyondEnd, OutOfRange}
-use Rattle.hp_model.specs.files.File.{Mount}
-use Rattle.hp_model.specs.files.Mapping.{is_live, place_at}
-use Rattle.hp_model.specs.machine.Promises.{file_in, map_in}
-use Rattle.hp_model.specs.machine.SlotEvent.{is_beyond}
+use Rattle.hp_laws.proofs.Variants.{BeyondEnd, OutOfRange}
+use Rattle.hp_model.proofs.Words.{Mount, file_in, is_beyond, is_live, map_in, place_at}
 use Rattle.hp_mount_files.proofs.Lent.{len_lent, live_lent}
 use Rattle.hp_mount_laws.specs.Reach.{first_of, spot_at}
 use Rattle.hp_mount.proofs.mount.Mount.refused_page.Given.{Over}

@@ -1,10 +1,7 @@
-use Rattle.std.proofs.Common.{◌≡◌, None, Some, length, refl, subst, ap, ◌∙◌}
-use Rattle.std.specs.List.{count_by}
-use Rattle.hp_model.specs.declared.answer.Answer.TheVariants.{Stat as StatAnswer}
+use Rattle.std.proofs.Common.{◌≡◌, None, Some, length, refl, subst, ap, ◌∙◌, count_by}
+use Rattle.hp_laws.proofs.Variants.{StatAnswer}
 use Rattle.hp_model.specs.declared.event.SlotEvent.TheVariants.{Stat}
-use Rattle.hp_model.specs.files.File.{Mount, has_page, is_entered}
-use Rattle.hp_model.specs.machine.Promises.{file_in}
-use Rattle.hp_model.specs.machine.SlotEvent.{file_named, stat}
+use Rattle.hp_model.proofs.Words.{Mount, file_in, file_named, has_page, is_entered, stat}
 use Rattle.hp_mount_files.proofs.Lent.{entries_lent, len_lent, maps_lent, pages_lent}
 use Rattle.hp_mount_laws.proofs.Looking.{is_answered, not_named}
 use Rattle.hp_mount.proofs.mount.Mount.stat.Goals as goal

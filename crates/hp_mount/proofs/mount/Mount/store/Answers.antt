@@ -1,7 +1,7 @@
 use Rattle.std.proofs.lemmas.Grind.{common_steps}
 use Rattle.std.proofs.Common.{◌≡◌, Some, length, subst, arith}
-use Rattle.hp_model.specs.declared.step.Intent.TheVariants.{Write}
-use Rattle.hp_model.specs.machine.Plan.{and_then}
+use Rattle.hp_laws.proofs.Variants.{Write}
+use Rattle.hp_model.proofs.Words.{and_then}
 use Rattle.hp_mount_files.proofs.Lent.{shared_lent}
 use Rattle.hp_mount.specs.declared.mount.reach.Asked.TheVariants.{Bytes}
 use Rattle.hp_mount.specs.Found.{IsPlaced, why_not}

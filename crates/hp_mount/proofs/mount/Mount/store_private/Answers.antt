@@ -1,8 +1,7 @@
 use Rattle.std.proofs.lemmas.Grind.{common_steps}
 use Rattle.std.proofs.Common.{refl, sym, ◌∙◌, arith}
 use Rattle.hp_laws.proofs.counts.Copies.{live_of}
-use Rattle.hp_model.specs.files.File.{file_in, map_in}
-use Rattle.hp_model.specs.files.Mapping.{place_at}
+use Rattle.hp_model.proofs.Words.{file_in, map_in, place_at}
 use Rattle.hp_mount_laws.specs.Reach.{spot_at}
 use Rattle.hp_mount.proofs.Commands.{backed_not_memory, private_written}
 use Rattle.hp_mount.proofs.Storing.{stored, not_stored}

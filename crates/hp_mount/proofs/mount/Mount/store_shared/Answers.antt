@@ -1,6 +1,6 @@
 use Rattle.std.proofs.Common.{Ok, refl, sym, subst, ◌∙◌, arith}
-use Rattle.hp_model.specs.declared.step.Intent.TheVariants.{Write}
-use Rattle.hp_model.specs.files.File.{Mount}
+use Rattle.hp_laws.proofs.Variants.{Write}
+use Rattle.hp_model.proofs.Words.{Mount}
 use Rattle.hp_mount_laws.specs.Done.{IsAccessed}
 use Rattle.hp_mount_laws.specs.Reach.{IsFileTouched, spot_at}
 use Rattle.hp_mount.proofs.Commands.{written_is}

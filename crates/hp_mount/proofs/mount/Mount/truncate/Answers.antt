@@ -1,7 +1,6 @@
 use Rattle.std.proofs.Common.{[], ◌∷◌, nat_lt}
-use Rattle.hp_model.specs.declared.refusal.Refusal.TheVariants.{OutOfRange}
-use Rattle.hp_model.specs.files.File.{Mount}
-use Rattle.hp_model.specs.files.GiveBack.{truncated}
+use Rattle.hp_laws.proofs.Variants.{OutOfRange}
+use Rattle.hp_model.proofs.Words.{Mount, truncated}
 use Rattle.hp_mount_laws.specs.Kept.{mount_from}
 use Rattle.hp_mount_laws.proofs.Giving.{gave_back, gave_through, keeps, no_more, long_file, nowhere, out_of_range, short_file}
 use Rattle.hp_mount.proofs.mount.Mount.truncate.Goals as goal

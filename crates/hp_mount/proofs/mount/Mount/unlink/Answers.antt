@@ -1,6 +1,5 @@
 use Rattle.std.proofs.Common.{[], refl}
-use Rattle.hp_model.specs.files.File.{Mount}
-use Rattle.hp_model.specs.files.GiveBack.{unlinked}
+use Rattle.hp_model.proofs.Words.{Mount, unlinked}
 use Rattle.hp_mount_laws.specs.Kept.{mount_from}
 use Rattle.hp_mount_laws.proofs.Giving.{gave_back, gave_through, keeps, no_more, nowhere}
 use Rattle.hp_mount.proofs.mount.Mount.unlink.Goals as goal

@@ -1,9 +1,7 @@
 use Rattle.std.proofs.Common.{arith}
 use Rattle.std.proofs.lemmas.Grind.{common_steps}
-use Rattle.hp_model.specs.files.File.{Mount}
-use Rattle.hp_model.specs.files.GiveBack.{file_unmapped}
-use Rattle.hp_model.specs.files.Mapping.{is_map}
-use Rattle.hp_lookup.specs.Places.{spot_of}
+use Rattle.hp_model.proofs.Words.{Mount, file_unmapped, is_map}
+use Rattle.hp_lookup.proofs.Words.{spot_of}
 use Rattle.hp_mount_laws.specs.Kept.{mount_from}
 use Rattle.hp_mount_laws.proofs.Giving.{gave_through, keeps}
 use Rattle.hp_mount_laws.proofs.Leaving.{bad_indices, few_reserves, fewer, indices_left, no_map_there}

@@ -1,11 +1,8 @@
 use Rattle.std.proofs.lemmas.Grind.{common_steps}
 use Rattle.std.proofs.Common.{◌≡◌, ap, subst, ◌∙◌, arith}
-use Rattle.hp_model.specs.declared.cell.Cell.TheVariants.{Present}
-use Rattle.hp_model.specs.files.Page.{Page}
-use Rattle.hp_model.specs.files.File.{Mount, cell_at, with_cell, with_file}
-use Rattle.hp_model.specs.machine.Promises.{file_in}
-use Rattle.hp_model.specs.files.Spot.{cell_written}
-use Rattle.hp_lookup.specs.Files.{Files}
+use Rattle.hp_laws.proofs.Variants.{Present}
+use Rattle.hp_model.proofs.Words.{Mount, Page, cell_at, cell_written, file_in, with_cell, with_file}
+use Rattle.hp_lookup.proofs.Words.{Files}
 use Rattle.hp_mount.proofs.Commands.{write_grows}
 use Rattle.hp_mount_laws.proofs.Keeping.{grown}
 use Rattle.hp_mount.proofs.mount.Mount.write.Goals as goal

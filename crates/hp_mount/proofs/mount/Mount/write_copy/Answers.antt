@@ -1,10 +1,8 @@
 use Rattle.std.proofs.Common.{◌<◌, ◌≤◌, length, refl, sym, ap, subst, arith}
 use Rattle.hp_laws.proofs.counts.Copies.{live_of}
-use Rattle.hp_model.specs.files.File.{Mount, file_in, map_in, with_map}
-use Rattle.hp_model.specs.files.Mapping.{place_at, with_place}
-use Rattle.hp_model.specs.files.Spot.{place_written}
+use Rattle.hp_model.proofs.Words.{Mount, file_in, map_in, place_at, place_written, with_map, with_place}
 use Rattle.hp_lookup.specs.declared.copy_state.CopyState.TheVariants as state
-use Rattle.hp_lookup.specs.Files.{Files, file_at}
+use Rattle.hp_lookup.proofs.Words.{Files, file_at}
 use Rattle.hp_file.specs.States.{IsCopyState}
 use Rattle.hp_mount.proofs.Commands.{private_grows}
 use Rattle.hp_mount_laws.proofs.Keeping.{grown}

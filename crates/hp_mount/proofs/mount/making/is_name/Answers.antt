@@ -3,7 +3,7 @@ use Rattle.std.proofs.lemmas.Bool.Decides.{nat_tests}
 use Rattle.std.proofs.lemmas.Iterator.{YieldsList-from_slice}
 use Rattle.std.proofs.lemmas.Iterator.Search.{all_from_yields_List}
 use Rattle.std.specs.List.{list_all}
-use Rattle.hp_model.specs.machine.SlotEvent.{is_name_byte, is_between}
+use Rattle.hp_model.proofs.Words.{is_between, is_name_byte}
 use Rattle.hp_mount.proofs.mount.making.is_name.Goals as goal
 
 pub returns-clause-is : goal.returns-clause-is

@@ -1,8 +1,6 @@
-use Rattle.std.proofs.Common.{ap, refl, sym, ◌∙◌}
-use Rattle.std.specs.List.{sum_by}
-use Rattle.hp_model.specs.files.MountCounts.{file_pages, file_pages_at}
-use Rattle.hp_lookup.specs.Files.{Files}
-use Rattle.hp_lookup.specs.Held.{in_files}
+use Rattle.std.proofs.Common.{ap, refl, sym, ◌∙◌, sum_by}
+use Rattle.hp_model.proofs.Words.{file_pages, file_pages_at}
+use Rattle.hp_lookup.proofs.Words.{Files, in_files}
 use Rattle.hp_file.proofs.Drops.{gone_nodes, gone_pages}
 use Rattle.hp_lookup.proofs.Stored.{stored_at, stored_pages}
 use Rattle.hp_mount_files.proofs.Here.{all_held}

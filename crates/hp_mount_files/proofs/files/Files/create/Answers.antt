@@ -1,9 +1,6 @@
 use Rattle.std.proofs.Common.{◌≡◌, ◌∷◌, ◌++◌, [], true, None, Some, ap, subst, sym, ◌∙◌}
-use Rattle.hp_model.specs.Lists.{found}
-use Rattle.hp_model.specs.machine.SlotEvent.{has_name}
-use Rattle.hp_lookup.specs.Tally.{count_of}
-use Rattle.hp_lookup.specs.Files.{Files}
-use Rattle.hp_lookup.specs.Hints.{IsMoreByName, is_noted_as as has_noted}
+use Rattle.hp_model.proofs.Words.{found, has_name}
+use Rattle.hp_lookup.proofs.Words.{Files, IsMoreByName, count_of, is_noted_as as has_noted}
 use Rattle.hp_mount_files.proofs.Creating.{created}
 use Rattle.hp_mount_files.proofs.files.Files.create.Goals as goal
 

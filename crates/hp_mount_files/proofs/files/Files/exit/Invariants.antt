@@ -1,7 +1,6 @@
-use Rattle.std.proofs.Common.{◌≡◌, ◌-◌, ◌≤◌, map}
-use Rattle.std.specs.List.{filter}
-use Rattle.hp_model.specs.files.GiveBack.{file_without, is_kept}
-use Rattle.hp_lookup.specs.Dropping.{IsLeft}
+use Rattle.std.proofs.Common.{◌≡◌, ◌-◌, ◌≤◌, map, filter}
+use Rattle.hp_model.proofs.Words.{file_without, is_kept}
+use Rattle.hp_lookup.proofs.Words.{IsLeft}
 use Rattle.hp_mount_files.proofs.files.Files.exit.Given as goal
 
 abbrev pub invariant-loop-number : goal.invariant-loop-number

@@ -1,9 +1,7 @@
 use Rattle.std.proofs.lemmas.Grind.{common_steps}
-use Rattle.std.proofs.Common.{map, ap, subst, refl, ◌∙◌, arith}
-use Rattle.std.specs.List.{filter}
-use Rattle.hp_model.specs.files.GiveBack.{file_without, is_kept}
-use Rattle.hp_lookup.specs.Dropping.{IsLeft}
-use Rattle.hp_lookup.specs.Files.{Files}
+use Rattle.std.proofs.Common.{map, ap, subst, refl, ◌∙◌, arith, filter}
+use Rattle.hp_model.proofs.Words.{file_without, is_kept}
+use Rattle.hp_lookup.proofs.Words.{Files, IsLeft}
 use Rattle.hp_mount_files.proofs.Exiting.{exit_files, exit_keeps, exit_left}
 use Rattle.hp_lookup.proofs.GivingBack.{all_kept}
 use Rattle.hp_lookup.proofs.Leaving.{files_owe}

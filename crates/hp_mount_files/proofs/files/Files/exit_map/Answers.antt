@@ -1,6 +1,5 @@
-use Rattle.std.proofs.Common.{map, ap, ◌∙◌, arith}
-use Rattle.std.specs.List.{filter}
-use Rattle.hp_model.specs.files.GiveBack.{file_without, is_kept}
+use Rattle.std.proofs.Common.{map, ap, ◌∙◌, arith, filter}
+use Rattle.hp_model.proofs.Words.{file_without, is_kept}
 use Rattle.hp_mount_files.proofs.OneByOne.{leaves_same}
 use Rattle.hp_mount_files.proofs.files.Files.exit_map.Goals as goal
 

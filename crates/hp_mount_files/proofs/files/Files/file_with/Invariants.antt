@@ -1,5 +1,5 @@
-use Rattle.std.specs.Prelude.{◌≡◌, ℕ, ◌<◌, false, slice_index_or}
-use Rattle.hp_lookup.specs.Numbered.{NumberedFile}
+use Rattle.std.proofs.Common.{◌≡◌, ℕ, ◌<◌, false, slice_index_or}
+use Rattle.hp_lookup.proofs.Words.{NumberedFile}
 use Rattle.hp_lookup.proofs.Finding.{has_numbered}
 use Rattle.hp_mount_files.proofs.files.Files.file_with.Given as goal
 

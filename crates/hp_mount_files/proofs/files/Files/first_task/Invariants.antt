@@ -1,5 +1,5 @@
-use Rattle.std.specs.Prelude.{◌≡◌, None, take}
-use Rattle.hp_lookup.specs.Leaving.{least_among}
+use Rattle.std.proofs.Common.{◌≡◌, None, take}
+use Rattle.hp_lookup.proofs.Words.{least_among}
 use Rattle.hp_file.proofs.FirstTask.{tasks_of}
 use Rattle.hp_mount_files.proofs.files.Files.first_task.Given as goal
 

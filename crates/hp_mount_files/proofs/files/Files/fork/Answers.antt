@@ -1,7 +1,6 @@
 use Rattle.std.proofs.lemmas.Grind.{common_steps}
 use Rattle.std.proofs.Common.{◌≡◌, refl, ◌==◌, cond, ℕ, ◌+◌, ◌-◌, ap, subst, sym, ◌∙◌, arith}
-use Rattle.hp_lookup.specs.Tally.{count_of}
-use Rattle.hp_lookup.specs.Hints.{IsFiles}
+use Rattle.hp_lookup.proofs.Words.{IsFiles, count_of}
 use Rattle.hp_mount_files.proofs.Exiting.{maps_in}
 use Rattle.hp_mount_files.proofs.Forks.{all_used, files_as, forked_few, forked_keeps, forked_left, forked_shows, join_few, join_held, join_keys, join_none, join_room, set_out}
 use Rattle.hp_mount_files.proofs.Here.{all_held}

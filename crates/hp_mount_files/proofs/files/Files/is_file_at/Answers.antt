@@ -1,7 +1,5 @@
 use Rattle.std.proofs.Common.{subst, sym, ◌∙◌, arith}
-use Rattle.hp_lookup.specs.Tally.{count_of}
-use Rattle.hp_lookup.specs.Files.{Files}
-use Rattle.hp_lookup.specs.Places.{IsNamed}
+use Rattle.hp_lookup.proofs.Words.{Files, IsNamed, count_of}
 use Rattle.hp_lookup.proofs.Unique.{named_here}
 use Rattle.hp_mount_files.proofs.files.Files.is_file_at.Goals as goal
 

@@ -1,7 +1,5 @@
 use Rattle.std.proofs.Common.{subst, arith}
-use Rattle.hp_lookup.specs.Tally.{count_of}
-use Rattle.hp_lookup.specs.Files.{Files}
-use Rattle.hp_lookup.specs.Places.{IsFound}
+use Rattle.hp_lookup.proofs.Words.{Files, IsFound, count_of}
 use Rattle.hp_lookup.proofs.Unique.{map_here}
 use Rattle.hp_mount_files.proofs.files.Files.is_map_at.Goals as goal
 

@@ -1,7 +1,6 @@
 use Rattle.std.proofs.Common.{◌≡◌, ℕ, ◌-◌, ◌<◌, ◌≤◌, true}
-use Rattle.hp_model.specs.Lists.{is_among}
-use Rattle.hp_model.specs.files.MakeMap.{numbers_of}
-use Rattle.hp_lookup.specs.Places.{all_maps}
+use Rattle.hp_model.proofs.Words.{is_among, numbers_of}
+use Rattle.hp_lookup.proofs.Words.{all_maps}
 use Rattle.hp_mount_files.proofs.files.Files.least_unused.Given as goal
 
 abbrev pub invariant-loop-number : goal.invariant-loop-number

@@ -1,6 +1,5 @@
 use Rattle.std.proofs.Common.{◌<◌, length, sym, subst}
-use Rattle.hp_lookup.specs.Files.{Files, file_at}
-use Rattle.hp_lookup.specs.Places.{map_among}
+use Rattle.hp_lookup.proofs.Words.{Files, file_at, map_among}
 use Rattle.hp_lookup.proofs.Views.{map_seen}
 use Rattle.hp_mount_files.specs.Lent.{IsMapLent}
 use Rattle.hp_mount_files.proofs.files.Files.map.Goals as goal

@@ -1,11 +1,8 @@
 use Rattle.std.proofs.lemmas.Grind.{common_steps}
 use Rattle.std.proofs.Common.{◌≡◌, ◌≤◌, None, arith, length, subst}
 use Rattle.std.proofs.lemmas.List.Sums.{position_or_len_is}
-use Rattle.hp_model.specs.Lists.{found}
-use Rattle.hp_model.specs.machine.SlotEvent.{has_name}
-use Rattle.hp_lookup.specs.Files.{Files}
-use Rattle.hp_lookup.specs.Keyed.{has_label, label_of}
-use Rattle.hp_lookup.specs.Numbered.{NumberedFile}
+use Rattle.hp_model.proofs.Words.{found, has_name}
+use Rattle.hp_lookup.proofs.Words.{Files, NumberedFile, has_label, label_of}
 use Rattle.hp_lookup.proofs.Cells.{no_file}
 use Rattle.hp_lookup.proofs.Unique.{named_first, named_nowhere}
 use Rattle.hp_mount_files.proofs.files.Files.named_among_all.Goals as goal

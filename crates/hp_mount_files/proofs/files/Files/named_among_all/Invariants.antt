@@ -1,6 +1,5 @@
-use Rattle.std.specs.Prelude.{◌≡◌, ℕ, ◌<◌, false, slice_index_or}
-use Rattle.hp_lookup.specs.Keyed.{has_label, label_of}
-use Rattle.hp_lookup.specs.Numbered.{NumberedFile}
+use Rattle.std.proofs.Common.{◌≡◌, ℕ, ◌<◌, false, slice_index_or}
+use Rattle.hp_lookup.proofs.Words.{NumberedFile, has_label, label_of}
 use Rattle.hp_mount_files.proofs.files.Files.named_among_all.Given as goal
 
 abbrev pub invariant-loop-at : goal.invariant-loop-at

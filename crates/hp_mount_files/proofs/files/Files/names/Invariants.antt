@@ -1,5 +1,4 @@
-use Rattle.std.proofs.Common.{◌≡◌, ◌≤◌, length, take}
-use Rattle.std.specs.Prelude.{vec_len, vec_capacity}
+use Rattle.std.proofs.Common.{◌≡◌, ◌≤◌, length, take, vec_len, vec_capacity}
 use Rattle.hp_mount_files.proofs.Listing.{AreShort, names_in}
 use Rattle.hp_mount_files.proofs.files.Files.names.Given as goal
 

@@ -1,5 +1,5 @@
 use Rattle.std.proofs.Common.{◌≡◌, Bool, true, false, not, refl}
-use Rattle.hp_lookup.specs.Places.{all_maps}
+use Rattle.hp_lookup.proofs.Words.{all_maps}
 use Rattle.hp_mount_files.proofs.Used.{first_number}
 use Rattle.hp_mount_files.proofs.files.Files.next_map.Goals as goal
 

@@ -1,7 +1,7 @@
 use Rattle.std.proofs.Common.{◌<◌, ◌≤◌, ◌≡◌, ⊎_elim, sym, ◌∙◌, arith}
 use Rattle.std.proofs.lemmas.Bool.{cases_lt}
 use Rattle.hp_file.proofs.Filling.{all_paged}
-use Rattle.hp_lookup.specs.Files.{file_at}
+use Rattle.hp_lookup.proofs.Words.{file_at}
 use Rattle.hp_mount_files.proofs.files.Files.past_paged.Goals as goal
 
 pub loop-at-preserved : goal.loop-at-preserved

@@ -1,6 +1,6 @@
 use Rattle.std.proofs.Common.{ℕ, ◌≡◌, ◌-◌, ◌<◌, ◌≤◌, true}
-use Rattle.hp_model.specs.files.File.{cell_at, has_page}
-use Rattle.hp_lookup.specs.Files.{file_at}
+use Rattle.hp_model.proofs.Words.{cell_at, has_page}
+use Rattle.hp_lookup.proofs.Words.{file_at}
 use Rattle.hp_mount_files.proofs.files.Files.past_paged.Given as goal
 
 abbrev pub invariant-loop-at : goal.invariant-loop-at

@@ -1,10 +1,7 @@
 use Rattle.std.proofs.lemmas.Grind.{common_steps}
-use Rattle.std.proofs.Common.{◌+◌, max, ap, sym, ◌∙◌, arith}
-use Rattle.std.specs.List.{count_by}
-use Rattle.hp_model.specs.files.File.{cell_at, is_entered}
-use Rattle.hp_model.specs.files.Fill.{lacks_page}
-use Rattle.hp_model.specs.Lists.{part}
-use Rattle.hp_lookup.specs.Files.{Files, file_at}
+use Rattle.std.proofs.Common.{◌+◌, max, ap, sym, ◌∙◌, arith, count_by}
+use Rattle.hp_model.proofs.Words.{cell_at, is_entered, lacks_page, part}
+use Rattle.hp_lookup.proofs.Words.{Files, file_at}
 use Rattle.hp_file.proofs.Filling.{all_filled, entries_there, lacking_there, rising_length}
 use Rattle.hp_mount_files.proofs.files.Files.preallocate.Goals as goal
 

@@ -1,10 +1,7 @@
 use Rattle.std.proofs.lemmas.Grind.{common_steps}
-use Rattle.std.proofs.Common.{◌<◌, length, ap, subst, sym, ◌∙◌, arith}
-use Rattle.std.specs.Prelude.{slice_set}
-use Rattle.hp_model.specs.files.GiveBack.{punched}
-use Rattle.hp_lookup.specs.Tally.{count_of}
-use Rattle.hp_lookup.specs.Dropping.{IsLeft}
-use Rattle.hp_lookup.specs.Files.{Files, edited_at, file_at}
+use Rattle.std.proofs.Common.{◌<◌, length, ap, subst, sym, ◌∙◌, arith, slice_set}
+use Rattle.hp_model.proofs.Words.{punched}
+use Rattle.hp_lookup.proofs.Words.{Files, IsLeft, count_of, edited_at, file_at}
 use Rattle.hp_lookup.proofs.GivingBack.{punch_files, punch_keeps, punch_left}
 use Rattle.hp_lookup.proofs.Views.{view}
 use Rattle.hp_mount_files.proofs.Here.{file_inside, held_inside}

@@ -1,13 +1,6 @@
 use Rattle.std.proofs.Common.{◌≡◌, ◌==◌, ℕ, ◌+◌, ◌<◌, cond, List, ◌∷◌, ◌++◌, [], None, length, ap, subst, sym, ◌∙◌, rules, arith}
-use Rattle.hp_model.specs.Lists.{is_among}
-use Rattle.hp_model.specs.files.File.{new_file}
-use Rattle.hp_model.specs.files.MakeMap.{mapped, numbers_of}
-use Rattle.hp_lookup.specs.Tally.{count_of}
-use Rattle.hp_lookup.specs.Asking.{next_of}
-use Rattle.hp_lookup.specs.Files.{Files}
-use Rattle.hp_lookup.specs.Hints.{IsFiles}
-use Rattle.hp_lookup.specs.Numbered.{files_shown}
-use Rattle.hp_lookup.specs.Places.{all_maps}
+use Rattle.hp_model.proofs.Words.{is_among, mapped, new_file, numbers_of}
+use Rattle.hp_lookup.proofs.Words.{Files, IsFiles, all_maps, count_of, files_shown, next_of}
 use Rattle.hp_lookup.proofs.Keys.{then_map}
 use Rattle.hp_lookup.proofs.NewKey.{maps_few}
 use Rattle.hp_lookup.proofs.MapNumbers.{unused_is_new}

@@ -1,14 +1,8 @@
 use Rattle.std.proofs.lemmas.Grind.{common_steps}
 use Rattle.std.proofs.Common.{◌≡◌, ◌==◌, ℕ, ◌+◌, ◌<◌, cond, List, length, slice_set, ap, subst, sym, ◌∙◌, rules, arith}
 use Rattle.std.proofs.lemmas.List.{set-get_or}
-use Rattle.hp_model.specs.Lists.{is_among}
-use Rattle.hp_model.specs.files.MakeMap.{mapped, numbers_of}
-use Rattle.hp_lookup.specs.Tally.{count_of}
-use Rattle.hp_lookup.specs.Asking.{next_of}
-use Rattle.hp_lookup.specs.Files.{Files, file_at, with_file_at}
-use Rattle.hp_lookup.specs.Hints.{IsFiles}
-use Rattle.hp_lookup.specs.Numbered.{files_shown}
-use Rattle.hp_lookup.specs.Places.{all_maps}
+use Rattle.hp_model.proofs.Words.{is_among, mapped, numbers_of}
+use Rattle.hp_lookup.proofs.Words.{Files, IsFiles, all_maps, count_of, file_at, files_shown, next_of, with_file_at}
 use Rattle.hp_lookup.proofs.Keys.{then_map}
 use Rattle.hp_lookup.proofs.Mapped.{map_files, map_view}
 use Rattle.hp_lookup.proofs.NewKey.{maps_few}

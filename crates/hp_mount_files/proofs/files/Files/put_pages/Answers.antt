@@ -1,13 +1,10 @@
 use Rattle.std.proofs.lemmas.Grind.{common_steps}
-use Rattle.std.proofs.Common.{None, ◌≡◌, ℕ, ◌+◌, ◌-◌, ◌<◌, ◌≤◌, List, true, ◌∷◌, length, refl, ap, sym, subst, ◌∙◌, arith}
-use Rattle.std.specs.Prelude.{slice_set}
+use Rattle.std.proofs.Common.{None, ◌≡◌, ℕ, ◌+◌, ◌-◌, ◌<◌, ◌≤◌, List, true, ◌∷◌, length, refl, ap, sym, subst, ◌∙◌, arith, slice_set}
 use Rattle.std.proofs.lemmas.List.{set-get_or}
-use Rattle.hp_model.specs.declared.cell.Cell.{Cell}
-use Rattle.hp_model.specs.files.File.{cell_in, has_page, new_file}
-use Rattle.hp_model.specs.files.Fill.{zero_page}
-use Rattle.hp_model.specs.files.Page.{Page}
+use Rattle.hp_laws.proofs.Variants.{Cell}
+use Rattle.hp_model.proofs.Words.{Page, cell_in, has_page, new_file, zero_page}
 use Rattle.hp_store.specs.Batch.{Batch}
-use Rattle.hp_lookup.specs.Files.{Files, file_at}
+use Rattle.hp_lookup.proofs.Words.{Files, file_at}
 use Rattle.hp_file.proofs.Zeros.{IsPutting, cells_put, files_put, putting_puts, putting_skips, putting_some, putting_stays}
 use Rattle.hp_mount_files.proofs.files.Files.put_pages.Goals.{in-Entered, in_default}
 use Rattle.hp_mount_files.proofs.files.Files.put_pages.Goals as goal

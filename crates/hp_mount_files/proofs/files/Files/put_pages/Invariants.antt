@@ -1,6 +1,5 @@
-use Rattle.std.proofs.Common.{◌≡◌, ◌+◌, ◌-◌, ◌≤◌, length}
-use Rattle.std.specs.Prelude.{slice_set}
-use Rattle.hp_lookup.specs.Files.{file_at}
+use Rattle.std.proofs.Common.{◌≡◌, ◌+◌, ◌-◌, ◌≤◌, length, slice_set}
+use Rattle.hp_lookup.proofs.Words.{file_at}
 use Rattle.hp_file.proofs.Zeros.{IsPutting}
 use Rattle.hp_mount_files.proofs.files.Files.put_pages.Given as goal
 

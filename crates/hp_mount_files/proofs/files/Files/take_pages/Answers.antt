@@ -1,9 +1,6 @@
 use Rattle.std.proofs.lemmas.Grind.{common_steps}
 use Rattle.std.proofs.Common.{◌<◌, length, ap, sym, subst, ◌∙◌, arith}
-use Rattle.hp_lookup.specs.Files.{Files}
-use Rattle.hp_lookup.specs.Keyed.{label_of}
-use Rattle.hp_lookup.specs.Numbered.{NumberedFile, files_shown}
-use Rattle.hp_lookup.specs.Tally.{count_of}
+use Rattle.hp_lookup.proofs.Words.{Files, NumberedFile, count_of, files_shown, label_of}
 use Rattle.hp_file.proofs.Filling.{range_held, range_view}
 use Rattle.hp_lookup.proofs.Keys.{files_same}
 use Rattle.hp_lookup.proofs.Level.{same_level}

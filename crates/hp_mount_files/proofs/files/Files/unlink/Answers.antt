@@ -1,11 +1,7 @@
 use Rattle.std.proofs.lemmas.Grind.{common_steps}
-use Rattle.std.proofs.Common.{◌≡◌, arith, ◌<◌, length, ap, subst, sym, ◌∙◌}
-use Rattle.std.specs.Prelude.{slice_set}
-use Rattle.hp_model.specs.files.GiveBack.{unlinked}
-use Rattle.hp_lookup.specs.Tally.{count_of}
-use Rattle.hp_lookup.specs.Dropping.{IsLeft}
-use Rattle.hp_lookup.specs.Files.{Files, edited_at, file_at}
-use Rattle.hp_lookup.specs.Places.{IsNamed}
+use Rattle.std.proofs.Common.{◌≡◌, arith, ◌<◌, length, ap, subst, sym, ◌∙◌, slice_set}
+use Rattle.hp_model.proofs.Words.{unlinked}
+use Rattle.hp_lookup.proofs.Words.{Files, IsLeft, IsNamed, count_of, edited_at, file_at}
 use Rattle.hp_mount_files.proofs.Unlinking.{gone_files, gone_keeps, gone_left, named_files, named_keeps, named_left, same_maps}
 use Rattle.hp_lookup.proofs.Views.{view}
 use Rattle.hp_mount_files.proofs.Here.{file_inside, held_inside}

@@ -1,16 +1,8 @@
 use Rattle.std.proofs.lemmas.Grind.{common_steps}
-use Rattle.std.proofs.Common.{◌≡◌, Bool, cond, ◌+◌, ◌<◌, ◌^◌, ◌≢◌, ℕ, true, false, refl, map, ap, subst, sym, ◌∙◌, arith}
-use Rattle.std.specs.Prelude.{slice_set}
-use Rattle.std.specs.List.{filter, sum_by}
-use Rattle.hp_model.specs.files.GiveBack.{file_unmapped, is_kept}
-use Rattle.hp_model.specs.files.Mapping.{Mapping, is_map, is_mapped, without_range}
+use Rattle.std.proofs.Common.{◌≡◌, Bool, cond, ◌+◌, ◌<◌, ◌^◌, ◌≢◌, ℕ, true, false, refl, map, ap, subst, sym, ◌∙◌, arith, slice_set, filter, sum_by}
+use Rattle.hp_model.proofs.Words.{Mapping, file_unmapped, is_kept, is_map, is_mapped, without_range}
 use Rattle.std.proofs.lemmas.List.Sums.{get_or-le-sum_by}
-use Rattle.hp_lookup.specs.Tally.{count_of}
-use Rattle.hp_lookup.specs.Dropping.{IsLeft}
-use Rattle.hp_lookup.specs.Files.{Files}
-use Rattle.hp_lookup.specs.Leaving.{file_owed}
-use Rattle.hp_lookup.specs.Numbered.{files_shown, mapping_at}
-use Rattle.hp_lookup.specs.Places.{IsFound}
+use Rattle.hp_lookup.proofs.Words.{Files, IsFound, IsLeft, count_of, file_owed, files_shown, mapping_at}
 use Rattle.hp_lookup.proofs.Leaving.{files_owe}
 use Rattle.hp_file.proofs.Counting.{part_held}
 use Rattle.hp_mount_files.proofs.Here.{all_held}

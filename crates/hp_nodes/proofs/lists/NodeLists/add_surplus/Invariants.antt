@@ -1,5 +1,5 @@
 use Rattle.std.proofs.Common.{◌-◌}
-use Rattle.hp_model.specs.pool.NodeRows.{surplus_added}
+use Rattle.hp_model.proofs.Words.{surplus_added}
 use Rattle.hp_nodes.specs.Moves.{add_surplus_by}
 use Rattle.hp_nodes.proofs.Sums.{AreDone}
 use Rattle.hp_nodes.proofs.lists.NodeLists.add_surplus.Given as goal

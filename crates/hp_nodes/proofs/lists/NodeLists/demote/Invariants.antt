@@ -1,5 +1,5 @@
 use Rattle.std.proofs.Common.{◌-◌}
-use Rattle.hp_model.specs.pool.NodeRows.{demoted}
+use Rattle.hp_model.proofs.Words.{demoted}
 use Rattle.hp_nodes.specs.Moves.{demote_by}
 use Rattle.hp_nodes.proofs.Sums.{AreDone}
 use Rattle.hp_nodes.proofs.lists.NodeLists.demote.Given as goal

@@ -1,5 +1,5 @@
 use Rattle.std.proofs.Common.{◌-◌}
-use Rattle.hp_model.specs.pool.NodeRows.{given_back}
+use Rattle.hp_model.proofs.Words.{given_back}
 use Rattle.hp_nodes.specs.Moves.{give_back_by}
 use Rattle.hp_nodes.proofs.Sums.{AreDone}
 use Rattle.hp_nodes.proofs.lists.NodeLists.give_back.Given as goal

@@ -1,5 +1,5 @@
 use Rattle.std.proofs.Common.{◌-◌}
-use Rattle.hp_model.specs.pool.NodeRows.{grown}
+use Rattle.hp_model.proofs.Words.{grown}
 use Rattle.hp_nodes.specs.Moves.{grow_by}
 use Rattle.hp_nodes.proofs.Sums.{AreDone}
 use Rattle.hp_nodes.proofs.lists.NodeLists.grow.Given as goal

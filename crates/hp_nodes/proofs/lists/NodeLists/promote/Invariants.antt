@@ -1,5 +1,5 @@
 use Rattle.std.proofs.Common.{◌-◌}
-use Rattle.hp_model.specs.pool.NodeRows.{promoted}
+use Rattle.hp_model.proofs.Words.{promoted}
 use Rattle.hp_nodes.specs.Moves.{promote_by}
 use Rattle.hp_nodes.proofs.Sums.{AreDone}
 use Rattle.hp_nodes.proofs.lists.NodeLists.promote.Given as goal

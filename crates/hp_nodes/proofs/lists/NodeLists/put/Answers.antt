@@ -1,7 +1,6 @@
-use Rattle.std.proofs.Common.{rules, ◌≡◌, ◌+◌, ap, ◌∙◌, arith}
+use Rattle.std.proofs.Common.{rules, ◌≡◌, ◌+◌, ap, ◌∙◌, arith, slice_index, slice_set}
 use Rattle.std.proofs.lemmas.List.{get_or_read}
-use Rattle.hp_model.specs.pool.NodeRows.{no_row}
-use Rattle.std.specs.Prelude.{slice_index, slice_set}
+use Rattle.hp_model.proofs.Words.{no_row}
 use Rattle.hp_nodes.specs.Moves.{put_by}
 use Rattle.hp_nodes.proofs.Keeps.{kept_put, some_in_use, used_below, was_used}
 use Rattle.hp_nodes.proofs.lists.NodeLists.put.Goals as goal

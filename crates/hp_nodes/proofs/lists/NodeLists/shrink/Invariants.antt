@@ -1,5 +1,5 @@
 use Rattle.std.proofs.Common.{◌-◌}
-use Rattle.hp_model.specs.pool.NodeRows.{shrunk}
+use Rattle.hp_model.proofs.Words.{shrunk}
 use Rattle.hp_nodes.specs.Moves.{shrink_by}
 use Rattle.hp_nodes.proofs.Sums.{AreDone}
 use Rattle.hp_nodes.proofs.lists.NodeLists.shrink.Given as goal

@@ -1,10 +1,8 @@
-use Rattle.std.proofs.Common.{◌≡◌, ◌*◌, ◌<◌, ◌++◌, true, length, take, drop, sym, subst, ap, ◌∙◌, rules, tests, arith}
-use Rattle.std.specs.Prelude.{All}
+use Rattle.std.proofs.Common.{◌≡◌, ◌*◌, ◌<◌, ◌++◌, true, length, take, drop, sym, subst, ap, ◌∙◌, rules, tests, arith, All, count_by}
 use Rattle.std.proofs.lemmas.List.{get_or_read}
 use Rattle.std.specs.Fn.{iterate}
-use Rattle.std.specs.List.{count_by}
 use Rattle.hp_model.specs.declared.node.Kind.TheVariants.{Free}
-use Rattle.hp_model.specs.pool.NodeRows.{NodeRows, row_at, no_row, has, sum_row, next_node, shrunk}
+use Rattle.hp_model.proofs.Words.{NodeRows, has, next_node, no_row, row_at, shrunk, sum_row}
 use Rattle.hp_nodes.specs.Moves.{amount, HasMany, where_has, shrink_by}
 use Rattle.hp_nodes.proofs.Each.{each_written, kept_shrink_each, shrink_each_sums}
 use Rattle.hp_nodes.proofs.Finds.{has_amount}

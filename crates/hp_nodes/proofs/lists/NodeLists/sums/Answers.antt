@@ -1,6 +1,6 @@
 use Rattle.std.proofs.Common.{◌∙◌, ap}
 use Rattle.std.proofs.lemmas.List.{take_all}
-use Rattle.hp_model.specs.pool.NodeRows.{frames_of}
+use Rattle.hp_model.proofs.Words.{frames_of}
 use Rattle.hp_nodes.proofs.Sums.{in_all}
 use Rattle.hp_nodes.proofs.lists.NodeLists.sums.Goals as goal
 

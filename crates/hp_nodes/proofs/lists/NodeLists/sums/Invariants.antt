@@ -1,5 +1,5 @@
 use Rattle.std.proofs.Common.{◌≡◌, ◌≤◌, ◌*◌, take}
-use Rattle.hp_model.specs.pool.NodeRows.{sum_row}
+use Rattle.hp_model.proofs.Words.{sum_row}
 use Rattle.hp_nodes.proofs.lists.NodeLists.sums.Given as goal
 
 abbrev pub invariant-loop-node : goal.invariant-loop-node

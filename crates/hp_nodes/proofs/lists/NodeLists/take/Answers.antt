@@ -1,7 +1,6 @@
-use Rattle.std.proofs.Common.{rules, ◌<◌, ap, ◌∙◌}
+use Rattle.std.proofs.Common.{rules, ◌<◌, ap, ◌∙◌, length}
 use Rattle.std.proofs.lemmas.List.{get_or_read}
-use Rattle.std.specs.Prelude.{length}
-use Rattle.hp_model.specs.pool.NodeRows.{take_row, row_at, no_row}
+use Rattle.hp_model.proofs.Words.{no_row, row_at, take_row}
 use Rattle.hp_nodes.proofs.Keeps.{kept_take}
 use Rattle.hp_nodes.proofs.lists.NodeLists.take.Goals as goal
 

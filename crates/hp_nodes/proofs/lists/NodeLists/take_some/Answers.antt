@@ -1,8 +1,7 @@
-use Rattle.std.proofs.Common.{rules, ◌<◌, ◌≤◌, ap, ◌∙◌, arith}
+use Rattle.std.proofs.Common.{rules, ◌<◌, ◌≤◌, ap, ◌∙◌, arith, length}
 use Rattle.std.proofs.lemmas.List.{get_or_read}
-use Rattle.std.specs.Prelude.{length}
 use Rattle.hp_model.specs.declared.node.NodeRow.{NodeRow}
-use Rattle.hp_model.specs.pool.NodeRows.{row_at, no_row}
+use Rattle.hp_model.proofs.Words.{no_row, row_at}
 use Rattle.hp_nodes.specs.Moves.{take_by}
 use Rattle.hp_nodes.proofs.Keeps.{kept_take}
 use Rattle.hp_nodes.proofs.lists.NodeLists.take_some.Goals as goal

@@ -1,5 +1,4 @@
-use Rattle.std.proofs.Common.{◌≤◌, subst, sym}
-use Rattle.std.specs.List.{sum}
+use Rattle.std.proofs.Common.{◌≤◌, subst, sym, sum}
 use Rattle.hp_own_pool.specs.Parcel.{claimed}
 use Rattle.hp_own_pool.proofs.Returning.{four_put}
 use Rattle.hp_own_pool.proofs.parcel.Parcel.put.Goals as goal

@@ -1,8 +1,5 @@
-use Rattle.std.proofs.Common.{◌≡◌, ◌-◌, rules, arith}
-use Rattle.std.specs.Prelude.{min}
-use Rattle.hp_model.specs.pool.NodeRows.{frames_of}
-use Rattle.hp_model.specs.pool.PoolCounts.{used_of}
-use Rattle.hp_model.specs.pool.Resize.{raise_times, lower_times}
+use Rattle.std.proofs.Common.{◌≡◌, ◌-◌, rules, arith, min}
+use Rattle.hp_model.proofs.Words.{frames_of, lower_times, raise_times, used_of}
 use Rattle.hp_pool.proofs.Sets.{set_nr_is}
 use Rattle.hp_pool.proofs.pool.Pool.set_nr.Goals as goal
 

@@ -1,6 +1,6 @@
 use Rattle.std.proofs.Common.{◌≡◌, ◌==◌, is_some, sym, ap, ◌∙◌}
 use Rattle.hp_locked.specs.Views.{frames_list}
-use Rattle.hp_model.specs.machine.Machine.{start}
+use Rattle.hp_model.proofs.Words.{start}
 use Rattle.hp_closing.specs.Joined.{WasJoined}
 use Rattle.hp_closing.specs.OneRun.{WasOneRun, all_told}
 use Rattle.hp_server.proofs.served.ServedMachine.close.Goals as goal

@@ -1,8 +1,7 @@
 use Rattle.std.proofs.Common.{sym, subst}
 use Rattle.hp_events.specs.declared.work.Work.TheVariants.{Attach}
-use Rattle.hp_model.specs.declared.event.Event.TheVariants.{Tasks as OnTasks}
-use Rattle.hp_model.specs.declared.event.TableEvent.TheVariants.{Find}
-use Rattle.hp_model.specs.machine.Plan.{Reply}
+use Rattle.hp_laws.proofs.Variants.{Find, Tasks as OnTasks}
+use Rattle.hp_model.proofs.Words.{Reply}
 use Rattle.hp_events.specs.Replies.{table_reply}
 use Rattle.hp_sessions.specs.Works.{IsWorked}
 use Rattle.hp_sessions.proofs.Carrying.{only_made}

@@ -1,5 +1,5 @@
 use Rattle.std.proofs.Common.{◌≡◌, ◌≤◌, ◌-◌, length, take, drop}
-use Rattle.hp_model.specs.beside.Queue.{DoesAll}
+use Rattle.hp_model.proofs.Words.{DoesAll}
 use Rattle.hp_sessions.proofs.Queueing.{Called}
 use Rattle.hp_sessions.proofs.session.Session.do_waiting.Given as goal
 

@@ -1,7 +1,6 @@
 use Rattle.std.proofs.Common.{ap, ◌∙◌, arith}
-use Rattle.hp_model.specs.declared.event.Event.TheVariants.{Tasks as OnTasks}
-use Rattle.hp_model.specs.declared.event.TableEvent.TheVariants.{Add}
-use Rattle.hp_model.specs.beside.Told.{told_reply}
+use Rattle.hp_laws.proofs.Variants.{Add, Tasks as OnTasks}
+use Rattle.hp_model.proofs.Words.{told_reply}
 use Rattle.hp_sessions.specs.Calls.{HasReceiptRoom}
 use Rattle.hp_events.specs.Works.{work_receipts}
 use Rattle.hp_events.specs.declared.work.Work.TheVariants.{Connect}

@@ -1,8 +1,7 @@
 use Rattle.std.proofs.Common.{◌≡◌, ℕ, Ok, refl, ap, subst, arith}
 use Rattle.std.specs.List.{range_with_len}
-use Rattle.hp_model.specs.declared.answer.Answer.TheVariants.{Done}
-use Rattle.hp_model.specs.declared.event.TableEvent.TheVariants.{Remove}
-use Rattle.hp_model.specs.machine.Step.{Answer_with, exit_slots}
+use Rattle.hp_laws.proofs.Variants.{Done, Remove}
+use Rattle.hp_model.proofs.Words.{Answer_with, exit_slots}
 use Rattle.hp_sessions.specs.Calls.{Carries, SessionView}
 use Rattle.hp_sessions.proofs.Carrying.{ends, grows_then}
 use Rattle.hp_sessions.proofs.Forking.{first_exited, table_done, table_refused}

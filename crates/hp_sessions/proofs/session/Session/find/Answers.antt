@@ -1,8 +1,6 @@
 use Rattle.std.proofs.Common.{IfErr, IfOk, Err, Ok, ℕ, subst, sym}
-use Rattle.hp_model.specs.declared.answer.Answer.TheVariants.{Home}
-use Rattle.hp_model.specs.declared.event.Event.TheVariants.{Tasks as OnTasks}
-use Rattle.hp_model.specs.declared.event.TableEvent.TheVariants.{Find}
-use Rattle.hp_model.specs.machine.Step.{Script, finding}
+use Rattle.hp_laws.proofs.Variants.{Find, Home, Tasks as OnTasks}
+use Rattle.hp_model.proofs.Words.{Script, finding}
 use Rattle.hp_sessions.specs.Calls.{Carries, Leads, SessionView}
 use Rattle.hp_sessions.proofs.Carrying.{found, made_by, not_found}
 use Rattle.hp_sessions.proofs.session.Session.find.Goals as goal

@@ -1,8 +1,7 @@
 use Rattle.std.proofs.Common.{ℕ, [], subst}
 use Rattle.std.specs.List.{range_with_len}
-use Rattle.hp_model.specs.declared.event.TableEvent.TheVariants.{FindAndAdd}
-use Rattle.hp_model.specs.beside.Accesses.{done_reply}
-use Rattle.hp_model.specs.machine.Step.{fork_slots}
+use Rattle.hp_laws.proofs.Variants.{FindAndAdd}
+use Rattle.hp_model.proofs.Words.{done_reply, fork_slots}
 use Rattle.hp_sessions.specs.Calls.{Carries}
 use Rattle.hp_sessions.proofs.Forking.{table_done, table_refused}
 use Rattle.hp_sessions.proofs.session.Session.fork.Goals as goal

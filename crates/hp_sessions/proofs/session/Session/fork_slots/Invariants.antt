@@ -1,6 +1,6 @@
 use Rattle.std.proofs.Common.{◌≡◌, [], length}
 use Rattle.std.specs.List.{range_with_len}
-use Rattle.hp_model.specs.machine.Step.{fork_slots}
+use Rattle.hp_model.proofs.Words.{fork_slots}
 use Rattle.hp_sessions.specs.Calls.{Grows, Leads}
 use Rattle.hp_sessions.proofs.Forking.{left_at}
 use Rattle.hp_sessions.proofs.session.Session.fork_slots.Given as goal

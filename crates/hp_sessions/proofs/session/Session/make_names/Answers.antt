@@ -1,9 +1,7 @@
 use Rattle.std.proofs.Common.{◌≡◌, sym, ap, subst, ◌∙◌, arith}
-use Rattle.hp_model.specs.beside.Told.{told_reply}
-use Rattle.hp_model.specs.declared.event.Event.TheVariants.{Slot as OnSlot}
+use Rattle.hp_model.proofs.Words.{Reply, on_slot, told_reply}
+use Rattle.hp_laws.proofs.Variants.{Slot as OnSlot}
 use Rattle.hp_model.specs.declared.event.SlotEvent.TheVariants.{Ls}
-use Rattle.hp_model.specs.machine.Plan.{Reply}
-use Rattle.hp_model.specs.machine.Step.{on_slot}
 use Rattle.hp_events.specs.Replies.{names_reply}
 use Rattle.hp_sessions.specs.Calls.{Carries, SessionView}
 use Rattle.hp_sessions.proofs.Carrying.{made_by, on_slot_made}

@@ -1,6 +1,6 @@
 use Rattle.std.proofs.Common.{ap, arith}
-use Rattle.hp_model.specs.declared.event.Event.TheVariants.{Slot as OnSlot}
-use Rattle.hp_model.specs.beside.Told.{told_reply}
+use Rattle.hp_laws.proofs.Variants.{Slot as OnSlot}
+use Rattle.hp_model.proofs.Words.{told_reply}
 use Rattle.hp_events.specs.SlotWork.{asked_event}
 use Rattle.hp_sessions.specs.Calls.{SessionView}
 use Rattle.hp_sessions.proofs.Carrying.{made_by, no_slot, on_slot_made}

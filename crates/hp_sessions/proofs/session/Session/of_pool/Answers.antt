@@ -1,6 +1,6 @@
 use Rattle.hp_events.specs.declared.work.Work.TheVariants.{Pool}
-use Rattle.hp_model.specs.declared.event.Event.TheVariants.{Pool as OnPool}
-use Rattle.hp_model.specs.beside.Told.{told_reply}
+use Rattle.hp_laws.proofs.Variants.{Pool as OnPool}
+use Rattle.hp_model.proofs.Words.{told_reply}
 use Rattle.hp_sessions.proofs.Carrying.{only_made}
 use Rattle.hp_sessions.proofs.Working.{worked}
 use Rattle.hp_sessions.proofs.session.Session.of_pool.Goals as goal

@@ -1,5 +1,5 @@
 use Rattle.std.proofs.Common.{None, ◌∙◌, subst}
-use Rattle.hp_model.specs.beside.Told.{told_reply}
+use Rattle.hp_model.proofs.Words.{told_reply}
 use Rattle.hp_events.specs.Event.{as_event}
 use Rattle.hp_shared.specs.Slots.{IsActedOr, IsSlotEvent, SlotView}
 use Rattle.hp_shared.proofs.Acting.{acted_or, acted_small, event_entered}

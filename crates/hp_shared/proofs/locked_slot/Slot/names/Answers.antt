@@ -1,9 +1,7 @@
-use Rattle.std.proofs.Common.{◌≡◌, true, None, Some, refl, ap, ◌∙◌, subst}
-use Rattle.std.specs.Prelude.{is_some}
-use Rattle.hp_model.specs.declared.entry.Part.TheVariants.{Slot as AtSlot}
-use Rattle.hp_model.specs.declared.event.Event.TheVariants.{Slot as OnSlot}
+use Rattle.std.proofs.Common.{◌≡◌, true, None, Some, refl, ap, ◌∙◌, subst, is_some}
+use Rattle.hp_laws.proofs.Variants.{AtSlot, Slot as OnSlot}
 use Rattle.hp_model.specs.declared.event.SlotEvent.TheVariants.{Ls}
-use Rattle.hp_model.specs.machine.Plan.{Reply}
+use Rattle.hp_model.proofs.Words.{Reply}
 use Rattle.hp_locked.specs.Told.{IsReceipt}
 use Rattle.hp_events.specs.Replies.{names_reply}
 use Rattle.hp_shared.specs.Slots.{IsSlotEvent, SlotView}

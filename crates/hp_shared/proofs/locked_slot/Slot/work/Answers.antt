@@ -1,8 +1,7 @@
 use Rattle.std.proofs.Common.{◌≡◌, inl, inr, true, false, None, refl, sym, ap, ◌∙◌, subst}
 use Rattle.std.proofs.lemmas.Bool.{false≢true}
 use Rattle.hp_history.specs.Sections.{IsEntered}
-use Rattle.hp_model.specs.beside.Told.{told_reply}
-use Rattle.hp_model.specs.text.Writing.{IsWithinLimits}
+use Rattle.hp_model.proofs.Words.{IsWithinLimits, told_reply}
 use Rattle.hp_trail.specs.Keeping.{has_room, with_entry}
 use Rattle.hp_events.specs.Answered.{Went}
 use Rattle.hp_events.specs.Replies.{is_trace_full}

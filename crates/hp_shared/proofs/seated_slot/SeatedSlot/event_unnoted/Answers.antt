@@ -3,8 +3,8 @@ use Rattle.std.proofs.lemmas.Bool.{false≢true}
 use Rattle.hp_events.specs.Event.{as_event}
 use Rattle.hp_history.specs.declared.held.Held.{Held}
 use Rattle.hp_history.specs.Sections.{IsEntered, free_slot, session_view}
-use Rattle.hp_model.specs.beside.Told.{told_reply}
-use Rattle.hp_model.specs.declared.entry.SlotEntry.{SlotEntry}
+use Rattle.hp_model.proofs.Words.{told_reply}
+use Rattle.hp_laws.proofs.Variants.{SlotEntry}
 use Rattle.hp_events.specs.Replies.{is_trace_full}
 use Rattle.hp_shared.specs.Seated.{IsSeatedDone, SeatedView, first_of, run_in, session_left, slot_left}
 use Rattle.hp_shared.specs.Slots.{IsSlotEvent}

@@ -1,5 +1,5 @@
 use Rattle.hp_events.specs.Event.{as_event}
-use Rattle.hp_model.specs.beside.Told.{told_reply}
+use Rattle.hp_model.proofs.Words.{told_reply}
 use Rattle.hp_shared.proofs.seated_slot.SeatedSlot.event_unnoted.Given as goal
 
 -- the event with its reply

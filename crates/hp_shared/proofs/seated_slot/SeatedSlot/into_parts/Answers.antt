@@ -2,7 +2,7 @@ use Rattle.std.proofs.Common.{[], ◌∷◌, refl, ap, ◌∙◌, subst}
 use Rattle.hp_history.proofs.Sections.{taken}
 use Rattle.hp_history.specs.declared.held.Held.TheVariants.{Slot as SlotPart}
 use Rattle.hp_locked.specs.Views.{IsTrailOf}
-use Rattle.hp_model.specs.threads.LocalRun.{IsLocalRun}
+use Rattle.hp_model.proofs.Words.{IsLocalRun}
 use Rattle.hp_shared.specs.Seated.{SeatedView, slot_view}
 use Rattle.hp_shared.specs.Slots.{slot_start}
 use Rattle.hp_shared.proofs.seated_slot.SeatedSlot.into_parts.Goals as goal

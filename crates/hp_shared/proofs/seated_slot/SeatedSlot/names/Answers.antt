@@ -1,6 +1,6 @@
 use Rattle.std.proofs.Common.{◌≡◌, None, List, [], ◌∷◌, refl, ap, ◌∙◌, subst}
 use Rattle.hp_history.specs.Sections.{free_slot, session_view}
-use Rattle.hp_model.specs.declared.entry.SlotEntry.{SlotEntry}
+use Rattle.hp_laws.proofs.Variants.{SlotEntry}
 use Rattle.hp_model.specs.declared.event.SlotEvent.TheVariants.{Ls}
 use Rattle.hp_events.specs.Replies.{names_reply}
 use Rattle.hp_shared.specs.Seated.{IsSeatedEvent, SeatedView, first_of, run_in}

@@ -1,8 +1,8 @@
 use Rattle.std.proofs.Common.{◌≡◌, ◌==◌, true, Bool, None, List, [], ◌∷◌, sym, ap, ◌∙◌, subst}
 use Rattle.hp_history.specs.declared.held.Held.{Held}
 use Rattle.hp_history.specs.Sections.{IsEntered, free_slot, session_view}
-use Rattle.hp_model.specs.beside.Told.{told_reply}
-use Rattle.hp_model.specs.declared.entry.SlotEntry.{SlotEntry}
+use Rattle.hp_model.proofs.Words.{told_reply}
+use Rattle.hp_laws.proofs.Variants.{SlotEntry}
 use Rattle.hp_events.specs.SlotWork.{asked_event, full_for, has_maps_for}
 use Rattle.hp_shared.specs.Seated.{IsSeatedEvent, SeatedView, first_of, run_in}
 use Rattle.hp_shared.specs.Slots.{IsSlotEvent}

@@ -1,16 +1,11 @@
-use Rattle.std.proofs.Common.{◌≡◌, ◌==◌, ◌∙◌, ◌∷◌, ◌++◌, true, List, [], length, sym, ap, subst}
-use Rattle.std.specs.Prelude.{IfSome, not, vec_len}
+use Rattle.std.proofs.Common.{◌≡◌, ◌==◌, ◌∙◌, ◌∷◌, ◌++◌, true, List, [], length, sym, ap, subst, IfSome, not, vec_len}
 use Rattle.hp_locked.specs.Views.{IsPoolTrail, IsTrailOf, frames_list}
-use Rattle.hp_model.specs.machine.Machine.{start}
-use Rattle.hp_model.specs.pool.PoolCounts.{Pool}
+use Rattle.hp_model.proofs.Words.{IsPoolRun, IsTableRun, Pool, machine_of, start}
 use Rattle.hp_mount_door.specs.Door.{IsReady}
 use Rattle.hp_pool.specs.Sums.{idle_pool}
-use Rattle.hp_model.specs.declared.entry.TableEntry.{TableEntry}
-use Rattle.hp_model.specs.threads.PoolRun.{IsPoolRun}
-use Rattle.hp_model.specs.threads.TableRun.{IsTableRun}
+use Rattle.hp_laws.proofs.Variants.{TableEntry}
 use Rattle.hp_history.specs.declared.held.Held.TheVariants.{Tasks, Pool as PoolPart, Opener}
 use Rattle.hp_history.specs.History.{sessions_in}
-use Rattle.hp_model.specs.machine.Ready.{machine_of}
 use Rattle.hp_laws.proofs.settled.StaysSettled.{start_is_settled}
 use Rattle.hp_trail.specs.Keeping.{kept_if}
 use Rattle.hp_trail.specs.Walk.{lists}

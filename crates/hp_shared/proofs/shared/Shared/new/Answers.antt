@@ -1,9 +1,6 @@
-use Rattle.std.proofs.Common.{◌≡◌, ◌≤◌, ◌==◌, length, map, sym, ap, subst, ◌∙◌, arith}
-use Rattle.std.specs.List.{All, sum}
-use Rattle.std.specs.Prelude.{not, vec_len}
+use Rattle.std.proofs.Common.{◌≡◌, ◌≤◌, ◌==◌, length, map, sym, ap, subst, ◌∙◌, arith, All, sum, not, vec_len}
 use Rattle.hp_locked.specs.Views.{frames_list}
-use Rattle.hp_model.specs.pool.NodeRows.{frames_of, idle_row}
-use Rattle.hp_model.specs.pool.PoolCounts.{IsSettled, Pool}
+use Rattle.hp_model.proofs.Words.{IsSettled, Pool, frames_of, idle_row}
 use Rattle.hp_mount_door.specs.Door.{IsReady}
 use Rattle.hp_pool.specs.Sums.{idle_pool}
 use Rattle.hp_shared.proofs.Opened.{fresh_if, frames_named, idle_ready, rows_have}

@@ -1,7 +1,5 @@
 use Rattle.std.proofs.Common.{◌≡◌, false, [], ◌∷◌, sym, ap, ◌∙◌, subst}
-use Rattle.hp_model.specs.machine.Table.{table_event}
-use Rattle.hp_model.specs.threads.Closing.{removes_task}
-use Rattle.hp_model.specs.threads.TableRun.{IsTableRun}
+use Rattle.hp_model.proofs.Words.{IsTableRun, removes_task, table_event}
 use Rattle.hp_events.specs.Replies.{table_reply}
 use Rattle.hp_shared.specs.Tables.{IsLockedTable, table_in, table_view}
 use Rattle.hp_shared.proofs.Places.{or_room}

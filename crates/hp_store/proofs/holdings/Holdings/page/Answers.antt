@@ -1,5 +1,4 @@
-use Rattle.std.proofs.Common.{◌≡◌, ap, length, vec_len, arith, rules}
-use Rattle.std.specs.Option.{option_map}
+use Rattle.std.proofs.Common.{◌≡◌, ap, length, vec_len, arith, rules, option_map}
 use Rattle.hp_store.specs.Store.{held_page}
 use Rattle.hp_store.proofs.Counted.{held_within, page_read, page_there}
 use Rattle.hp_store.proofs.holdings.Holdings.page.Goals as goal

@@ -1,5 +1,4 @@
-use Rattle.std.proofs.Common.{None}
-use Rattle.std.proofs.Common.{arith, ap, sym, ◌∙◌, is_some}
+use Rattle.std.proofs.Common.{None, arith, ap, sym, ◌∙◌, is_some}
 use Rattle.std.proofs.lemmas.List.{length-set}
 use Rattle.hp_store.proofs.Free.{free_given}
 use Rattle.hp_store.proofs.Room.{held_some, same, set_used, used_within}

@@ -1,6 +1,6 @@
 use Rattle.hp_laws.proofs.promises.Promised.{promised}
 use Rattle.hp_laws.proofs.promises.SmallReplies.{within_limits}
-use Rattle.hp_model.specs.beside.Told.{told_reply}
+use Rattle.hp_model.proofs.Words.{told_reply}
 use Rattle.hp_system.proofs.service.SystemService.answer.Goals as goal
 
 pub returns-clause-answered : goal.returns-clause-answered

@@ -1,9 +1,7 @@
 use Rattle.std.proofs.Common.{sym, subst}
 use Rattle.hp_laws.proofs.promises.Promised.{promised}
 use Rattle.hp_laws.proofs.promises.SmallReplies.{within_limits}
-use Rattle.hp_model.specs.machine.Promises.{IsPromised}
-use Rattle.hp_model.specs.beside.Told.{told_reply}
-use Rattle.hp_model.specs.text.Writing.{IsWithinLimits}
+use Rattle.hp_model.proofs.Words.{IsPromised, IsWithinLimits, told_reply}
 use Rattle.hp_system.proofs.system.System.apply.Goals as goal
 
 pub whole-requires : goal.whole-requires

@@ -1,8 +1,6 @@
 use Rattle.std.proofs.Common.{◌<◌, length, arith, rules}
 use Rattle.std.proofs.lemmas.Grind.{common_steps}
-use Rattle.hp_model.specs.beside.Told.{told_reply}
-use Rattle.hp_model.specs.machine.Plan.{Choice}
-use Rattle.hp_model.specs.machine.SlotEvent.{slot_event}
+use Rattle.hp_model.proofs.Words.{Choice, slot_event, told_reply}
 use Rattle.hp_events.specs.SlotWork.{asked_event}
 use Rattle.hp_system.proofs.Carries.{never_full_at, work_happens}
 use Rattle.hp_system.proofs.Ready.{pool_ready}

@@ -1,11 +1,7 @@
 use Rattle.std.proofs.Common.{◌≡◌, sym, subst, ap, ◌∙◌}
-use Rattle.hp_model.specs.declared.step.Step.TheVariants.{Attach}
-use Rattle.hp_model.specs.machine.State.{State}
-use Rattle.hp_model.specs.machine.Step.{IsStep}
-use Rattle.hp_model.specs.machine.Table.{home_of}
-use Rattle.hp_model.specs.beside.Told.{told_reply}
+use Rattle.hp_laws.proofs.Variants.{Attach}
+use Rattle.hp_model.proofs.Words.{IsStep, Machine, State, home_of, told_reply}
 use Rattle.hp_system.proofs.MachineSteps.{attach_found, attach_not_found}
-use Rattle.hp_model.specs.machine.Ready.{Machine}
 use Rattle.hp_system.proofs.system.System.attach.Goals as goal
 use Rattle.hp_system.proofs.system.System.attach.Goals.{in-Some, in-None}
 

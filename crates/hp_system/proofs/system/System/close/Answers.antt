@@ -1,10 +1,9 @@
 use Rattle.std.proofs.Common.{◌++◌, ◌∷◌, [], Some, subst, ap, sym, ◌∙◌, arith}
 use Rattle.std.proofs.lemmas.List.{nil_from_length}
-use Rattle.hp_model.specs.pool.PoolCounts.{counts_of}
+use Rattle.hp_model.proofs.Words.{Machine, counts_of}
 use Rattle.hp_mount_door.specs.Door.{IsReady as IsReadyPool}
 use Rattle.hp_system.proofs.Ending.{all_are_free, going_begins, going_ends, going_goes}
 use Rattle.hp_system.specs.Event.{AllGo, SlotGoes}
-use Rattle.hp_model.specs.machine.Ready.{Machine}
 use Rattle.hp_system.proofs.system.System.close.Goals as goal
 
 pub loop-slot-init : goal.loop-slot-init

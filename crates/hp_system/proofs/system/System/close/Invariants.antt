@@ -1,4 +1,4 @@
-use Rattle.std.specs.Prelude.{vec_len}
+use Rattle.std.proofs.Common.{vec_len}
 use Rattle.hp_system.proofs.Ending.{IsGoing}
 use Rattle.hp_system.proofs.system.System.close.Given as goal
 

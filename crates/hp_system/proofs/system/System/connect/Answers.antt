@@ -1,4 +1,4 @@
-use Rattle.hp_model.specs.declared.event.TableEvent.TheVariants.{Add}
+use Rattle.hp_laws.proofs.Variants.{Add}
 use Rattle.hp_system.proofs.MachineSteps.{connect_step, table_went}
 use Rattle.hp_system.proofs.Ready.{ready_with}
 use Rattle.hp_system.proofs.system.System.connect.Goals as goal

@@ -1,6 +1,5 @@
 use Rattle.std.proofs.Common.{length, sym, subst, ◌∙◌}
-use Rattle.hp_model.specs.machine.Step.{IsScript, IsStep}
-use Rattle.hp_model.specs.beside.Told.{told_reply}
+use Rattle.hp_model.proofs.Words.{IsScript, IsStep, told_reply}
 use Rattle.hp_system.proofs.system.System.do_step.Goals as goal
 
 pub returns-clause-step : goal.returns-clause-step

@@ -1,10 +1,8 @@
 use Rattle.std.proofs.Common.{length, refl, ap, ◌∙◌}
-use Rattle.hp_model.specs.declared.answer.Answer.TheVariants.{Done}
-use Rattle.hp_model.specs.declared.event.TableEvent.TheVariants.{Remove}
-use Rattle.hp_model.specs.beside.Accesses.{done_reply}
+use Rattle.hp_laws.proofs.Variants.{Done, Remove}
+use Rattle.hp_model.proofs.Words.{Machine, done_reply}
 use Rattle.hp_system.proofs.MachineSteps.{exit_done, exit_refused, table_went}
 use Rattle.hp_system.proofs.Ready.{ready_with}
-use Rattle.hp_model.specs.machine.Ready.{Machine}
 use Rattle.hp_system.proofs.system.System.exit.Goals as goal
 
 pub returns-in-Err-clause-ready : goal.returns-in-Err-clause-ready

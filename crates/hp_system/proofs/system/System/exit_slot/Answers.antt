@@ -1,8 +1,6 @@
 use Rattle.std.proofs.Common.{◌≡◌, true, Ok, refl, sym, ap, ◌∙◌, rules, IsTrue}
-use Rattle.hp_model.specs.declared.answer.Answer.TheVariants.{Done}
-use Rattle.hp_model.specs.declared.event.SlotEvent.TheVariants.{ExitMaps}
-use Rattle.hp_model.specs.machine.Event.{has_maps_of}
-use Rattle.hp_model.specs.machine.State.{slot_at}
+use Rattle.hp_laws.proofs.Variants.{Done, ExitMaps}
+use Rattle.hp_model.proofs.Words.{has_maps_of, slot_at}
 use Rattle.hp_system.proofs.Ready.{pool_ready}
 use Rattle.hp_system.proofs.MachineSteps.{done_on, leaves_there, slot_there, within_of}
 use Rattle.hp_system.proofs.system.System.exit_slot.Goals as goal

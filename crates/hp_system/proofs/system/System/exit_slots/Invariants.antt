@@ -1,7 +1,7 @@
 use Rattle.std.proofs.Common.{◌≡◌, length}
 use Rattle.std.specs.List.{range_with_len}
 use Rattle.hp_system.specs.Event.{AreExited}
-use Rattle.hp_model.specs.machine.Ready.{IsReadyMachine}
+use Rattle.hp_model.proofs.Words.{IsReadyMachine}
 use Rattle.hp_system.proofs.system.System.exit_slots.Given as goal
 
 abbrev pub invariant-loop-at : goal.invariant-loop-at

@@ -1,13 +1,11 @@
 use Rattle.std.proofs.Common.{length, refl, sym, subst, ap, ◌∙◌}
-use Rattle.hp_model.specs.declared.answer.Answer.TheVariants.{Done}
-use Rattle.hp_model.specs.declared.event.TableEvent.TheVariants.{FindAndAdd, Remove}
-use Rattle.hp_model.specs.beside.Accesses.{done_reply}
+use Rattle.hp_laws.proofs.Variants.{Done, FindAndAdd, Remove}
+use Rattle.hp_model.proofs.Words.{Machine, done_reply, state_of}
 use Rattle.hp_laws.proofs.keeping.Homes.{child_is_another}
 use Rattle.hp_system.proofs.Forking.{fork_done, fork_refused, fork_undone}
 use Rattle.hp_system.proofs.MachineSteps.{taken_out, table_went}
 use Rattle.hp_system.proofs.Ready.{ready_with}
 use Rattle.hp_system.specs.Event.{AreForked}
-use Rattle.hp_model.specs.machine.Ready.{Machine, state_of}
 use Rattle.hp_system.proofs.system.System.fork.Goals as goal
 
 pub returns-in-Err-clause-ready : goal.returns-in-Err-clause-ready

@@ -1,9 +1,7 @@
 use Rattle.std.proofs.Common.{◌≡◌, ◌==◌, true, refl, sym, ap, ◌∙◌, rules}
 use Rattle.std.proofs.lemmas.Bool.{eqb-true, false_from_ne_true}
-use Rattle.hp_model.specs.beside.Accesses.{done_reply}
-use Rattle.hp_model.specs.declared.event.SlotEvent.TheVariants.{ForkMaps}
-use Rattle.hp_model.specs.machine.Event.{has_maps_of}
-use Rattle.hp_model.specs.machine.State.{slot_at}
+use Rattle.hp_model.proofs.Words.{done_reply, has_maps_of, slot_at}
+use Rattle.hp_laws.proofs.Variants.{ForkMaps}
 use Rattle.hp_system.proofs.Ready.{pool_ready}
 use Rattle.hp_system.proofs.Forking.{slot_forked}
 use Rattle.hp_system.proofs.MachineSteps.{done_on, slot_there, within_of}

@@ -1,9 +1,8 @@
 use Rattle.std.proofs.Common.{◌≡◌, ◌+◌, ◌-◌, ◌<◌, suc, sym, subst, ap, ◌∙◌, arith, length}
 use Rattle.std.specs.List.{range_with_len}
-use Rattle.hp_model.specs.machine.Step.{IsScript, fork_slots}
+use Rattle.hp_model.proofs.Words.{IsScript, Machine, fork_slots}
 use Rattle.hp_mount_laws.specs.Done.{done}
 use Rattle.hp_system.specs.Event.{IsForkedOn, mapped_slots}
-use Rattle.hp_model.specs.machine.Ready.{Machine}
 use Rattle.hp_system.proofs.Forking.{next_slot, slot_refused}
 use Rattle.hp_system.proofs.system.System.fork_slots.Goals as goal
 

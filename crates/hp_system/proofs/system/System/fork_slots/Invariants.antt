@@ -1,10 +1,7 @@
 use Rattle.std.proofs.Common.{◌≡◌, ◌-◌, length, []}
 use Rattle.std.specs.List.{range_with_len}
-use Rattle.hp_model.specs.machine.Plan.{Reply}
-use Rattle.hp_model.specs.machine.State.{State}
-use Rattle.hp_model.specs.machine.Step.{IsScript, fork_slots}
+use Rattle.hp_model.proofs.Words.{IsReadyMachine, IsScript, Reply, State, fork_slots}
 use Rattle.hp_system.specs.Event.{mapped_slots}
-use Rattle.hp_model.specs.machine.Ready.{IsReadyMachine}
 use Rattle.hp_system.proofs.system.System.fork_slots.Given as goal
 
 abbrev pub invariant-loop-at : goal.invariant-loop-at

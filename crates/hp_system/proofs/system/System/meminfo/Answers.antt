@@ -1,7 +1,7 @@
 use Rattle.std.proofs.Common.{Ok, refl, sym, ap}
-use Rattle.hp_model.specs.declared.answer.Answer.TheVariants.{Numbers}
+use Rattle.hp_laws.proofs.Variants.{Numbers}
 use Rattle.hp_model.specs.declared.event.PoolEvent.TheVariants.{Meminfo}
-use Rattle.hp_model.specs.machine.Step.{IsStep}
+use Rattle.hp_model.proofs.Words.{IsStep}
 use Rattle.hp_system.proofs.MachineSteps.{pool_saw}
 use Rattle.hp_system.proofs.Ready.{pool_ready}
 use Rattle.hp_system.proofs.system.System.meminfo.Goals as goal

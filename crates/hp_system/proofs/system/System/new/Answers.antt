@@ -1,7 +1,5 @@
 use Rattle.std.proofs.Common.{◌≡◌, [], sym, ap, subst, ◌∙◌}
-use Rattle.hp_model.specs.machine.Machine.{slots_from}
-use Rattle.hp_model.specs.pool.PoolCounts.{IsSettled, Pool}
-use Rattle.hp_model.specs.machine.Ready.{state_of}
+use Rattle.hp_model.proofs.Words.{IsSettled, Pool, slots_from, state_of}
 use Rattle.hp_system.proofs.Carries.{ready, ready_by, IsKept}
 use Rattle.hp_pool.specs.Sums.{idle_pool}
 use Rattle.hp_system.proofs.Start.{start_kept, start_is}

@@ -1,7 +1,7 @@
 use Rattle.std.proofs.Common.{length, arith, ap}
 use Rattle.hp_system.proofs.Ready.{pool_ready}
 use Rattle.hp_laws.proofs.lists.NodeRows.{padded}
-use Rattle.hp_model.specs.machine.Ready.{Machine}
+use Rattle.hp_model.proofs.Words.{Machine}
 use Rattle.hp_system.proofs.system.System.node_counts.Goals as goal
 
 pub returns : goal.returns

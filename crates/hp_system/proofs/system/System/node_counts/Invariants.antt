@@ -1,5 +1,5 @@
 use Rattle.std.proofs.Common.{◌≡◌, ◌-◌, ◌++◌, map, replicate, take}
-use Rattle.hp_model.specs.pool.Resize.{no_count, node_count}
+use Rattle.hp_model.proofs.Words.{no_count, node_count}
 use Rattle.hp_system.proofs.system.System.node_counts.Given as goal
 
 abbrev pub invariant-loop-node : goal.invariant-loop-node

@@ -1,10 +1,8 @@
 use Rattle.std.proofs.Common.{Ok, refl, sym, ap, ◌∙◌}
-use Rattle.hp_model.specs.declared.answer.Answer.TheVariants.{PerNode}
+use Rattle.hp_laws.proofs.Variants.{PerNode}
 use Rattle.hp_model.specs.declared.event.PoolEvent.TheVariants.{Nodes}
-use Rattle.hp_model.specs.machine.Step.{IsStep}
-use Rattle.hp_model.specs.pool.Resize.{node_counts}
+use Rattle.hp_model.proofs.Words.{IsStep, Machine, node_counts}
 use Rattle.hp_system.proofs.MachineSteps.{pool_saw}
-use Rattle.hp_model.specs.machine.Ready.{Machine}
 use Rattle.hp_system.proofs.system.System.nodes.Goals as goal
 
 pub returns-clause-step : goal.returns-clause-step

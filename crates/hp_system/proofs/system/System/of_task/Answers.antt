@@ -1,12 +1,8 @@
 use Rattle.std.proofs.Common.{length, sym, ap, ◌∙◌}
-use Rattle.hp_model.specs.machine.Step.{on_slot}
-use Rattle.hp_model.specs.machine.State.{State, slot_at}
-use Rattle.hp_model.specs.machine.Table.{home_of}
-use Rattle.hp_model.specs.beside.Told.{told_reply}
+use Rattle.hp_model.proofs.Words.{Machine, State, home_of, on_slot, slot_at, told_reply}
 use Rattle.hp_events.specs.Event.{as_event}
 use Rattle.hp_system.proofs.Asking.{of_any_home}
 use Rattle.hp_system.proofs.MachineSteps.{task_found, task_not_found}
-use Rattle.hp_model.specs.machine.Ready.{Machine}
 use Rattle.hp_system.proofs.system.System.of_task.Goals as goal
 
 pub returns-in-Some-clause-done : goal.returns-in-Some-clause-done

@@ -1,6 +1,6 @@
 use Rattle.std.proofs.Common.{◌<◌, length, arith, rules}
 use Rattle.std.proofs.lemmas.Grind.{common_steps}
-use Rattle.hp_model.specs.beside.Told.{told_reply}
+use Rattle.hp_model.proofs.Words.{told_reply}
 use Rattle.hp_events.specs.Event.{as_event}
 use Rattle.hp_system.proofs.Carries.{happens}
 use Rattle.hp_system.proofs.Ready.{pool_ready}

@@ -1,6 +1,6 @@
 use Rattle.std.proofs.Common.{◌≡◌, ◌+◌, ◌∷◌, ◌++◌, [], take, sym, subst, ap, ◌∙◌, arith}
 use Rattle.std.proofs.lemmas.List.{take_more}
-use Rattle.hp_model.specs.machine.Promises.{IsPromisedRun, IsPromisedStep}
+use Rattle.hp_model.proofs.Words.{IsPromisedRun, IsPromisedStep}
 use Rattle.hp_laws.proofs.steps.Runs.{run_more}
 use Rattle.hp_system.proofs.system.System.run.Goals as goal
 

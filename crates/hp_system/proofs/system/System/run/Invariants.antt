@@ -1,7 +1,5 @@
-use Rattle.std.proofs.Common.{◌≡◌, length, take}
-use Rattle.std.specs.Prelude.{◌≤◌, vec_len, vec_capacity}
-use Rattle.hp_model.specs.machine.Promises.{IsPromisedRun}
-use Rattle.hp_model.specs.machine.Ready.{IsReadyMachine}
+use Rattle.std.proofs.Common.{◌≡◌, length, take, ◌≤◌, vec_len, vec_capacity}
+use Rattle.hp_model.proofs.Words.{IsPromisedRun, IsReadyMachine}
 use Rattle.hp_system.proofs.system.System.run.Given as goal
 
 abbrev pub invariant-loop-step : goal.invariant-loop-step

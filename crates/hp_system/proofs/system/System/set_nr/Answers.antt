@@ -1,5 +1,5 @@
 use Rattle.hp_model.specs.declared.event.PoolEvent.TheVariants.{Nr}
-use Rattle.hp_model.specs.machine.Step.{IsStep}
+use Rattle.hp_model.proofs.Words.{IsStep}
 use Rattle.hp_system.proofs.MachineSteps.{nr_event, pool_leaves, pool_went}
 use Rattle.hp_system.proofs.Ready.{pool_ready}
 use Rattle.hp_system.proofs.system.System.set_nr.Goals as goal

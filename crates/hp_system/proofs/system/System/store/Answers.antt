@@ -1,7 +1,7 @@
 use Rattle.std.proofs.Common.{◌<◌, Some, ap, length, refl, sym, arith, ◌∙◌, rules}
 use Rattle.hp_model.specs.declared.event.SlotEvent.TheVariants.{Store}
 use Rattle.hp_mount.specs.declared.mount.reach.MapAccess.{MapAccess}
-use Rattle.hp_model.specs.beside.Accesses.{done_reply}
+use Rattle.hp_model.proofs.Words.{done_reply}
 use Rattle.hp_system.proofs.Accesses.{store_is, of_mount, of_none, of_no_slot, of_nobody}
 use Rattle.hp_system.proofs.Ready.{pool_ready}
 use Rattle.hp_system.proofs.system.System.store.Goals as goal

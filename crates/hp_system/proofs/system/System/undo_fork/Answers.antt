@@ -1,8 +1,6 @@
 use Rattle.std.proofs.Common.{◌≡◌, ◌+◌, length, sym, subst, ap, ◌∙◌, arith}
-use Rattle.hp_model.specs.machine.Event.{has_maps_of}
-use Rattle.hp_model.specs.machine.State.{slot_at}
+use Rattle.hp_model.proofs.Words.{IsReadyMachine, Machine, has_maps_of, slot_at}
 use Rattle.hp_system.specs.Event.{AreExited, mapped_slots}
-use Rattle.hp_model.specs.machine.Ready.{IsReadyMachine, Machine}
 use Rattle.hp_system.proofs.Forking.{more_mapped, more_other}
 use Rattle.hp_system.proofs.MachineSteps.{exited_more}
 use Rattle.hp_system.proofs.system.System.undo_fork.Goals as goal

@@ -1,7 +1,6 @@
 use Rattle.std.proofs.Common.{◌≡◌, ◌≤◌, ℕ, length}
-use Rattle.hp_model.specs.machine.State.{slot_at}
+use Rattle.hp_model.proofs.Words.{IsReadyMachine, slot_at}
 use Rattle.hp_system.specs.Event.{AreExited, mapped_slots}
-use Rattle.hp_model.specs.machine.Ready.{IsReadyMachine}
 use Rattle.hp_system.proofs.system.System.undo_fork.Given as goal
 
 abbrev pub invariant-loop-at : goal.invariant-loop-at

@@ -1,8 +1,7 @@
-use Rattle.std.proofs.Common.{◌≡◌, ◌==◌, ◌+◌, ◌≤◌, ℕ, List, ◌++◌, ◌∷◌, [], Some, None, cond, length, ap, sym, subst, ◌∙◌, arith}
-use Rattle.std.specs.List.{count_by}
+use Rattle.std.proofs.Common.{◌≡◌, ◌==◌, ◌+◌, ◌≤◌, ℕ, List, ◌++◌, ◌∷◌, [], Some, None, cond, length, ap, sym, subst, ◌∙◌, arith, count_by}
 use Rattle.std.proofs.lemmas.List.{length-append}
 use Rattle.std.proofs.lemmas.List.Elements.{filter_map-append}
-use Rattle.hp_model.specs.machine.Table.{Table, added, home_of}
+use Rattle.hp_model.proofs.Words.{Table, added, home_of}
 use Rattle.hp_tasks.specs.Table.{AreNoted, HasEachOnce, TaskRow, tasks_in}
 use Rattle.hp_tasks.proofs.Noted.{times}
 use Rattle.hp_tasks.proofs.Tasks.{listed_more, no_more, once_added}

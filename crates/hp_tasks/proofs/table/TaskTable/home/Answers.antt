@@ -1,6 +1,6 @@
 use Rattle.std.proofs.Common.{◌≡◌, ◌<◌, true, Some, None, length, sym, subst, ◌∙◌}
 use Rattle.std.proofs.lemmas.List.{get_or_read}
-use Rattle.hp_model.specs.machine.Table.{home_of}
+use Rattle.hp_model.proofs.Words.{home_of}
 use Rattle.hp_tasks.specs.Table.{has_task, task_row_at}
 use Rattle.hp_tasks.proofs.Slots.{home_there, task_of}
 use Rattle.hp_tasks.proofs.table.TaskTable.home.Goals as goal

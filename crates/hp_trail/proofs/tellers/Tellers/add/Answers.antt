@@ -1,5 +1,5 @@
 use Rattle.std.proofs.Common.{sym, subst}
-use Rattle.hp_model.specs.threads.JointRun.{Trails}
+use Rattle.hp_model.proofs.Words.{Trails}
 use Rattle.hp_trail.specs.Tellers.{Added, Fit, TellerRows}
 use Rattle.hp_trail.specs.Walk.{lists, trails_of}
 use Rattle.hp_trail.proofs.Adding.{added_task, added_slot, added_pool}

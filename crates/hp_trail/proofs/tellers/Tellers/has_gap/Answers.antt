@@ -1,7 +1,7 @@
-use Rattle.std.proofs.Common.{◌≡◌, ◌≢◌, ◌<◌, inl, inr, Bool, eqb, ℕ, [], List, length, sym, ap, ◌∙◌, subst, arith}
-use Rattle.std.specs.List.{IsAnyAnswer, slice_index_or}
+use Rattle.std.proofs.Common.{◌≡◌, ◌≢◌, ◌<◌, inl, inr, Bool, eqb, ℕ, [], List, length, sym, ap, ◌∙◌, subst, arith, slice_index_or}
+use Rattle.std.specs.List.{IsAnyAnswer}
 use Rattle.std.proofs.lemmas.Bool.Decides.{eqb_tells}
-use Rattle.hp_model.specs.declared.entry.Part.TheVariants.{Slot as AtSlot, Pool as AtPool}
+use Rattle.hp_laws.proofs.Variants.{AtPool, AtSlot}
 use Rattle.hp_trail.specs.Tellers.{Gap, TellerRows}
 use Rattle.hp_trail.specs.Walk.{lists}
 use Rattle.hp_trail.proofs.Indexing.{empty_at, filled, lists_long, lists_read, row_there}

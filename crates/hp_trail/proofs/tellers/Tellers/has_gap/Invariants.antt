@@ -1,5 +1,4 @@
-use Rattle.std.proofs.Common.{◌≢◌, ◌<◌, ℕ, [], length}
-use Rattle.std.specs.List.{slice_index_or}
+use Rattle.std.proofs.Common.{◌≢◌, ◌<◌, ℕ, [], length, slice_index_or}
 use Rattle.hp_trail.specs.Walk.{lists}
 use Rattle.hp_trail.proofs.tellers.Tellers.has_gap.Given as goal
 

@@ -1,6 +1,5 @@
-use Rattle.std.proofs.Common.{◌≡◌, ℕ, [], length, refl, sym, ap, ◌∙◌, subst, arith}
-use Rattle.std.specs.List.{slice_index_or}
-use Rattle.hp_model.specs.threads.JointRun.{Trails}
+use Rattle.std.proofs.Common.{◌≡◌, ℕ, [], length, refl, sym, ap, ◌∙◌, subst, arith, slice_index_or}
+use Rattle.hp_model.proofs.Words.{Trails}
 use Rattle.hp_trail.specs.Tellers.{AreListed, Fit, TellerRows}
 use Rattle.hp_trail.specs.Walk.{lists, trails_of}
 use Rattle.hp_trail.proofs.Indexing.{lists_long, lists_read, read_at}

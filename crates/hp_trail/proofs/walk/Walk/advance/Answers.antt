@@ -1,6 +1,5 @@
 use Rattle.std.proofs.Common.{◌<◌, ℕ, sym, subst}
-use Rattle.hp_model.specs.declared.entry.Part.{Part}
-use Rattle.hp_model.specs.declared.entry.Part.TheVariants.{Slot as AtSlot}
+use Rattle.hp_laws.proofs.Variants.{AtSlot, Part}
 use Rattle.hp_trail.specs.Walk.{Walking, cursor, part_length}
 use Rattle.hp_trail.proofs.Fitting.{cursor_fits}
 use Rattle.hp_trail.proofs.walk.Walk.advance.Goals as goal

@@ -1,8 +1,7 @@
 use Rattle.std.proofs.Common.{◌≡◌, ◌++◌, ap, ◌∙◌, subst, List, ℕ}
 use lib.ListN.{get_or}
 use Rattle.std.proofs.lemmas.Result.{err_from_is_err_and}
-use Rattle.hp_model.specs.beside.Queue.{QueuedView}
-use Rattle.hp_model.specs.text.Writing.{line_of}
+use Rattle.hp_model.proofs.Words.{QueuedView, line_of}
 use Rattle.hp_wire.specs.Answered.{Gains}
 use Rattle.hp_wire.proofs.Together.{cut_text, gains_line, text_more}
 use Rattle.hp_wire.proofs.replies.Replies.add_queued.Goals as goal

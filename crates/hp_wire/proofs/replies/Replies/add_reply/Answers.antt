@@ -1,8 +1,7 @@
 use Rattle.std.proofs.Common.{◌≡◌, length, nat_le, false, true, arith, ap, sym, cond, Ok, Err}
 use Rattle.std.proofs.lemmas.Bool.Decides.{nat_tests}
 use Rattle.hp_model.specs.declared.refusal.Refusal.TheVariants.{LineTooLong}
-use Rattle.hp_model.specs.text.Lines.{Line, ended}
-use Rattle.hp_model.specs.text.Reading.{step_of, step_of_bytes}
+use Rattle.hp_model.proofs.Words.{Line, ended, step_of, step_of_bytes}
 use Rattle.hp_wire.proofs.Added.{not_read}
 use Rattle.hp_wire.proofs.replies.Replies.add_reply.Goals as goal
 

@@ -1,7 +1,6 @@
 use Rattle.std.proofs.Common.{arith, refl, sym, ◌∙◌, ◌≡◌, [], ◌++◌, ◌∷◌, ap, length, length-append, subst, append_assoc, List}
 use Rattle.std.proofs.lemmas.Result.{err_from_is_err_and}
-use Rattle.hp_model.specs.beside.Queue.{QueuedView}
-use Rattle.hp_model.specs.text.Lines.{Line, ended, ended_lines, pieces}
+use Rattle.hp_model.proofs.Words.{Line, QueuedView, ended, ended_lines, pieces}
 use Rattle.hp_wire.specs.Queues.{AreRead}
 use Rattle.hp_wire.proofs.Known.{answered_none, answered_then}
 use Rattle.hp_wire.proofs.LineCuts.{none_off, one_off}

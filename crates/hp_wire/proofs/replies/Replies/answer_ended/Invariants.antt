@@ -1,5 +1,5 @@
 use Rattle.std.proofs.Common.{◌≡◌, ◌+◌, ◌<◌, ◌≤◌, ◌++◌, length, List}
-use Rattle.hp_model.specs.text.Lines.{Line}
+use Rattle.hp_model.proofs.Words.{Line}
 use Rattle.hp_wire.specs.Answered.{Answered}
 use Rattle.hp_wire.specs.Queues.{AreRead}
 use Rattle.hp_wire.proofs.LineCuts.{CutOff}

@@ -1,6 +1,6 @@
 use Rattle.std.proofs.Common.{arith, refl, ◌∙◌, ◌≡◌, [], ◌++◌, ◌∷◌, ap, length, length-append}
 use Rattle.std.proofs.lemmas.Result.{err_from_is_err_and}
-use Rattle.hp_model.specs.text.Lines.{ended, ended_lines, pieces}
+use Rattle.hp_model.proofs.Words.{ended, ended_lines, pieces}
 use Rattle.hp_wire.proofs.Known.{answered_cut, answered_none, answered_then}
 use Rattle.hp_wire.proofs.LineCuts.{none_off, one_off}
 use Rattle.hp_wire.proofs.replies.Replies.answer_lines.Goals as goal

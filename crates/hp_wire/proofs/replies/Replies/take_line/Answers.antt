@@ -1,7 +1,6 @@
 use Rattle.std.proofs.Common.{[], ◌∷◌, ◌++◌, List, refl, sym, subst, append-nil}
 use Rattle.std.proofs.lemmas.Result.{err_from_is_err_and}
-use Rattle.hp_model.specs.beside.Queue.{QueuedView}
-use Rattle.hp_model.specs.text.Lines.{ended}
+use Rattle.hp_model.proofs.Words.{QueuedView, ended}
 use Rattle.hp_wire.specs.Queues.{AreRead}
 use Rattle.hp_wire.proofs.Known.{answered_cut, answered_none, answered_then}
 use Rattle.hp_wire.proofs.Together.{if_err, on_ok, part_longer, read_taken}

@@ -1,6 +1,6 @@
 use Rattle.std.proofs.Common.{sym, ap, ◌∙◌, arith, get_or}
 use Rattle.std.specs.Int.{IsInRange}
-use Rattle.hp_model.specs.text.Words.{number_at}
+use Rattle.hp_model.proofs.Words.{number_at}
 use Rattle.hp_wire_lines.proofs.Fronts.{taken_digit}
 use Rattle.hp_wire_lines.proofs.words.Words.number.Goals as goal
 

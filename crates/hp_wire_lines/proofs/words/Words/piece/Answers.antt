@@ -1,7 +1,7 @@
 use Rattle.std.proofs.Common.{sym, ap, ◌∙◌, arith}
 use Rattle.std.proofs.lemmas.List.{take_rest}
 use Rattle.hp_text.specs.Pieces.{pieces_by}
-use Rattle.hp_model.specs.text.Words.{piece_at}
+use Rattle.hp_model.proofs.Words.{piece_at}
 use Rattle.hp_wire_lines.proofs.Fronts.{past, no_piece, next_piece}
 use Rattle.hp_wire_lines.proofs.words.Words.piece.Goals as goal
 

@@ -1,6 +1,6 @@
 use Rattle.std.proofs.Common.{◌≡◌, ◌∷◌, [], ◌+◌, ◌-◌, arith, sym, ap, ◌∙◌, length-drop, length-take, drop}
 use Rattle.std.proofs.lemmas.Bool.Decides.{nat_tests}
-use Rattle.hp_model.specs.text.Words.{word_at}
+use Rattle.hp_model.proofs.Words.{word_at}
 use Rattle.hp_wire_lines.proofs.WordEnds.{ends_at_end, ends_at_space, word_bad, word_ends, word_none, word_not_here}
 use Rattle.hp_wire_lines.specs.Words.{between, pieces_from}
 use Rattle.hp_wire_lines.proofs.words.Words.word.Goals.{then-from-line-via-then-from-line, then-from-line-via-else-from-line+then-not-is_word_byte}

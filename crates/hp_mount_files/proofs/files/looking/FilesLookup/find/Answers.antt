@@ -1,7 +1,5 @@
 use Rattle.std.proofs.Common.{subst}
-use Rattle.hp_lookup.specs.Tally.{count_of}
-use Rattle.hp_lookup.specs.Files.{Files}
-use Rattle.hp_lookup.specs.Places.{IsMissing}
+use Rattle.hp_lookup.proofs.Words.{Files, IsMissing, count_of}
 use Rattle.hp_lookup.proofs.Unique.{no_map_here}
 use Rattle.hp_mount_files.proofs.files.looking.FilesLookup.find.Goals as goal
 

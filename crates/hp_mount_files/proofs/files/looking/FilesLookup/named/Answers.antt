@@ -1,8 +1,6 @@
 use Rattle.std.proofs.Common.{◌≡◌, None, subst}
-use Rattle.hp_model.specs.Lists.{found}
-use Rattle.hp_model.specs.machine.SlotEvent.{has_name}
-use Rattle.hp_lookup.specs.Tally.{count_of}
-use Rattle.hp_lookup.specs.Files.{Files}
+use Rattle.hp_model.proofs.Words.{found, has_name}
+use Rattle.hp_lookup.proofs.Words.{Files, count_of}
 use Rattle.hp_lookup.proofs.Unique.{no_name_here}
 use Rattle.hp_mount_files.proofs.files.looking.FilesLookup.named.Goals as goal
 

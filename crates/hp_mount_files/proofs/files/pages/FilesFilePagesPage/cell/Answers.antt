@@ -1,8 +1,7 @@
 use Rattle.std.proofs.Common.{◌≡◌, subst, sym, ◌∙◌, length, ◌<◌}
-use Rattle.hp_model.specs.declared.cell.Cell.TheVariants.{Present}
-use Rattle.hp_model.specs.files.File.{cell_at}
-use Rattle.hp_model.specs.files.Page.{Page}
-use Rattle.hp_lookup.specs.Files.{Files, file_at}
+use Rattle.hp_laws.proofs.Variants.{Present}
+use Rattle.hp_model.proofs.Words.{Page, cell_at}
+use Rattle.hp_lookup.proofs.Words.{Files, file_at}
 use Rattle.hp_lookup.proofs.Views.{present_shown}
 use Rattle.hp_mount_files.proofs.files.pages.FilesFilePagesPage.cell.Goals as goal
 

@@ -1,12 +1,9 @@
 use Rattle.std.proofs.lemmas.Grind.{common_steps}
 use Rattle.std.proofs.Common.{◌≡◌, ◌<◌, length, ap, subst, sym, arith}
-use Rattle.hp_model.specs.files.File.{cell_at}
-use Rattle.hp_model.specs.declared.cell.Cell.TheVariants.{Entered}
-use Rattle.hp_lookup.specs.Tally.{count_of}
-use Rattle.hp_lookup.specs.Files.{file_at}
+use Rattle.hp_model.proofs.Words.{cell_at}
+use Rattle.hp_laws.proofs.Variants.{Entered}
+use Rattle.hp_lookup.proofs.Words.{NumberedFile, count_of, file_at, label_of}
 use Rattle.hp_lookup.proofs.Views.{fill_view, fill_keeps}
-use Rattle.hp_lookup.specs.Keyed.{label_of}
-use Rattle.hp_lookup.specs.Numbered.{NumberedFile}
 use Rattle.hp_lookup.proofs.Keys.{files_same}
 use Rattle.hp_lookup.proofs.Level.{same_level}
 use Rattle.hp_mount_files.proofs.files.pages.FilesFilePagesPage.fill.Goals as goal

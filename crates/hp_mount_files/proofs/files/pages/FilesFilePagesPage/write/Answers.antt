@@ -1,9 +1,8 @@
 use Rattle.std.proofs.lemmas.Grind.{common_steps}
 use Rattle.std.proofs.Common.{◌≡◌, subst, sym, ◌∙◌, length, ◌<◌, arith}
-use Rattle.hp_model.specs.declared.cell.Cell.TheVariants.{Present}
-use Rattle.hp_model.specs.files.File.{cell_at}
-use Rattle.hp_model.specs.files.Page.{Page}
-use Rattle.hp_lookup.specs.Files.{Files, file_at}
+use Rattle.hp_laws.proofs.Variants.{Present}
+use Rattle.hp_model.proofs.Words.{Page, cell_at}
+use Rattle.hp_lookup.proofs.Words.{Files, file_at}
 use Rattle.hp_lookup.proofs.Views.{write_view, nothing_written, held_once, present_shown}
 use Rattle.hp_mount_files.proofs.Here.{file_here, file_inside}
 use Rattle.hp_mount_files.proofs.files.pages.FilesFilePagesPage.write.Goals as goal

@@ -2,12 +2,10 @@ use Rattle.std.proofs.lemmas.Grind.{common_steps}
 use Rattle.std.proofs.Common.{arith, ◌≡◌, ◌==◌, true, false, ap, subst, sym, ◌∙◌}
 use Rattle.std.proofs.lemmas.Bool.{eq-eqb}
 use Rattle.std.proofs.lemmas.Bool.Decides.{nat_tests}
-use Rattle.hp_model.specs.files.Mapping.{place_at}
+use Rattle.hp_model.proofs.Words.{place_at}
 use Rattle.hp_store.specs.Store.{holders_of, page_at}
 use Rattle.hp_lookup.specs.declared.copy_state.CopyState.TheVariants as state
-use Rattle.hp_lookup.specs.Files.{Files, file_at}
-use Rattle.hp_lookup.specs.Numbered.{copy_shown}
-use Rattle.hp_lookup.specs.Places.{map_among}
+use Rattle.hp_lookup.proofs.Words.{Files, copy_shown, file_at, map_among}
 use Rattle.hp_file.specs.States.{AreAgreed, IsCopyState}
 use Rattle.hp_mount_files.proofs.CopyHeld.{agreed_there, copy_there, few_there, held_once}
 use Rattle.hp_mount_files.proofs.Here.{file_here, map_here, file_inside, map_inside}

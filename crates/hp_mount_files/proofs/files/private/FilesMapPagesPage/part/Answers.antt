@@ -1,17 +1,10 @@
 use Rattle.std.proofs.lemmas.Grind.{common_steps}
-use Rattle.std.proofs.Common.{◌≡◌, false, refl, ap, subst, ◌∙◌, arith}
-use Rattle.std.specs.List.{flat_map}
+use Rattle.std.proofs.Common.{◌≡◌, false, refl, ap, subst, ◌∙◌, arith, flat_map}
 use Rattle.hp_laws.proofs.counts.Copies.{live_of}
 use Rattle.hp_mapping.specs.Mapped.{at_place, with_copy}
-use Rattle.hp_model.specs.files.Mapping.{place_at}
-use Rattle.hp_model.specs.files.MountCounts.{stamps_of}
-use Rattle.hp_model.specs.Lists.{is_among}
-use Rattle.hp_lookup.specs.Tally.{count_of}
+use Rattle.hp_model.proofs.Words.{is_among, place_at, stamps_of}
+use Rattle.hp_lookup.proofs.Words.{Files, count_of, files_shown, label_of, map_among, mapping_at, parted_at}
 use Rattle.hp_lookup.specs.declared.copy_state.CopyState.TheVariants as state
-use Rattle.hp_lookup.specs.Files.{Files, parted_at}
-use Rattle.hp_lookup.specs.Keyed.{label_of}
-use Rattle.hp_lookup.specs.Numbered.{files_shown, mapping_at}
-use Rattle.hp_lookup.specs.Places.{map_among}
 use Rattle.hp_lookup.proofs.Keys.{files_same, same_label}
 use Rattle.hp_mount_files.proofs.Parting.{number, part_keeps, part_levels, part_once, part_view, room_there, still_there}
 use Rattle.hp_file.proofs.PutCopy.{put_fresh}

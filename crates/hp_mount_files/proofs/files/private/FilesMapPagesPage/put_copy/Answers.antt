@@ -1,14 +1,7 @@
 use Rattle.std.proofs.lemmas.Grind.{common_steps}
-use Rattle.std.proofs.Common.{refl, ◌≡◌, ◌-◌, ◌<◌, false, ap, subst, sym, ◌∙◌, arith}
-use Rattle.std.specs.List.{flat_map}
-use Rattle.hp_model.specs.Lists.{is_among}
-use Rattle.hp_model.specs.files.Mapping.{place_at}
-use Rattle.hp_model.specs.files.MountCounts.{stamps_of}
-use Rattle.hp_lookup.specs.Tally.{count_of}
-use Rattle.hp_lookup.specs.Files.{Files}
-use Rattle.hp_lookup.specs.Places.{map_among}
-use Rattle.hp_lookup.specs.Keyed.{label_of}
-use Rattle.hp_lookup.specs.Numbered.{mapping_at}
+use Rattle.std.proofs.Common.{refl, ◌≡◌, ◌-◌, ◌<◌, false, ap, subst, sym, ◌∙◌, arith, flat_map}
+use Rattle.hp_model.proofs.Words.{is_among, place_at, stamps_of}
+use Rattle.hp_lookup.proofs.Words.{Files, count_of, label_of, map_among, mapping_at}
 use Rattle.hp_file.specs.Taking.{first_copy}
 use Rattle.hp_mapping.specs.Mapped.{at_place}
 use Rattle.hp_mount_files.proofs.HeldOnce.{put_once}

@@ -1,12 +1,7 @@
 use Rattle.std.proofs.lemmas.Grind.{common_steps}
-use Rattle.std.proofs.Common.{◌≡◌, Option, None, Some, refl, ap, subst, ◌∙◌, arith}
-use Rattle.std.specs.Prelude.{IsSome, slice_set}
-use Rattle.hp_model.specs.files.Mapping.{copy_of, place_at}
-use Rattle.hp_model.specs.files.Page.{Copy}
-use Rattle.hp_lookup.specs.Tally.{count_of}
-use Rattle.hp_lookup.specs.Dropping.{IsLeft}
-use Rattle.hp_lookup.specs.Files.{Files, taken_back_at}
-use Rattle.hp_lookup.specs.Places.{map_among}
+use Rattle.std.proofs.Common.{◌≡◌, Option, None, Some, refl, ap, subst, ◌∙◌, arith, IsSome, slice_set}
+use Rattle.hp_model.proofs.Words.{Copy, copy_of, place_at}
+use Rattle.hp_lookup.proofs.Words.{Files, IsLeft, count_of, map_among, taken_back_at}
 use Rattle.hp_mount_files.proofs.TakingBack.{back_files, back_keeps, back_left, back_once}
 use Rattle.hp_lookup.proofs.Views.{view}
 use Rattle.hp_mount_files.proofs.Here.{file_here, map_here, file_inside, map_inside, copy_inside, held_inside}

@@ -1,9 +1,8 @@
 use Rattle.std.proofs.lemmas.Grind.{common_steps}
 use Rattle.std.proofs.Common.{◌<◌, length, subst, sym, ◌∙◌, arith}
-use Rattle.hp_model.specs.files.Mapping.{place_at}
+use Rattle.hp_model.proofs.Words.{place_at}
 use Rattle.hp_lookup.specs.declared.copy_state.CopyState.TheVariants as state
-use Rattle.hp_lookup.specs.Files.{Files, file_at}
-use Rattle.hp_lookup.specs.Places.{map_among}
+use Rattle.hp_lookup.proofs.Words.{Files, file_at, map_among}
 use Rattle.hp_file.specs.States.{IsCopyState}
 use Rattle.hp_mount_files.proofs.CopyWritten.{copy_alone, copy_write_keeps, copy_write_view}
 use Rattle.hp_mount_files.proofs.Here.{file_inside, map_inside}
