@@ -16,7 +16,8 @@ returns-then-pages-gt-MOST_OVERCOMMIT-clause-step g c =
 pub returns-clause-ready : goal.returns-clause-ready
 returns-clause-ready g c =
     let few : c.args.pages ≤ most_overcommit = omega (arith, c.if-pages-gt-MOST_OVERCOMMIT.false) in
-    pool_leaves (Overcommit c.args.pages) c.self.view_is c.requires.ready (overcommit_event c.self.inside.pool c.args.pages c.set_overcommit.new.self few c.set_overcommit.ensures.moved) c.self.invariant
+    pool_leaves (Overcommit c.args.pages) c.self.view_is c.requires.ready
+    (overcommit_event c.self.inside.pool c.args.pages c.set_overcommit.new.self few c.set_overcommit.ensures.moved) c.self.invariant
 
 pub returns-clause-step : goal.returns-clause-step
 unfolding IsStep
