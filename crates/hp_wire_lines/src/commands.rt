@@ -1,9 +1,9 @@
-//! The steps of the commands that are no load, store or fault, and of these three.
-ghost use Rattle.std.specs.Prelude.{◌≡◌, false, length};
-ghost use Rattle.hp_model.specs.text.Reading.{fault_of, load_of, pool_command, slot_command, step_of_command, store_of};
-ghost use Rattle.hp_wire_lines.specs.Accesses.{is_access};
+//! The steps of the commands, by what stands after each command's word.
+#![tactic(auto, unfolding(crate::specs::Commands::readings))]
 
-use crate::known::is_known;
+ghost use Rattle.std.specs.Prelude.{◌≡◌, length};
+ghost use Rattle.hp_model.specs.text.Reading.{anon_of, attach_of, connect_of, create_of, df_of, exit_of, fault_of, fork_of, load_of, ls_of, map_of, meminfo_of, mount_of, nodes_of, nr_of, overcommit_of, preallocate_of, punch_of, read_of, remount_of, stat_of, store_of, truncate_of, umount_of, unlink_of, unmap_of};
+
 use crate::parts::{intent, last_hex, reserving, sharing, word};
 use crate::words::Words;
 use hp_model::lent::Lent;
@@ -37,75 +37,142 @@ macro_rules! step {
     }};
 }
 
-// The step of a word, where it is one of these, and else what follows.
-macro_rules! step_by {
-    (
-        $word:ident, $words:ident;
-        $($known:literal => $step:ident $parts:tt $(, $last:ident = $value:expr)?;)*
-        _ => $other:expr
-    ) => {{
-        $(if is_known($word, $known) {
-            return step!($words; $step $parts $(, $last = $value)?);
-        })*
-        $other
-    }};
+pub fn connect(words: &mut Words<'_>) -> Result<Step<'static>, Refusal>
+    ensures { result ≡ connect_of words.old }
+{
+    step!(words; Connect(task, home))
 }
 
-/// The step of a word that is not that of a load, a store or a fault, and the words after it, or `BadLine`.
-#[tactic(auto, unfolding(crate::specs::Commands::task_commands))]
-#[inline(never)]
-pub fn step_of_command<'a>(word: &[u8], words: &mut Words<'a>) -> Result<Step<'a>, Refusal>
-    requires { is_access word.now ≡ false }
-    ensures { result ≡ step_of_command word.now words.old }
+pub fn attach(words: &mut Words<'_>) -> Result<Step<'static>, Refusal>
+    ensures { result ≡ attach_of words.old }
 {
-    step_by! { word, words;
-        b"connect" => Connect(task, home);
-        b"attach" => Attach(task);
-        b"fork" => Fork(parent, child);
-        b"exit" => Exit(task);
-        b"map" => Map(task, slot, name, from, pages, sharing), reserving = reserving(words)?;
-        b"anon" => Anon(task, pages, sharing), reserving = reserving(words)?;
-        b"unmap" => Unmap(task, slot, map, from, to);
-        _ => slot_command(word, words)
-    }
+    step!(words; Attach(task))
 }
 
-// A command of a slot, without a task, or another.
-#[tactic(auto, unfolding(crate::specs::Commands::slot_commands))]
-#[inline(always)]
-fn slot_command<'a>(word: &[u8], words: &mut Words<'a>) -> Result<Step<'a>, Refusal>
-    ensures { result ≡ slot_command word.now words.old }
+pub fn fork(words: &mut Words<'_>) -> Result<Step<'static>, Refusal>
+    ensures { result ≡ fork_of words.old }
 {
-    step_by! { word, words;
-        b"mount" => Mount(slot, options);
-        b"remount" => Remount(slot, options);
-        b"umount" => Umount(slot);
-        b"create" => Create(slot, name);
-        b"unlink" => Unlink(slot, name);
-        b"truncate" => Truncate(slot, name, pages);
-        b"punch" => Punch(slot, name, from, to);
-        b"preallocate" => Preallocate(slot, name, from, to);
-        b"read" => Read(slot, name, index, offset, count);
-        b"ls" => Ls(slot);
-        b"stat" => Stat(slot, name);
-        b"df" => Df(slot);
-        _ => pool_command(word, words)
-    }
+    step!(words; Fork(parent, child))
 }
 
-// A command of the pool.
-#[tactic(auto, unfolding(crate::specs::Commands::pool_commands))]
-#[inline(always)]
-fn pool_command<'a>(word: &[u8], words: &mut Words<'a>) -> Result<Step<'a>, Refusal>
-    ensures { result ≡ pool_command word.now words.old }
+pub fn exit(words: &mut Words<'_>) -> Result<Step<'static>, Refusal>
+    ensures { result ≡ exit_of words.old }
 {
-    step_by! { word, words;
-        b"nr" => Nr(pages);
-        b"overcommit" => Overcommit(pages);
-        b"meminfo" => Meminfo();
-        b"nodes" => Nodes();
-        _ => Err(Refusal::BadLine)
-    }
+    step!(words; Exit(task))
+}
+
+pub fn map<'a>(words: &mut Words<'a>) -> Result<Step<'a>, Refusal>
+    ensures { result ≡ map_of words.old }
+{
+    step!(words; Map(task, slot, name, from, pages, sharing), reserving = reserving(words)?)
+}
+
+pub fn anon(words: &mut Words<'_>) -> Result<Step<'static>, Refusal>
+    ensures { result ≡ anon_of words.old }
+{
+    step!(words; Anon(task, pages, sharing), reserving = reserving(words)?)
+}
+
+pub fn unmap(words: &mut Words<'_>) -> Result<Step<'static>, Refusal>
+    ensures { result ≡ unmap_of words.old }
+{
+    step!(words; Unmap(task, slot, map, from, to))
+}
+
+pub fn mount<'a>(words: &mut Words<'a>) -> Result<Step<'a>, Refusal>
+    ensures { result ≡ mount_of words.old }
+{
+    step!(words; Mount(slot, options))
+}
+
+pub fn remount<'a>(words: &mut Words<'a>) -> Result<Step<'a>, Refusal>
+    ensures { result ≡ remount_of words.old }
+{
+    step!(words; Remount(slot, options))
+}
+
+pub fn umount(words: &mut Words<'_>) -> Result<Step<'static>, Refusal>
+    ensures { result ≡ umount_of words.old }
+{
+    step!(words; Umount(slot))
+}
+
+pub fn create<'a>(words: &mut Words<'a>) -> Result<Step<'a>, Refusal>
+    ensures { result ≡ create_of words.old }
+{
+    step!(words; Create(slot, name))
+}
+
+pub fn unlink<'a>(words: &mut Words<'a>) -> Result<Step<'a>, Refusal>
+    ensures { result ≡ unlink_of words.old }
+{
+    step!(words; Unlink(slot, name))
+}
+
+pub fn truncate<'a>(words: &mut Words<'a>) -> Result<Step<'a>, Refusal>
+    ensures { result ≡ truncate_of words.old }
+{
+    step!(words; Truncate(slot, name, pages))
+}
+
+pub fn punch<'a>(words: &mut Words<'a>) -> Result<Step<'a>, Refusal>
+    ensures { result ≡ punch_of words.old }
+{
+    step!(words; Punch(slot, name, from, to))
+}
+
+pub fn preallocate<'a>(words: &mut Words<'a>) -> Result<Step<'a>, Refusal>
+    ensures { result ≡ preallocate_of words.old }
+{
+    step!(words; Preallocate(slot, name, from, to))
+}
+
+pub fn read<'a>(words: &mut Words<'a>) -> Result<Step<'a>, Refusal>
+    ensures { result ≡ read_of words.old }
+{
+    step!(words; Read(slot, name, index, offset, count))
+}
+
+pub fn ls(words: &mut Words<'_>) -> Result<Step<'static>, Refusal>
+    ensures { result ≡ ls_of words.old }
+{
+    step!(words; Ls(slot))
+}
+
+pub fn stat<'a>(words: &mut Words<'a>) -> Result<Step<'a>, Refusal>
+    ensures { result ≡ stat_of words.old }
+{
+    step!(words; Stat(slot, name))
+}
+
+pub fn df(words: &mut Words<'_>) -> Result<Step<'static>, Refusal>
+    ensures { result ≡ df_of words.old }
+{
+    step!(words; Df(slot))
+}
+
+pub fn nr(words: &mut Words<'_>) -> Result<Step<'static>, Refusal>
+    ensures { result ≡ nr_of words.old }
+{
+    step!(words; Nr(pages))
+}
+
+pub fn overcommit(words: &mut Words<'_>) -> Result<Step<'static>, Refusal>
+    ensures { result ≡ overcommit_of words.old }
+{
+    step!(words; Overcommit(pages))
+}
+
+pub fn meminfo(words: &Words<'_>) -> Result<Step<'static>, Refusal>
+    ensures { result ≡ meminfo_of words.now }
+{
+    step!(words; Meminfo())
+}
+
+pub fn nodes(words: &Words<'_>) -> Result<Step<'static>, Refusal>
+    ensures { result ≡ nodes_of words.now }
+{
+    step!(words; Nodes())
 }
 
 #[tactic(auto, unfolding(hp_model::specs::text::Reading::fault_of))]

@@ -2,6 +2,7 @@
 #![tactic(auto)]
 
 pub mod accesses;
+mod command;
 mod commands;
 mod hex_digits;
 mod known;

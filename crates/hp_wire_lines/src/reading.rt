@@ -4,7 +4,11 @@ ghost use Rattle.hp_wire_lines.specs.Accesses.{is_access, IsKind};
 ghost use Rattle.hp_model.specs.text.Reading.{step_of_bytes, step_of_command};
 ghost use Rattle.hp_model.specs.Profile.{most_line_bytes};
 
-use crate::commands::{fault, load, step_of_command, store};
+use crate::command::{Command, command_of};
+use crate::commands::{
+    anon, attach, connect, create, df, exit, fault, fork, load, ls, map, meminfo, mount, nodes, nr,
+    overcommit, preallocate, punch, read, remount, stat, store, truncate, umount, unlink, unmap,
+};
 use crate::known::is_known;
 use crate::words::Words;
 use hp_model::refusal::Refusal;
@@ -73,5 +77,30 @@ pub fn step_of_word<'a>(word: &[u8], words: &mut Words<'a>) -> Result<Step<'a>, 
 {
     // A copy need not stand in memory.
     let words = &mut words.copied();
-    step_of_command(word, words)
+    match command_of(word) {
+        Some(Command::Connect) => connect(words),
+        Some(Command::Attach) => attach(words),
+        Some(Command::Fork) => fork(words),
+        Some(Command::Exit) => exit(words),
+        Some(Command::Map) => map(words),
+        Some(Command::Anon) => anon(words),
+        Some(Command::Unmap) => unmap(words),
+        Some(Command::Mount) => mount(words),
+        Some(Command::Remount) => remount(words),
+        Some(Command::Umount) => umount(words),
+        Some(Command::Create) => create(words),
+        Some(Command::Unlink) => unlink(words),
+        Some(Command::Truncate) => truncate(words),
+        Some(Command::Punch) => punch(words),
+        Some(Command::Preallocate) => preallocate(words),
+        Some(Command::Read) => read(words),
+        Some(Command::Ls) => ls(words),
+        Some(Command::Stat) => stat(words),
+        Some(Command::Df) => df(words),
+        Some(Command::Nr) => nr(words),
+        Some(Command::Overcommit) => overcommit(words),
+        Some(Command::Meminfo) => meminfo(words),
+        Some(Command::Nodes) => nodes(words),
+        None => Err(Refusal::BadLine),
+    }
 }

@@ -1,5 +1,5 @@
 use Rattle.std.proofs.Common.{◌+◌, ◌*◌, arith}
-use Rattle.hp_wire_lines.proofs.HexValues.{pair_bad, pair_good}
+use Rattle.hp_wire_lines.proofs.HexValues.{pair_bad}
 use Rattle.hp_wire_lines.proofs.hex_digits.pair.Goals as goal
 
 pub returns-then-both-gt255-clause-none : goal.returns-then-both-gt255-clause-none

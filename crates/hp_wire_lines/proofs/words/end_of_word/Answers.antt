@@ -1,7 +1,7 @@
 use Rattle.std.proofs.Common.{◌≡◌, ◌+◌, get_or, true, arith, sym, ap, ◌∙◌}
 use Rattle.std.proofs.lemmas.List.{get_or-drop, take_rest}
 use Rattle.hp_model.proofs.Words.{is_word_byte}
-use Rattle.hp_wire_lines.proofs.WordEnds.{word_more, word_start}
+use Rattle.hp_wire_lines.proofs.WordEnds.{word_more}
 use Rattle.hp_wire_lines.proofs.words.end_of_word.Goals as goal
 
 pub loop-n-preserved : goal.loop-n-preserved
