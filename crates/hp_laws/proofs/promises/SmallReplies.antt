@@ -55,8 +55,6 @@ module _ (s : State) (st : IsSettledState s) where
   pool_small pool.Meminfo = meminfo_small (pool_of s) st.pool few_rows
   pool_small pool.Nodes = nodes_small (pool_of s) st.pool few_rows
 
--- ---- the task table
-
 -- ---- events on a slot
 
 -- done, or a map's number or bytes within their limits

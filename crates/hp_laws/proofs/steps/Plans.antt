@@ -21,8 +21,6 @@ balanced_unless old ts p h = plan_unless (IsBalanced old) (λ r. stays old) ts p
 pub balanced_test : (old : Slot) (b : Bool) (r : Refusal) (ts : List (Bool × Refusal)) (p : Plan) → (b ≡ false → IsBalanced old p) → IsBalanced old (unless ((b, r) ∷ ts) p)
 balanced_test old b r ts p h = cond_both b (refuse r) (unless ts p) (IsBalanced old) (λ e. stays old) (λ e. balanced_unless old ts p (h e))
 
--- ---- limits
-
 -- ---- an outcome by the pool's answer
 
 grown_reserved : (m n : Mount) (node : ℕ) → MountGrows m n node 1 0 → Change (Some m) (Some n) 0 0 (λ x. if node == x then 1 else 0) (λ x. 0) 1
