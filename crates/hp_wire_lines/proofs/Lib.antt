@@ -6,3 +6,4 @@ mod Keywords
 mod HexValues
 mod SameWords
 mod WordEnds
+mod Readings

@@ -1,5 +1,5 @@
 //! The steps of the commands, by what stands after each command's word.
-#![tactic(auto, unfolding(crate::specs::Commands::readings))]
+#![tactic(auto, unfolding(crate::proofs::Readings::readings))]
 
 ghost use Rattle.std.specs.Prelude.{◌≡◌, length};
 ghost use Rattle.hp_model.specs.text.Reading.{anon_of, attach_of, connect_of, create_of, df_of, exit_of, fault_of, fork_of, load_of, ls_of, map_of, meminfo_of, mount_of, nodes_of, nr_of, overcommit_of, preallocate_of, punch_of, read_of, remount_of, stat_of, store_of, truncate_of, umount_of, unlink_of, unmap_of};
