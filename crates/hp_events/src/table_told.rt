@@ -3,9 +3,9 @@ ghost use Rattle.std.specs.Prelude.{◌≡◌};
 ghost use Rattle.hp_model.specs.beside.Told.{told_reply};
 ghost use Rattle.hp_events.specs.Replies.{table_reply};
 
-use hp_model::answer::{Answer, Reply};
+use hp_model::answer::Reply;
 use hp_model::refusal::Refusal;
-use hp_model::told::Told;
+use hp_model::told::{Told, into_reply};
 
 /// An answer that can be told as often as it is wanted.
 #[derive(Clone, Copy, Debug, PartialEq, Eq)]
@@ -21,11 +21,7 @@ impl TableTold {
     pub fn reply(&self) -> Reply
         ensures { result ≡ table_reply self.now }
     {
-        match *self {
-            TableTold::Done => Ok(Answer::Done),
-            TableTold::Home(home) => Ok(Answer::Home(home)),
-            TableTold::Refused(refusal) => Err(refusal),
-        }
+        into_reply(self.told())
     }
 
     /// For the caller.

@@ -1,12 +1,13 @@
 //! What a step or an event answers, where its bytes stay where they are.
-ghost use Rattle.std.specs.Prelude.{◌≡◌, ◌≤◌, length};
+ghost use Rattle.std.specs.Prelude.{◌≡◌, ◌≤◌, length, false};
 ghost use Rattle.hp_model.specs.declared.told.Told.TheVariants.{Bytes};
 ghost use Rattle.hp_model.specs.Profile.{most_bytes};
 ghost use Rattle.hp_model.specs.beside.Accesses.{bytes_reply, done_reply};
+ghost use Rattle.hp_model.specs.beside.Copying.{has_names};
 ghost use Rattle.hp_model.specs.beside.Told.{map_reply, told_answer, told_reply};
-ghost use Rattle.hp_model.specs.text.Writing.{HasSmallAnswer};
+ghost use Rattle.hp_model.specs.text.Writing.{HasSmallAnswer, IsWithinLimits};
 
-use crate::answer::{Answer, Counts, NodeCount};
+use crate::answer::{Answer, Counts, NodeCount, Reply};
 use crate::names::Names;
 use crate::profile::MOST_BYTES;
 use crate::refusal::Refusal;
@@ -90,21 +91,33 @@ impl<'a> Told<'a> {
         ensures { result ≡ told_answer self.entry }
     {
         match self {
+            Told::Names(names) => Answer::Names(names),
+            told => told.copied(),
+        }
+    }
+
+    /// A copy of an answer that is no list of names.
+    pub fn copied(&self) -> Answer
+        requires small { HasSmallAnswer (told_answer self.now) }
+        requires plain { has_names (told_answer self.now) ≡ false }
+        ensures { result ≡ told_answer self.now }
+    {
+        match self {
             Told::Done => Answer::Done,
-            Told::Home(home) => Answer::Home(home),
-            Told::MapNo(number) => Answer::MapNo(number),
-            Told::Number(n) => Answer::Number(n),
-            Told::Bytes(bytes) => copied(bytes),
+            Told::Home(home) => Answer::Home(*home),
+            Told::MapNo(number) => Answer::MapNo(*number),
+            Told::Number(n) => Answer::Number(*n),
+            Told::Bytes(bytes) => copied_bytes(bytes),
             Told::Stat {
                 len,
                 pages,
                 entries,
                 maps,
             } => Answer::Stat {
-                len,
-                pages,
-                entries,
-                maps,
+                len: *len,
+                pages: *pages,
+                entries: *entries,
+                maps: *maps,
             },
             Told::Usage {
                 max,
@@ -113,21 +126,35 @@ impl<'a> Told<'a> {
                 inodes,
                 files,
             } => Answer::Usage {
-                max,
-                min,
-                used,
-                inodes,
-                files,
+                max: *max,
+                min: *min,
+                used: *used,
+                inodes: *inodes,
+                files: *files,
             },
-            Told::Names(names) => Answer::Names(names),
-            Told::Numbers(counts) => Answer::Numbers(counts),
-            Told::PerNode { nodes, rows } => Answer::PerNode { nodes, rows },
+            Told::Names(_names) => unreachable!(),
+            Told::Numbers(counts) => Answer::Numbers(*counts),
+            Told::PerNode { nodes, rows } => Answer::PerNode {
+                nodes: *nodes,
+                rows: *rows,
+            },
         }
     }
 }
 
+/// The reply with a copy of its bytes.
+pub fn into_reply(told: Result<Told<'_>, Refusal>) -> Reply
+    requires { IsWithinLimits (told_reply told) }
+    ensures { result ≡ told_reply told.entry }
+{
+    match told {
+        Ok(told) => Ok(told.into_answer()),
+        Err(refusal) => Err(refusal),
+    }
+}
+
 // The answer with a copy of these bytes.
-fn copied(bytes: &[u8]) -> Answer
+fn copied_bytes(bytes: &[u8]) -> Answer
     requires { length bytes.now ≤ most_bytes }
     ensures { result ≡ told_answer (Bytes bytes.entry) }
 {

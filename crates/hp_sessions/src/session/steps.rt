@@ -27,7 +27,7 @@ use hp_model::profile::MOST_BYTES;
 use hp_model::refusal::Refusal;
 use hp_model::service::Access;
 use hp_model::step::{Intent, Step};
-use hp_model::told::Told;
+use hp_model::told::{Told, into_reply};
 use std::alloc::AllocError;
 
 impl<P: Parts> Session<P> {
@@ -42,7 +42,7 @@ impl<P: Parts> Session<P> {
         ensures limits { IsWithinLimits result }
     {
         let mut room = [0u8; MOST_BYTES];
-        whole(self.do_step(step, &mut room))
+        into_reply(self.do_step(step, &mut room))
     }
 
     /// Answers a step as `call` does, into the reply. Bytes are in the front of the room. (A reply handed back by value costs more
@@ -312,17 +312,6 @@ impl<P: Parts> Session<P> {
             return Ok(None);
         }
         work.copies(self.parts.alloc())
-    }
-}
-
-// The reply with a copy of its bytes.
-fn whole(told: Result<Told<'_>, Refusal>) -> Reply
-    requires { IsWithinLimits (told_reply told) }
-    ensures { result ≡ told_reply told.entry }
-{
-    match told {
-        Ok(told) => Ok(told.into_answer()),
-        Err(refusal) => Err(refusal),
     }
 }
 

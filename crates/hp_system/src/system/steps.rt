@@ -23,7 +23,7 @@ use hp_model::naming::Naming;
 use hp_model::profile::{MOST_BYTES, MOST_OVERCOMMIT};
 use hp_model::refusal::Refusal;
 use hp_model::step::Step;
-use hp_model::told::Told;
+use hp_model::told::{Told, into_reply};
 use std::alloc::{AllocError, Global};
 
 impl<N: Naming> System<N> {
@@ -203,7 +203,7 @@ impl<N: Naming> System<N> {
         let mut room = [0u8; MOST_BYTES];
         let mut reply = Ok(Told::Done);
         self.do_step(step, &mut room, &mut reply);
-        whole(reply)
+        into_reply(reply)
     }
 
     // The reply of `Nodes`.
@@ -354,15 +354,4 @@ fn tell_number(pages: u64, reply: &mut Result<Told<'_>, Refusal>)
     ensures { told_reply reply.new ≡ Ok (Number pages) }
 {
     *reply = Ok(Told::Number(pages));
-}
-
-// The reply with a copy of its bytes.
-fn whole(told: Result<Told<'_>, Refusal>) -> Reply
-    requires { IsWithinLimits (told_reply told) }
-    ensures { result ≡ told_reply told.entry }
-{
-    match told {
-        Ok(told) => Ok(told.into_answer()),
-        Err(refusal) => Err(refusal),
-    }
 }

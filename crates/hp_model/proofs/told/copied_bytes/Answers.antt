@@ -1,7 +1,7 @@
 use Rattle.std.proofs.Common.{◌++◌, length, ap, ◌∙◌}
 use Rattle.std.proofs.lemmas.List.{drop-replicate}
-use Rattle.hp_laws.proofs.Variants.{Bytes}
-use Rattle.hp_shared.proofs.told.copied_bytes.Goals as goal
+use Rattle.hp_model.specs.declared.answer.Answer.TheVariants.{Bytes}
+use Rattle.hp_model.proofs.told.copied_bytes.Goals as goal
 
 pub returns : goal.returns
 returns c =
