@@ -34,19 +34,15 @@ names_file (step.Read k name i offset count) = true
 names_file (step.Stat k name) = true
 names_file other = false
 
--- it makes a map for this task, or takes indices from one
-abbrev pub IsMapping : (task : ℕ) → Step → Type 0
-IsMapping t (step.Map task k name a pages sharing reserving) = t ≡ task
-IsMapping t (step.Anon task pages sharing reserving) = t ≡ task
-IsMapping t (step.Unmap task k number a b) = t ≡ task
-IsMapping t other = ⊥
-
--- it asks for an index of a map of this task
-abbrev pub IsAccess : (task : ℕ) → Step → Type 0
-IsAccess t (step.Fault task k number i intent) = t ≡ task
-IsAccess t (step.Load task k number i offset count) = t ≡ task
-IsAccess t (step.Store task k number i offset bytes) = t ≡ task
-IsAccess t other = ⊥
+-- it makes a map for this task, or acts on one
+abbrev pub IsOfTask : (task : ℕ) → Step → Type 0
+IsOfTask t (step.Map task k name a pages sharing reserving) = t ≡ task
+IsOfTask t (step.Anon task pages sharing reserving) = t ≡ task
+IsOfTask t (step.Unmap task k number a b) = t ≡ task
+IsOfTask t (step.Fault task k number i intent) = t ≡ task
+IsOfTask t (step.Load task k number i offset count) = t ≡ task
+IsOfTask t (step.Store task k number i offset bytes) = t ≡ task
+IsOfTask t other = ⊥
 
 -- ---- events
 

@@ -2,7 +2,7 @@
 ghost use Rattle.std.specs.Prelude.{◌≡◌, ◌*◌, ◌≤◌, true};
 ghost use Rattle.hp_model.specs.Profile.{most_slots};
 ghost use Rattle.hp_events.specs.declared.work.Work.TheVariants.{OfTask as OfATask, OnSlot as OnASlot};
-ghost use Rattle.hp_events.specs.Kinds.{IsAccess, IsMapping, names_file, slot_of};
+ghost use Rattle.hp_events.specs.Kinds.{IsOfTask, names_file, slot_of};
 ghost use Rattle.hp_events.specs.Works.{IsWork, work_receipts};
 
 use crate::event::MountEvent;
@@ -91,13 +91,12 @@ pub fn work_of<'x>(step: &Step<'x>) -> Work<'x>
         | Step::Preallocate { slot, .. }
         | Step::Read { slot, .. }
         | Step::Stat { slot, .. } => on_slot(slot, file_event(step)),
-        Step::Map { task, slot, .. } | Step::Unmap { task, slot, .. } => {
-            of_task(task, slot, mapping_event(task, step))
-        }
-        Step::Anon { task, .. } => of_task(task, 0, mapping_event(task, step)),
-        Step::Fault { task, slot, .. }
+        Step::Anon { task, .. } => of_task(task, 0, task_event(task, step)),
+        Step::Map { task, slot, .. }
+        | Step::Unmap { task, slot, .. }
+        | Step::Fault { task, slot, .. }
         | Step::Load { task, slot, .. }
-        | Step::Store { task, slot, .. } => of_task(task, slot, access_event(task, step)),
+        | Step::Store { task, slot, .. } => of_task(task, slot, task_event(task, step)),
         Step::Nr { pages } => Work::Pool(PoolEvent::Nr { pages }),
         Step::Overcommit { pages } => Work::Pool(PoolEvent::Overcommit { pages }),
         Step::Meminfo => Work::Pool(PoolEvent::Meminfo),
@@ -165,10 +164,10 @@ fn file_event<'x>(step: &Step<'x>) -> MountEvent<'x>
     }
 }
 
-// What a task's step asks for that makes a map, or takes indices from one.
+// What a task's step asks for that makes a map, or acts on one.
 #[inline(always)]
-fn mapping_event<'x>(task: u64, step: &Step<'x>) -> MountEvent<'x>
-    requires { IsMapping task step.now }
+fn task_event<'x>(task: u64, step: &Step<'x>) -> MountEvent<'x>
+    requires { IsOfTask task step.now }
     ensures { IsWork step.now (OfATask task (slot_of step.now) result) }
 {
     match *step {
@@ -204,17 +203,6 @@ fn mapping_event<'x>(task: u64, step: &Step<'x>) -> MountEvent<'x>
             from,
             to,
         },
-        _ => unreachable!(),
-    }
-}
-
-// What a task's step asks of a map at an index.
-#[inline(always)]
-fn access_event<'x>(task: u64, step: &Step<'x>) -> MountEvent<'x>
-    requires { IsAccess task step.now }
-    ensures { IsWork step.now (OfATask task (slot_of step.now) result) }
-{
-    match *step {
         Step::Fault {
             map,
             index,
