@@ -34,29 +34,29 @@ pub enum Command {
     Nodes,
 }
 
+// The first command whose word this is.
+macro_rules! known {
+    ($word:ident; $($text:literal => $command:ident,)* else $other:expr) => {
+        $(if is_known($word, $text) { Some(Command::$command) } else)* { $other }
+    };
+}
+
 /// The command of a word that is not that of a load, a store or a fault, if it is one.
 #[tactic(auto, unfolding(hp_model::specs::text::Reading::step_of_command))]
 pub fn command_of(word: &[u8]) -> Option<Command>
     requires { is_access word.now ≡ false }
     ensures { (words : List (List ℕ)) → step_of_command word.now words ≡ step_as result words }
 {
-    if is_known(word, b"connect") {
-        Some(Command::Connect)
-    } else if is_known(word, b"attach") {
-        Some(Command::Attach)
-    } else if is_known(word, b"fork") {
-        Some(Command::Fork)
-    } else if is_known(word, b"exit") {
-        Some(Command::Exit)
-    } else if is_known(word, b"map") {
-        Some(Command::Map)
-    } else if is_known(word, b"anon") {
-        Some(Command::Anon)
-    } else if is_known(word, b"unmap") {
-        Some(Command::Unmap)
-    } else {
-        slot_command(word)
-    }
+    known!(word;
+        b"connect" => Connect,
+        b"attach" => Attach,
+        b"fork" => Fork,
+        b"exit" => Exit,
+        b"map" => Map,
+        b"anon" => Anon,
+        b"unmap" => Unmap,
+        else slot_command(word)
+    )
 }
 
 // A command of a slot, without a task, or another.
@@ -65,33 +65,21 @@ pub fn command_of(word: &[u8]) -> Option<Command>
 fn slot_command(word: &[u8]) -> Option<Command>
     ensures { (words : List (List ℕ)) → slot_command word.now words ≡ step_as result words }
 {
-    if is_known(word, b"mount") {
-        Some(Command::Mount)
-    } else if is_known(word, b"remount") {
-        Some(Command::Remount)
-    } else if is_known(word, b"umount") {
-        Some(Command::Umount)
-    } else if is_known(word, b"create") {
-        Some(Command::Create)
-    } else if is_known(word, b"unlink") {
-        Some(Command::Unlink)
-    } else if is_known(word, b"truncate") {
-        Some(Command::Truncate)
-    } else if is_known(word, b"punch") {
-        Some(Command::Punch)
-    } else if is_known(word, b"preallocate") {
-        Some(Command::Preallocate)
-    } else if is_known(word, b"read") {
-        Some(Command::Read)
-    } else if is_known(word, b"ls") {
-        Some(Command::Ls)
-    } else if is_known(word, b"stat") {
-        Some(Command::Stat)
-    } else if is_known(word, b"df") {
-        Some(Command::Df)
-    } else {
-        pool_command(word)
-    }
+    known!(word;
+        b"mount" => Mount,
+        b"remount" => Remount,
+        b"umount" => Umount,
+        b"create" => Create,
+        b"unlink" => Unlink,
+        b"truncate" => Truncate,
+        b"punch" => Punch,
+        b"preallocate" => Preallocate,
+        b"read" => Read,
+        b"ls" => Ls,
+        b"stat" => Stat,
+        b"df" => Df,
+        else pool_command(word)
+    )
 }
 
 // A command of the pool.
@@ -100,15 +88,11 @@ fn slot_command(word: &[u8]) -> Option<Command>
 fn pool_command(word: &[u8]) -> Option<Command>
     ensures { (words : List (List ℕ)) → pool_command word.now words ≡ step_as result words }
 {
-    if is_known(word, b"nr") {
-        Some(Command::Nr)
-    } else if is_known(word, b"overcommit") {
-        Some(Command::Overcommit)
-    } else if is_known(word, b"meminfo") {
-        Some(Command::Meminfo)
-    } else if is_known(word, b"nodes") {
-        Some(Command::Nodes)
-    } else {
-        None
-    }
+    known!(word;
+        b"nr" => Nr,
+        b"overcommit" => Overcommit,
+        b"meminfo" => Meminfo,
+        b"nodes" => Nodes,
+        else None
+    )
 }
