@@ -1,7 +1,8 @@
 -- The slots of chunks, each by its home.
 --     chunk_rows homes slots      the rows of the chunks
 --     AreChunks homes slots slotted capacity      so many chunks have slots, for all of which there is room
-use Rattle.std.specs.Prelude.{ℕ, ◌≡◌, ◌+◌, ◌*◌, ◌<◌, ◌≤◌, ◌^◌, List, [], length, map, min, nat_lt, Option, None, if◌then◌else◌}
+use Rattle.std.specs.Prelude.{ℕ, ◌≡◌, ◌+◌, ◌*◌, ◌<◌, ◌≤◌, ◌^◌, List, [], length, map, min, nat_lt, vec_capacity, Option, None, if◌then◌else◌}
+use Rattle.std.specs.Global.{Vec}
 use Rattle.std.specs.List.{slice_index_or, range_with_len, count_by}
 use Rattle.hp_inode.specs.Rows.{Rows}
 
@@ -43,6 +44,15 @@ pub record AreChunks (homes : List ℕ) (slots : List (Option ℕ)) (slotted cap
   pub given : AreHomes homes slots
   pub counted : slotted ≡ slotted_count homes
   pub room : 64 * slotted ≤ capacity
+
+-- a chunk that has slots has this home, which it may just have got: no slot has another page, and no room is lost
+pub record IsHoused (at own_home : ℕ) (homes new_homes : List ℕ) (slots new_slots : Vec (Option ℕ)) : Type 0 where
+  pub given : AreHomes new_homes new_slots.items
+  pub rows : chunk_rows new_homes new_slots.items ≡ chunk_rows homes slots.items
+  pub count : slotted_count new_homes ≡ slotted_count homes
+  pub capacity : vec_capacity slots ≤ vec_capacity new_slots
+  pub home : own_home ≡ slice_index_or new_homes at bare
+  pub own : own_home < promised
 
 -- slots were promised to the chunks from one number up to another that had none
 pub record ArePromised (from end : ℕ) (old new : List ℕ) : Type 0 where

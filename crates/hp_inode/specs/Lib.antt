@@ -7,3 +7,4 @@ pub mod Later
 pub mod Lends
 pub mod Rows
 pub mod Ready
+pub mod Taking

@@ -16,6 +16,22 @@ pub trait Block: Drop {
         ensures { result ≡ empty };
 }
 
+// Goes over the blocks of the indices from `$a` up to `$b`: in the block of `$at` they lie from `$from` up to `$to`.
+macro_rules! in_each_block {
+    ($a:ident..$b:ident, $at:ident, $from:ident, $to:ident => $do:expr) => {
+        let mut $at = $a;
+        while $at < $b {
+            let count = within_block($at, $b);
+            let $from = $at % BLOCK;
+            let $to = $from + count;
+            $do;
+            $at += count;
+        }
+    };
+}
+
+pub(crate) use in_each_block;
+
 /// How many indices from `at` up to `end` lie in the block of `at`.
 #[inline(always)]
 pub fn within_block(at: u64, end: u64) -> u64

@@ -1,7 +1,7 @@
 //! The slots of a block's chunks, in one piece: a chunk takes its part of it when its first page comes.
 ghost use Rattle.std.specs.Prelude.{ℕ, ◌≡◌, ◌+◌, ◌-◌, ◌*◌, ◌<◌, ◌≤◌, ◌^◌, ◌++◌, [], length, max, replicate, slice_index_or, slice_set, vec_capacity, vec_len, IsSome, OnOk, None, true, false};
 ghost use Rattle.hp_inode.specs.Rows.{slot_in};
-ghost use Rattle.hp_inode.specs.Chunks.{AreHomes, ArePromised, bare, promised, chunk_rows, slot_count, slotted_count, used_count};
+ghost use Rattle.hp_inode.specs.Chunks.{AreHomes, ArePromised, IsHoused, bare, promised, slot_count, slotted_count, used_count};
 
 use crate::block::BLOCK;
 use hp_model::page_no::PageNo;
@@ -155,13 +155,7 @@ fn touch(homes: &mut Vec<u32>, slots: &mut Vec<Option<PageNo>>, at: usize, first
     requires room { 64 * slotted_count homes.old.items ≤ vec_capacity slots.old }
     requires slotted { slice_index_or homes.old.items at bare < bare }
     requires own { first ≡ false → slice_index_or homes.old.items at bare < promised }
-    ensures given { AreHomes homes.new.items slots.new.items }
-    ensures rows { chunk_rows homes.new.items slots.new.items
-        ≡ chunk_rows homes.old.items slots.old.items }
-    ensures count { slotted_count homes.new.items ≡ slotted_count homes.old.items }
-    ensures capacity { vec_capacity slots.old ≤ vec_capacity slots.new }
-    ensures home { result ≡ slice_index_or homes.new.items at bare }
-    ensures own { result < promised }
+    ensures { IsHoused at result homes.old.items homes.new.items slots.old slots.new }
 {
     let home = homes[at];
     if first && home == PROMISED {
@@ -175,13 +169,7 @@ fn add_chunk(homes: &mut Vec<u32>, slots: &mut Vec<Option<PageNo>>, at: usize) -
     requires given { AreHomes homes.old.items slots.old.items }
     requires room { 64 * slotted_count homes.old.items ≤ vec_capacity slots.old }
     requires none { slice_index_or homes.old.items at bare ≡ promised }
-    ensures given { AreHomes homes.new.items slots.new.items }
-    ensures rows { chunk_rows homes.new.items slots.new.items
-        ≡ chunk_rows homes.old.items slots.old.items }
-    ensures count { slotted_count homes.new.items ≡ slotted_count homes.old.items }
-    ensures capacity { vec_capacity slots.old ≤ vec_capacity slots.new }
-    ensures home { result ≡ slice_index_or homes.new.items at bare }
-    ensures own { result < promised }
+    ensures { IsHoused at result homes.old.items homes.new.items slots.old slots.new }
 {
     let home = slots.len() / CHUNK;
     homes[at] = home as u32;

@@ -6,7 +6,7 @@ ghost use Rattle.hp_inode.specs.Blocks.{block_size, most_blocks, entered_at, has
 ghost use Rattle.hp_inode.specs.EntryBlock.{count_in, missing_in};
 ghost use Rattle.hp_marks.specs.Marks.{marked};
 
-use crate::block::{BLOCK, within_block};
+use crate::block::{BLOCK, in_each_block, within_block};
 use crate::block_list::BlockList;
 use crate::entry_block::EntryBlock;
 use std::alloc::{AllocError, Global};
@@ -70,13 +70,7 @@ impl Entries {
             return self.missing_in(0, a, b);
         }
         let mut missing = 0;
-        let mut at = a;
-        while at < b {
-            let count = within_block(at, b);
-            let from = at % BLOCK;
-            missing += self.missing_in(at / BLOCK, from, from + count);
-            at += count;
-        }
+        in_each_block!(a..b, at, from, to => missing += self.missing_in(at / BLOCK, from, to));
         missing
     }
 
@@ -125,13 +119,7 @@ impl Entries {
         if b <= BLOCK {
             return self.blocks.first_mut().make_room(a, b);
         }
-        let mut at = a;
-        while at < b {
-            let count = within_block(at, b);
-            let from = at % BLOCK;
-            self.make_in(at / BLOCK, from, from + count)?;
-            at += count;
-        }
+        in_each_block!(a..b, at, from, to => self.make_in(at / BLOCK, from, to)?);
         Ok(())
     }
 
@@ -159,13 +147,7 @@ impl Entries {
             self.blocks.first_mut().add(a, b);
             return;
         }
-        let mut at = a;
-        while at < b {
-            let count = within_block(at, b);
-            let from = at % BLOCK;
-            self.add_in(at / BLOCK, from, from + count);
-            at += count;
-        }
+        in_each_block!(a..b, at, from, to => self.add_in(at / BLOCK, from, to));
     }
 
     /// Puts one index in, with the room for it, and answers whether it was not there.
@@ -221,13 +203,7 @@ impl Entries {
             return self.remove_in(0, a, b);
         }
         let mut removed = 0;
-        let mut at = a;
-        while at < b {
-            let count = within_block(at, b);
-            let from = at % BLOCK;
-            removed += self.remove_in(at / BLOCK, from, from + count);
-            at += count;
-        }
+        in_each_block!(a..b, at, from, to => removed += self.remove_in(at / BLOCK, from, to));
         removed
     }
 

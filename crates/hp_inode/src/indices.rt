@@ -1,10 +1,11 @@
 //! The indices of a file that has entries, or was to have some.
-ghost use Rattle.std.specs.Prelude.{ℕ, ◌≡◌, ◌+◌, ◌*◌, ◌/◌, ◌<◌, ◌≤◌, ◌^◌, [], length, drop, OnOk, OnErr, MatchOption, None, false};
+ghost use Rattle.std.specs.Prelude.{ℕ, ◌≡◌, ◌+◌, ◌*◌, ◌/◌, ◌<◌, ◌≤◌, ◌^◌, [], length, drop, OnOk, OnErr, false};
 ghost use Rattle.std.specs.List.{slice_set, count_by, All};
 ghost use Rattle.hp_model.specs.files.File.{is_entered, is_hole, has_page, page_of, entered, at_least, cell_in, cells_to};
-ghost use Rattle.hp_model.specs.Lists.{edit_range, part, found};
+ghost use Rattle.hp_model.specs.Lists.{edit_range, part};
 ghost use Rattle.hp_model.specs.declared.cell.Cell.TheVariants.{Hole, Entered, Present};
 ghost use Rattle.hp_inode.specs.Kept.{cells_of};
+ghost use Rattle.hp_inode.specs.Taking.{TakesPage};
 
 use crate::block::BLOCK;
 use crate::entries::Entries;
@@ -204,14 +205,7 @@ impl Indices {
     }
 
     pub fn take_page(&mut self, a: u64, b: u64) -> Option<PageNo>
-        ensures page { MatchOption (found has_page (part a b self.old.cells))
-            (result ≡ None)
-            (λ p. result ≡ page_of p.1) }
-        ensures cells { MatchOption (found has_page (part a b self.old.cells))
-            (self.new.cells ≡ self.old.cells)
-            (λ p. self.new.cells ≡ slice_set self.old.cells (a + p.0) Hole) }
-        ensures none { result ≡ None → All (λ cell. has_page cell ≡ false)
-            (part a b self.new.cells) }
+        ensures { TakesPage a b self.old.cells self.new.cells result }
     {
         let page = self.take_next(a, b);
         if page.is_none() {
@@ -223,14 +217,7 @@ impl Indices {
     // The same, with tables that stay.
     #[inline(always)]
     fn take_next(&mut self, a: u64, b: u64) -> Option<PageNo>
-        ensures page { MatchOption (found has_page (part a b self.old.cells))
-            (result ≡ None)
-            (λ p. result ≡ page_of p.1) }
-        ensures cells { MatchOption (found has_page (part a b self.old.cells))
-            (self.new.cells ≡ self.old.cells)
-            (λ p. self.new.cells ≡ slice_set self.old.cells (a + p.0) Hole) }
-        ensures none { result ≡ None → All (λ cell. has_page cell ≡ false)
-            (part a b self.new.cells) }
+        ensures { TakesPage a b self.old.cells self.new.cells result }
     {
         let (i, page) = self.table.take_first(a, b)?;
         self.pages -= 1;

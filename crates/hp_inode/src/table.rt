@@ -5,7 +5,7 @@ ghost use Rattle.std.specs.Option.{is_some};
 ghost use Rattle.hp_inode.specs.Blocks.{block_size, most_blocks, page_at, has_slot_at};
 ghost use Rattle.hp_inode.specs.Rows.{page_in, has_slot, TakesFirst};
 
-use crate::block::{BLOCK, within_block};
+use crate::block::{BLOCK, in_each_block, within_block};
 use crate::block_list::BlockList;
 use crate::page_block::PageBlock;
 use hp_model::page_no::PageNo;
@@ -184,13 +184,7 @@ impl PageTable {
         if b <= BLOCK {
             return self.blocks.first_mut().make_slots(a, b);
         }
-        let mut at = a;
-        while at < b {
-            let count = within_block(at, b);
-            let from = at % BLOCK;
-            self.make_in(at / BLOCK, from, from + count)?;
-            at += count;
-        }
+        in_each_block!(a..b, at, from, to => self.make_in(at / BLOCK, from, to)?);
         Ok(())
     }
 

@@ -1,5 +1,5 @@
 -- What contracts see of a mapping.
-use Rattle.std.specs.Prelude.{◌≡◌, ℕ, ◌-◌, ◌<◌, ◌≤◌, ◌&&◌, ◌++◌, Bool, true, false, is_some, if◌then◌else◌, List, drop, length, replicate, slice_index_or, slice_set, take}
+use Rattle.std.specs.Prelude.{◌≡◌, ℕ, ◌-◌, ◌<◌, ◌≤◌, ◌&&◌, ◌++◌, ◌^◌, not, Bool, true, false, is_some, if◌then◌else◌, List, drop, length, replicate, slice_index_or, slice_set, take}
 use Rattle.std.specs.Prelude.{None, Some}
 use Rattle.std.specs.List.{count_by}
 use Rattle.hp_model.specs.declared.place.Place.{Place}
@@ -65,6 +65,17 @@ pub record TakesLowest (a b page : ℕ) (old new : Mapping ℕ) : Type 0 where
 -- the same of a list of places: one is changed; those from a up to b have no copy; they are gone
 abbrev pub at_index : (Place ℕ → Place ℕ) → ℕ → List (Place ℕ) → List (Place ℕ)
 at_index f at places = slice_set places at (f (slice_index_or places at Gone))
+
+-- one gets a copy, and whether it had none is told
+pub record SetsCopy (at page : ℕ) (old new : List (Place ℕ)) (bare : Bool) : Type 0 where
+  pub set : new ≡ at_index (with_copy page) at old
+  pub bare_is : bare ≡ not (has_copy (slice_index_or old at Gone))
+  pub few : length old < 2 ^ 63
+
+-- one leaves, and whether its reservation was there is told
+pub record Leaves (at : ℕ) (old new : List (Place ℕ)) (freed : Bool) : Type 0 where
+  pub left : new ≡ slice_set old at Gone
+  pub freed_is : freed ≡ is_unconsumed (slice_index_or old at Gone)
 
 abbrev pub HasNoCopy : ℕ → ℕ → List (Place ℕ) → Type 0
 HasNoCopy a b places = (k : ℕ) → a ≤ k → k < b → copy_of (slice_index_or places k Gone) ≡ None

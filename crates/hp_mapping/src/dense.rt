@@ -1,8 +1,8 @@
 //! Places that are written from the first one up to the last one that is touched.
-ghost use Rattle.std.specs.Prelude.{◌≡◌, ◌+◌, ◌-◌, ◌^◌, ◌<◌, ◌≤◌, ◌++◌, length, map, not, replicate, slice_index_or, slice_set, vec_capacity, vec_len, IsTrue, IsSome, IfOk};
+ghost use Rattle.std.specs.Prelude.{◌≡◌, ◌+◌, ◌-◌, ◌<◌, ◌≤◌, ◌++◌, length, map, replicate, slice_index_or, vec_capacity, vec_len, IsTrue, IsSome, IfOk};
 ghost use Rattle.hp_model.specs.declared.place.Place.TheVariants.{Gone};
 ghost use Rattle.hp_model.specs.files.Mapping.{is_live, copy_of, is_unconsumed, without_copy, unconsumed};
-ghost use Rattle.hp_mapping.specs.Mapped.{at_index, consumed, fresh, has_copy, with_copy, with_fresh, IsPlaceRun};
+ghost use Rattle.hp_mapping.specs.Mapped.{at_index, consumed, fresh, with_fresh, IsPlaceRun, Leaves, SetsCopy};
 
 use crate::packed_place::{PackedPlace, all_forked, copy_in};
 use hp_model::page_no::PageNo;
@@ -100,15 +100,10 @@ impl Dense {
     /// Says whether the place had no copy.
     pub(crate) fn set_copy(&mut self, at: usize, page: PageNo) -> bool
         requires { at < length self.old }
-        ensures set { self.new ≡ at_index (with_copy page) at self.old }
-        ensures bare { result ≡ not (has_copy (slice_index_or self.old at Gone)) }
-        ensures few { length self.old < 2 ^ 63 }
+        ensures { SetsCopy at page self.old self.new result }
     {
         write_up_to(&mut self.touched, at);
-        let place = &mut self.touched[at];
-        let bare = copy_in(place).is_none();
-        place.set_copy(page);
-        bare
+        self.touched[at].set_copy(page)
     }
 
     pub(crate) fn drop_copy(&mut self, at: usize)
@@ -121,14 +116,10 @@ impl Dense {
     /// Says whether the place's reservation was there.
     pub(crate) fn leave(&mut self, at: usize) -> bool
         requires { at < length self.old }
-        ensures left { self.new ≡ slice_set self.old at Gone }
-        ensures freed { result ≡ is_unconsumed (slice_index_or self.old at Gone) }
+        ensures { Leaves at self.old self.new result }
     {
         write_up_to(&mut self.touched, at);
-        let place = &mut self.touched[at];
-        let freed = place.is_unconsumed();
-        *place = PackedPlace::gone();
-        freed
+        self.touched[at].leave()
     }
 }
 

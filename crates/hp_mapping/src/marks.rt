@@ -1,5 +1,5 @@
 //! The marks of a map, few or many.
-ghost use Rattle.std.specs.Prelude.{◌≡◌, ℕ, ◌*◌, ◌<◌, ◌≤◌, true, false, length, IfOk};
+ghost use Rattle.std.specs.Prelude.{◌≡◌, ℕ, ◌*◌, ◌<◌, ◌≤◌, true, length, IfOk};
 ghost use Rattle.hp_marks.specs.Marks.{marked, FindsFrom};
 ghost use Rattle.hp_mapping.specs.Marks.{IsUnmarkedFrom, ChangesMark};
 
@@ -71,23 +71,15 @@ impl Marks {
         Ok(Marks { form })
     }
 
-    pub(crate) fn mark(&mut self, at: usize)
+    /// Sets or clears a mark.
+    #[inline(always)]
+    pub(crate) fn change(&mut self, at: usize, on: bool)
         requires { at < 64 * length self.old }
-        ensures { ChangesMark at true self.old self.new }
+        ensures { ChangesMark at on self.old self.new }
     {
         match &mut self.form {
-            Form::Few(word) => word.mark(at),
-            Form::Many(marks) => marks.mark(at),
-        }
-    }
-
-    pub(crate) fn unmark(&mut self, at: usize)
-        requires { at < 64 * length self.old }
-        ensures { ChangesMark at false self.old self.new }
-    {
-        match &mut self.form {
-            Form::Few(word) => word.unmark(at),
-            Form::Many(marks) => marks.unmark(at),
+            Form::Few(word) => word.change(at, on),
+            Form::Many(marks) => marks.change(at, on),
         }
     }
 

@@ -1,8 +1,8 @@
 //! One place of a map, with the number of a page as its copy, in a word.
-ghost use Rattle.std.specs.Prelude.{◌≡◌, ◌≤◌, length, map, vec_capacity, IfOk};
+ghost use Rattle.std.specs.Prelude.{◌≡◌, ◌≤◌, length, map, not, vec_capacity, IfOk};
 ghost use Rattle.hp_model.specs.declared.place.Place.TheVariants.{Gone};
 ghost use Rattle.hp_model.specs.files.Mapping.{copy_of, is_live, is_unconsumed, without_copy, unconsumed};
-ghost use Rattle.hp_mapping.specs.Mapped.{consumed, fresh, with_copy};
+ghost use Rattle.hp_mapping.specs.Mapped.{consumed, fresh, has_copy, with_copy};
 
 use hp_model::page_no::PageNo;
 use std::alloc::{AllocError, Global};
@@ -47,13 +47,6 @@ impl PackedPlace {
         PackedPlace { code: BARE }
     }
 
-    /// A place that is not mapped any more.
-    pub(crate) fn gone() -> Self
-        ensures { result ≡ Gone }
-    {
-        PackedPlace { code: 0 }
-    }
-
     /// The place of a child's map.
     pub(crate) fn forked(&self) -> Self
         ensures { result ≡ unconsumed self.now }
@@ -81,12 +74,16 @@ impl PackedPlace {
         self.code |= CONSUMED;
     }
 
-    pub(crate) fn set_copy(&mut self, page: PageNo)
-        ensures { self.new ≡ with_copy page self.old }
+    /// Says whether the place had no copy.
+    pub(crate) fn set_copy(&mut self, page: PageNo) -> bool
+        ensures set { self.new ≡ with_copy page self.old }
+        ensures bare { result ≡ not (has_copy self.old) }
     {
+        let bare = copy_in(self).is_none();
         if self.is_live() {
             self.code = (self.code & CONSUMED) + COPIED + u64::from(page.number());
         }
+        bare
     }
 
     pub(crate) fn drop_copy(&mut self)
@@ -95,6 +92,16 @@ impl PackedPlace {
         if self.is_live() {
             self.code = (self.code & CONSUMED) + BARE;
         }
+    }
+
+    /// The place is not mapped any more. Says whether its reservation was there.
+    pub(crate) fn leave(&mut self) -> bool
+        ensures left { self.new ≡ Gone }
+        ensures freed { result ≡ is_unconsumed self.old }
+    {
+        let freed = self.is_unconsumed();
+        self.code = 0;
+        freed
     }
 }
 

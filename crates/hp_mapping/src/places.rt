@@ -124,7 +124,7 @@ impl Places {
     {
         let bare = self.places.set_copy(at, page);
         self.copy_count += u64::from(bare);
-        self.copies.mark(at);
+        self.copies.change(at, true);
     }
 
     pub(crate) fn drop_copy(&mut self, at: usize)
@@ -132,7 +132,7 @@ impl Places {
         ensures { self.new ≡ at_index without_copy at self.old }
     {
         self.places.drop_copy(at);
-        self.copies.unmark(at);
+        self.copies.change(at, false);
         self.copy_count -= 1;
     }
 
@@ -171,7 +171,7 @@ impl Places {
         ensures freed { result ≡ is_unconsumed (slice_index_or self.old at Gone) }
     {
         let freed = self.places.leave(at);
-        self.live.unmark(at);
+        self.live.change(at, false);
         freed
     }
 

@@ -1,8 +1,8 @@
 //! The places of a map, small or large.
-ghost use Rattle.std.specs.Prelude.{◌≡◌, ◌^◌, ◌<◌, length, map, not, replicate, slice_index_or, slice_set, IsSome, IfOk};
+ghost use Rattle.std.specs.Prelude.{◌≡◌, ◌<◌, length, map, replicate, slice_index_or, IsSome, IfOk};
 ghost use Rattle.hp_model.specs.declared.place.Place.TheVariants.{Gone};
 ghost use Rattle.hp_model.specs.files.Mapping.{is_live, copy_of, is_unconsumed, without_copy, unconsumed};
-ghost use Rattle.hp_mapping.specs.Mapped.{at_index, consumed, fresh, has_copy, with_copy, IsPlaceRun};
+ghost use Rattle.hp_mapping.specs.Mapped.{at_index, consumed, fresh, IsPlaceRun, Leaves, SetsCopy};
 
 use crate::dense::Dense;
 use crate::packed_place::PackedPlace;
@@ -121,9 +121,7 @@ impl Row {
     /// Says whether the place had no copy.
     pub(crate) fn set_copy(&mut self, at: usize, page: PageNo) -> bool
         requires { at < length self.old }
-        ensures set { self.new ≡ at_index (with_copy page) at self.old }
-        ensures bare { result ≡ not (has_copy (slice_index_or self.old at Gone)) }
-        ensures few { length self.old < 2 ^ 63 }
+        ensures { SetsCopy at page self.old self.new result }
     {
         match &mut self.form {
             Form::Dense(dense) => dense.set_copy(at, page),
@@ -144,8 +142,7 @@ impl Row {
     /// Says whether the place's reservation was there.
     pub(crate) fn leave(&mut self, at: usize) -> bool
         requires { at < length self.old }
-        ensures left { self.new ≡ slice_set self.old at Gone }
-        ensures freed { result ≡ is_unconsumed (slice_index_or self.old at Gone) }
+        ensures { Leaves at self.old self.new result }
     {
         match &mut self.form {
             Form::Dense(dense) => dense.leave(at),

@@ -1,8 +1,8 @@
 //! Places of a large map, of which a chunk is written once a place in it is touched.
-ghost use Rattle.std.specs.Prelude.{◌≡◌, ℕ, ◌+◌, ◌*◌, ◌/◌, ◌^◌, ◌<◌, ◌≤◌, ◌++◌, length, map, not, replicate, slice_index, slice_index_or, slice_set, vec_capacity, vec_len, IsSome, IfNone, IfOk, IfSome};
+ghost use Rattle.std.specs.Prelude.{◌≡◌, ℕ, ◌+◌, ◌*◌, ◌/◌, ◌^◌, ◌<◌, ◌≤◌, ◌++◌, length, map, replicate, slice_index, slice_index_or, vec_capacity, vec_len, IsSome, IfNone, IfOk, IfSome};
 ghost use Rattle.hp_model.specs.declared.place.Place.TheVariants.{Gone};
 ghost use Rattle.hp_model.specs.files.Mapping.{is_live, copy_of, is_unconsumed, without_copy, unconsumed};
-ghost use Rattle.hp_mapping.specs.Mapped.{at_index, consumed, fresh, has_copy, with_copy, IsPlaceRun};
+ghost use Rattle.hp_mapping.specs.Mapped.{at_index, consumed, fresh, IsPlaceRun, Leaves, SetsCopy};
 ghost use Rattle.hp_mapping.specs.Chunks.{slot_of, IsChunked, HasChunkRoom, IsSame};
 
 use crate::packed_place::{PackedPlace, all_forked, copy_in};
@@ -131,15 +131,10 @@ impl Sparse {
     /// Says whether the place had no copy.
     pub(crate) fn set_copy(&mut self, at: usize, page: PageNo) -> bool
         requires { at < length self.old }
-        ensures set { self.new ≡ at_index (with_copy page) at self.old }
-        ensures bare { result ≡ not (has_copy (slice_index_or self.old at Gone)) }
-        ensures few { length self.old < 2 ^ 63 }
+        ensures { SetsCopy at page self.old self.new result }
     {
         let slot = touch(&mut self.homes, &mut self.places, at);
-        let place = &mut self.places[slot];
-        let bare = copy_in(place).is_none();
-        place.set_copy(page);
-        bare
+        self.places[slot].set_copy(page)
     }
 
     pub(crate) fn drop_copy(&mut self, at: usize)
@@ -153,14 +148,10 @@ impl Sparse {
     /// Says whether the place's reservation was there.
     pub(crate) fn leave(&mut self, at: usize) -> bool
         requires { at < length self.old }
-        ensures left { self.new ≡ slice_set self.old at Gone }
-        ensures freed { result ≡ is_unconsumed (slice_index_or self.old at Gone) }
+        ensures { Leaves at self.old self.new result }
     {
         let slot = touch(&mut self.homes, &mut self.places, at);
-        let place = &mut self.places[slot];
-        let freed = place.is_unconsumed();
-        *place = PackedPlace::gone();
-        freed
+        self.places[slot].leave()
     }
 }
 

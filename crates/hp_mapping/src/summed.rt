@@ -1,5 +1,5 @@
 //! Many marks, which are found without a step for each number that has none.
-ghost use Rattle.std.specs.Prelude.{◌≡◌, ℕ, ◌*◌, ◌<◌, ◌≤◌, true, false, length, IfOk};
+ghost use Rattle.std.specs.Prelude.{◌≡◌, ℕ, ◌*◌, ◌<◌, ◌≤◌, true, length, IfOk};
 ghost use Rattle.hp_marks.specs.Marks.{marked, FindsFrom};
 ghost use Rattle.hp_mapping.specs.Marks.{IsUnmarkedFrom, ChangesMark};
 
@@ -59,21 +59,15 @@ impl Summed {
         Ok(Summed { words, above })
     }
 
-    pub(crate) fn mark(&mut self, at: usize)
+    /// Sets or clears a mark.
+    #[inline(always)]
+    pub(crate) fn change(&mut self, at: usize, on: bool)
         requires { at < 64 * length self.old }
-        ensures { ChangesMark at true self.old self.new }
+        ensures { ChangesMark at on self.old self.new }
     {
-        change_mark(&mut self.words, at, false, true);
-        change_mark(&mut self.above, at / WORD, false, true);
-    }
-
-    pub(crate) fn unmark(&mut self, at: usize)
-        requires { at < 64 * length self.old }
-        ensures { ChangesMark at false self.old self.new }
-    {
-        change_mark(&mut self.words, at, true, false);
-        if self.words.as_slice()[at / WORD] == 0 {
-            change_mark(&mut self.above, at / WORD, true, false);
+        change_mark(&mut self.words, at, !on, on);
+        if on || self.words.as_slice()[at / WORD] == 0 {
+            change_mark(&mut self.above, at / WORD, !on, on);
         }
     }
 

@@ -1,5 +1,5 @@
 //! Marks in a word.
-ghost use Rattle.std.specs.Prelude.{◌*◌, ◌<◌, ◌≡◌, ℕ, true, false, length};
+ghost use Rattle.std.specs.Prelude.{◌*◌, ◌<◌, ◌≡◌, ℕ, true, length};
 ghost use Rattle.hp_marks.specs.Marks.{marked, FindsFrom};
 ghost use Rattle.hp_mapping.specs.Marks.{IsUnmarkedFrom, ChangesMark};
 
@@ -41,18 +41,13 @@ impl Word {
         Word { bits: self.bits }
     }
 
-    pub(crate) fn mark(&mut self, at: usize)
+    /// Sets or clears a mark.
+    #[inline(always)]
+    pub(crate) fn change(&mut self, at: usize, on: bool)
         requires { at < 64 * length self.old }
-        ensures { ChangesMark at true self.old self.new }
+        ensures { ChangesMark at on self.old self.new }
     {
-        set_mark(&mut self.bits, at, true);
-    }
-
-    pub(crate) fn unmark(&mut self, at: usize)
-        requires { at < 64 * length self.old }
-        ensures { ChangesMark at false self.old self.new }
-    {
-        set_mark(&mut self.bits, at, false);
+        set_mark(&mut self.bits, at, on);
     }
 
     /// The lowest mark from `from` on.

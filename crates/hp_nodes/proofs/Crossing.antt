@@ -7,7 +7,7 @@ use Rattle.hp_nodes.specs.contracts.frames.Frames as Frames
 use Rattle.hp_nodes.specs.contracts.frames.NodeFrames as NodeFrames
 use Rattle.hp_nodes.specs.contracts.lists.NodeLists as NodeLists
 use Rattle.hp_nodes.specs.contracts.page.Page as Page
-use Rattle.hp_permit.proofs.CrossingUnits.{quad_send}
+use Rattle.hp_permit.proofs.CrossingParts.{quad_send}
 use Rattle.std.proofs.Crossing.{crosses}
 
 module _ (N : RattleType) (names : Ghosts N.Denot) where

@@ -2,10 +2,9 @@
 ghost use Rattle.std.specs.Prelude.{◌≡◌, ℕ, ◌+◌, ◌<◌, ◌≤◌, ◌^◌};
 
 use crate::permit::Permit;
-use crate::units::Issuer;
 use hp_model::naming::{Naming, Permits};
 use std::marker::Model;
-use std::sync::ledger::Blank;
+use std::sync::ledger::{self, Blank, Share};
 
 /// Issues permits. Contracts see how much is outstanding, in pages.
 ///
@@ -15,7 +14,9 @@ use std::sync::ledger::Blank;
 /// No call takes memory. It can't be dropped: `close` ends it.
 pub struct Book<N: Naming> {
     outstanding: u64,
-    issuer: Issuer<Permits<N>>,
+    book: ledger::Book<Permits<N>>,
+    // the parts that no permit stands on
+    spare: Share<Permits<N>>,
 }
 
 impl<N: Naming> Model for Book<N> {
@@ -23,7 +24,8 @@ impl<N: Naming> Model for Book<N> {
 
     ghost view = { λ b. b.outstanding };
 
-    ghost invariant = { λ b. b.issuer ≡ b.outstanding };
+    ghost invariant = { λ b. (b.book.total ≡ b.outstanding) × (b.spare.amount ≡ 0)
+        × (b.spare.parts + b.outstanding ≡ 18446744073709551615) };
 }
 
 impl<N: Naming> Book<N> {
@@ -33,9 +35,11 @@ impl<N: Naming> Book<N> {
         requires parts { blank.parts ≡ 18446744073709551615 }
         ensures { result ≡ 0 }
     {
+        let (book, spare) = blank.open::<Permits<N>>();
         Book {
             outstanding: 0,
-            issuer: Issuer::open(blank),
+            book,
+            spare,
         }
     }
 
@@ -52,17 +56,21 @@ impl<N: Naming> Book<N> {
         ensures outstanding { self.new ≡ self.old + amount }
         ensures permit { result ≡ amount }
     {
+        let mut share = self.spare.split_off(amount, 0);
+        if amount > 0 {
+            self.book.add(&mut share, amount);
+        }
         self.outstanding += amount;
-        Permit::new(amount, self.issuer.issue(amount))
+        Permit::new(amount, share)
     }
 
     /// Takes a permit back. Never refused: whoever holds one knows that its amount is outstanding.
     pub fn retire(&mut self, permit: Permit<N>)
         ensures { self.new + permit ≡ self.old }
     {
-        let (amount, mut units) = permit.into_parts();
-        self.issuer.check(&mut units);
-        self.issuer.retire(units, amount);
+        let (amount, mut share) = permit.into_parts();
+        self.book.sub(&mut share, amount);
+        self.spare.merge(share);
         self.outstanding -= amount;
     }
 
@@ -72,7 +80,7 @@ impl<N: Naming> Book<N> {
         ensures permit { permit.new ≡ permit.old }
         ensures within { permit.old ≤ self.old }
     {
-        permit.check(&mut self.issuer);
+        permit.check(&mut self.book);
     }
 
     /// Ends the book. A permit that is still out can't be retired any more.
@@ -81,9 +89,9 @@ impl<N: Naming> Book<N> {
     {
         let Book {
             outstanding,
-            issuer,
+            book: _,
+            spare: _,
         } = self;
-        issuer.close();
         outstanding
     }
 }

@@ -40,17 +40,16 @@ impl<N: Naming> Claim<N> {
         }
     }
 
-    pub(crate) fn into_parts(self) -> (usize, u64, ClaimParts<N>)
-        ensures node { (result.0 ≡ self.node) × (result.0 < 4) }
-        ensures amount { result.1 ≡ self.amount }
-        ensures parts { result.2 ≡ alone self.node self.amount }
+    pub(crate) fn into_parts(self) -> ClaimParts<N>
+        ensures node { self.node < 4 }
+        ensures parts { result ≡ alone self.node self.amount }
     {
         let Claim {
-            node,
-            amount,
+            node: _,
+            amount: _,
             parts,
         } = self;
-        (node, amount, parts)
+        parts
     }
 
     /// The node that the frames are of.
@@ -103,14 +102,13 @@ impl<N: Naming> Claim<N> {
         ensures sum { self.new.amount ≡ self.old.amount + other.amount }
         ensures within { self.new.amount ≤ N.frames self.old.node }
     {
-        let (_, amount, parts) = other.into_parts();
-        self.parts.join(parts);
+        let amount = other.amount;
+        self.parts.join(other.into_parts());
         self.amount += amount;
     }
 
     // Ends it. Its frames can't be claimed any more.
     pub(crate) fn close(self) {
-        let (_, _, parts) = self.into_parts();
-        parts.close();
+        self.into_parts().close();
     }
 }

@@ -77,7 +77,6 @@ impl<N: Naming> ClaimSet<N> {
         ensures within { slice_index self.new claim.node ≤ N.frames claim.node }
         ensures below { claim.node < 4 }
     {
-        let (_, _, parts) = claim.into_parts();
-        self.parts.join(parts);
+        self.parts.join(claim.into_parts());
     }
 }

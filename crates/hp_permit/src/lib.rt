@@ -8,7 +8,6 @@ mod parts;
 mod permit;
 mod quad;
 mod redeemed;
-mod units;
 
 pub use book::Book;
 pub use claim::Claim;
@@ -17,4 +16,3 @@ pub use parts::Parts;
 pub use permit::Permit;
 pub use quad::Quad;
 pub use redeemed::Redeemed;
-pub use units::{Issuer, Units};

@@ -1,9 +1,9 @@
 //! Permits.
 ghost use Rattle.std.specs.Prelude.{◌≡◌, ℕ, ◌+◌, ◌≤◌};
 
-use crate::units::{Issuer, Units};
 use hp_model::naming::{Naming, Permits};
 use std::marker::Model;
+use std::sync::ledger::{self, Share};
 
 /// A promise of so many pages, which counts as outstanding until it is retired. Contracts see the
 /// amount.
@@ -12,7 +12,8 @@ use std::marker::Model;
 /// that it counts in, so it can only be retired by the book that issued it.
 pub struct Permit<N: Naming> {
     amount: u64,
-    units: Units<Permits<N>>,
+    // each page has a part of its own to stand on, so any number of holders can split them
+    share: Share<Permits<N>>,
 }
 
 impl<N: Naming> Model for Permit<N> {
@@ -20,32 +21,33 @@ impl<N: Naming> Model for Permit<N> {
 
     ghost view = { λ p. p.amount };
 
-    ghost invariant = { λ p. p.units ≡ p.amount };
+    ghost invariant = { λ p. (p.share.amount ≡ p.amount) × (p.share.parts ≡ p.amount) };
 }
 
 impl<N: Naming> Permit<N> {
-    pub(crate) fn new(amount: u64, units: Units<Permits<N>>) -> Self
-        requires { units ≡ amount }
+    pub(crate) fn new(amount: u64, share: Share<Permits<N>>) -> Self
+        requires amount { share.amount ≡ amount }
+        requires parts { share.parts ≡ amount }
         ensures { result ≡ amount }
     {
-        Permit { amount, units }
+        Permit { amount, share }
     }
 
-    pub(crate) fn into_parts(self) -> (u64, Units<Permits<N>>)
+    pub(crate) fn into_parts(self) -> (u64, Share<Permits<N>>)
         ensures amount { result.0 ≡ self }
-        ensures units { result.1 ≡ self }
+        ensures share { (result.1.amount ≡ self) × (result.1.parts ≡ self) }
     {
-        let Permit { amount, units } = self;
-        (amount, units)
+        let Permit { amount, share } = self;
+        (amount, share)
     }
 
-    // Shows that the amount is at most what the issuer has out.
-    pub(crate) fn check(&mut self, issuer: &mut Issuer<Permits<N>>)
-        ensures issuer { issuer.new ≡ issuer.old }
+    // Shows that the amount is at most what the book has out.
+    pub(crate) fn check(&mut self, book: &mut ledger::Book<Permits<N>>)
+        ensures book { book.new.total ≡ book.old.total }
         ensures permit { self.new ≡ self.old }
-        ensures within { self.old ≤ issuer.old }
+        ensures within { self.old ≤ book.old.total }
     {
-        issuer.check(&mut self.units);
+        book.audit(&mut self.share);
     }
 
     /// How many pages it promises.
@@ -64,7 +66,7 @@ impl<N: Naming> Permit<N> {
         self.amount -= amount;
         Permit {
             amount,
-            units: self.units.split(amount),
+            share: self.share.split_off(amount, amount),
         }
     }
 
@@ -72,8 +74,8 @@ impl<N: Naming> Permit<N> {
     pub fn join(&mut self, other: Permit<N>)
         ensures sum { self.new ≡ self.old + other }
     {
-        let Permit { amount, units } = other;
-        self.units.join(units);
+        let Permit { amount, share } = other;
+        self.share.merge(share);
         self.amount += amount;
     }
 
@@ -81,7 +83,9 @@ impl<N: Naming> Permit<N> {
     pub fn close(self)
         requires { self ≡ 0 }
     {
-        let Permit { amount: _, units } = self;
-        units.close();
+        let Permit {
+            amount: _,
+            share: _,
+        } = self;
     }
 }

@@ -4,7 +4,9 @@
 --     indices_of xs      the set of what they hold
 --     range_added a b xs, range_removed a b xs      the intervals with the indices from a up to b, and without them
 --     covered a b xs      how many of these they hold
-use Rattle.std.specs.Prelude.{ℕ, ◌+◌, ◌-◌, ◌<◌, ◌≤◌, min, max, Bool, false, ◌||◌, List, [], ◌∷◌, ◌++◌, if◌then◌else◌, nat_lt}
+use Rattle.std.specs.Prelude.{ℕ, ◌≡◌, ◌+◌, ◌-◌, ◌<◌, ◌≤◌, min, max, vec_capacity, vec_len, Bool, false, ◌||◌, List, [], ◌∷◌, ◌++◌, if◌then◌else◌, nat_lt}
+use Rattle.std.specs.Prelude.{Result, IsOk, OnErr, OnOk}
+use Rattle.std.specs.Global.{Vec}
 use Rattle.std.specs.Ordering.{nat_cmp}
 use Rattle.std.specs.FinSet as set
 use Rattle.hp_model.specs.beside.Ranges.{within}
@@ -29,6 +31,13 @@ range_added a b (s ∷ ss) =
     if nat_lt s.end a then s ∷ range_added a b ss
     else if nat_lt b s.start then record { start = a; end = b } ∷ s ∷ ss
     else range_added (min a s.start) (max b s.end) ss
+
+-- they become others; only with no room may it ask for memory, it takes room for one at most, and at an error they stay
+pub record AreEdited {E : Type 0} (wanted : List Span) (old new : Vec Span) (result : Result (Unit {0}) E) : Type 0 where
+  pub ok : OnOk result (new.items ≡ wanted)
+  pub err : OnErr result (new.items ≡ old.items)
+  pub in_room : vec_len old < vec_capacity old → IsOk result
+  pub room : vec_capacity old + vec_len new ≤ vec_capacity new + vec_len old + 1
 
 -- what is left of an interval below a, and from b on
 abbrev pub left_piece : ℕ → Span → List Span

@@ -1,13 +1,20 @@
 -- The task table as it is kept.
-use Rattle.std.specs.Prelude.{◌≡◌, ℕ, ◌*◌, ◌%◌, ◌/◌, ◌^◌, ◌<◌, ◌≤◌, ◌==◌, Bool, false, bit_xor, List, length, Option, None, Some}
+use Rattle.std.specs.Prelude.{◌≡◌, ℕ, ◌*◌, ◌%◌, ◌/◌, ◌^◌, ◌<◌, ◌≤◌, ◌==◌, Bool, false, bit_xor, Ok, List, [], ◌∷◌, length, Option, None, Some}
 use Rattle.std.specs.List.{count_by, filter_map, slice_index_or}
 use Rattle.std.specs.List.Sorted.{IsNonDecreasing}
-use Rattle.hp_model.specs.machine.Table.{Table}
+use Rattle.hp_model.specs.declared.answer.Answer.TheVariants.{Done}
+use Rattle.hp_model.specs.declared.refusal.Refusal.TheVariants.{TaskExists, TooMany}
+use Rattle.hp_model.specs.machine.Plan.{Reply}
+use Rattle.hp_model.specs.machine.Table.{Table, added, is_crowded, is_known, or_refused}
 use Rattle.hp_model.specs.Profile.{most_tasks}
 
 -- no task is there twice
 abbrev pub HasEachOnce : Table → Type 0
 HasEachOnce tasks = (task : ℕ) → count_by (λ e. e.0 == task) tasks ≤ 1
+
+-- a task is added where it is not there and there is room for it, and else refused
+abbrev pub add_new : Table → (task home : ℕ) → Reply × Table
+add_new table task home = or_refused ((is_known table task, TaskExists) ∷ (is_crowded table, TooMany) ∷ []) table (Ok Done, added table task home)
 
 -- a task with its home, or a gap
 abbrev pub TaskRow : Type 0

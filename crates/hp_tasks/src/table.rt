@@ -49,7 +49,7 @@ ghost use Rattle.hp_model.specs.declared.refusal.Refusal.TheVariants as Refusal;
 ghost use Rattle.hp_model.specs.beside.Accesses.{done_reply};
 ghost use Rattle.hp_model.specs.Profile.{most_tasks};
 ghost use Rattle.hp_model.specs.machine.Table.{home_of, added, removed, is_known, is_crowded, table_event};
-ghost use Rattle.hp_tasks.specs.Table.{AreNoted, HasEachOnce, IsAlone, has_rest, has_task, task_rest, task_row_at, tasks_in, rests};
+ghost use Rattle.hp_tasks.specs.Table.{AreNoted, HasEachOnce, IsAlone, add_new, has_rest, has_task, task_rest, task_row_at, tasks_in, rests};
 
 // Which number stands for a task's.
 fn rest_of(task: u64) -> usize
@@ -203,6 +203,20 @@ impl TaskTable {
         self.tasks += 1;
     }
 
+    // Adds a task, with its home node. Refused as TaskExists or TooMany; then nothing changes.
+    fn add_new(&mut self, task: u64, home: u64) -> Result<(), Refusal>
+        ensures { add_new self.old task home ≡ (done_reply result, self.new) }
+    {
+        if self.home(task).is_some() {
+            return Err(Refusal::TaskExists);
+        }
+        if self.is_full() {
+            return Err(Refusal::TooMany);
+        }
+        self.add(task, home);
+        Ok(())
+    }
+
     /// Adds a child of a task, with its home node. Refused as NoSuchTask, TaskExists or TooMany; then nothing changes.
     pub fn add_child(&mut self, parent: u64, child: u64) -> Result<(), Refusal>
         ensures { (nodes : ℕ) → table_event nodes self.old (FindAndAdd parent child)
@@ -211,14 +225,7 @@ impl TaskTable {
         let Some(home) = self.home(parent) else {
             return Err(Refusal::NoSuchTask);
         };
-        if self.home(child).is_some() {
-            return Err(Refusal::TaskExists);
-        }
-        if self.is_full() {
-            return Err(Refusal::TooMany);
-        }
-        self.add(child, home);
-        Ok(())
+        self.add_new(child, home)
     }
 
     /// Takes a task out, if it is there. What stands behind it stays where it is.
@@ -241,14 +248,7 @@ impl TaskTable {
         if home >= nodes {
             return Err(Refusal::NoSuchNode);
         }
-        if self.home(task).is_some() {
-            return Err(Refusal::TaskExists);
-        }
-        if self.is_full() {
-            return Err(Refusal::TooMany);
-        }
-        self.add(task, home);
-        Ok(())
+        self.add_new(task, home)
     }
 
     /// Takes a task out. Refused as NoSuchTask where it is not there, and then nothing changes. It asks for no memory.

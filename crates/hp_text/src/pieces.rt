@@ -1,16 +1,14 @@
 //! The pieces that a text is cut into at a separator.
-ghost use Rattle.std.specs.Prelude.{◌≡◌, ◌∷◌, ◌++◌, ◌==◌};
+ghost use Rattle.std.specs.Prelude.{◌≡◌, ◌==◌};
 ghost use Rattle.std.specs.List.{position};
-ghost use Rattle.hp_text.specs.Pieces.{pieces_by, pieces_after, from_separator};
+ghost use Rattle.hp_text.specs.Pieces.{IsFirstPiece};
 
 use memchr::memchr;
 
 /// What stands before the first separator, and what stands after it. With no separator the whole text is the one piece.
 #[inline(always)]
 pub fn first_piece(separator: u8, text: &[u8]) -> (&[u8], Option<&[u8]>)
-    ensures pieces { pieces_by separator text.now
-        ≡ result.0.now ∷ pieces_after separator result.1 }
-    ensures whole { text.now ≡ result.0.now ++ from_separator separator result.1 }
+    ensures { IsFirstPiece separator text.now result.0.now result.1 }
 {
     cut_at(separator, text, place_of(separator, text))
 }
@@ -18,9 +16,7 @@ pub fn first_piece(separator: u8, text: &[u8]) -> (&[u8], Option<&[u8]>)
 /// As `first_piece`, for pieces that may be long: the separator is looked for in many bytes at a time.
 #[inline(always)]
 pub fn first_long_piece(separator: u8, text: &[u8]) -> (&[u8], Option<&[u8]>)
-    ensures pieces { pieces_by separator text.now
-        ≡ result.0.now ∷ pieces_after separator result.1 }
-    ensures whole { text.now ≡ result.0.now ++ from_separator separator result.1 }
+    ensures { IsFirstPiece separator text.now result.0.now result.1 }
 {
     cut_at(separator, text, far_place_of(separator, text))
 }
@@ -28,10 +24,8 @@ pub fn first_long_piece(separator: u8, text: &[u8]) -> (&[u8], Option<&[u8]>)
 // A text cut at the place of its first separator, if it has one.
 #[inline(always)]
 fn cut_at(separator: u8, text: &[u8], place: Option<usize>) -> (&[u8], Option<&[u8]>)
-    requires first { place ≡ position (λ b. b == separator) text.now }
-    ensures pieces { pieces_by separator text.now
-        ≡ result.0.now ∷ pieces_after separator result.1 }
-    ensures whole { text.now ≡ result.0.now ++ from_separator separator result.1 }
+    requires { place ≡ position (λ b. b == separator) text.now }
+    ensures { IsFirstPiece separator text.now result.0.now result.1 }
 {
     match place {
         None => (text, None),

@@ -8,5 +8,5 @@ push_bare-requires c =
     let home : c.len-home.result / 64 ≡ length c.args.slots.now.items / 64 = ap (λ n. n / 64) (c.len-home.ensures ∙ c.args.slots.now.ok.0) in
     omega (arith, room_there c.args.homes.now.items c.args.slots.now.items c.args.at (c.len-home.result / 64) c.requires.given c.requires.none home _ c.requires.room, c.args.slots.now.ok.0)
 
-pub returns-clause-rows : goal.returns-clause-rows
-returns-clause-rows c = grind (arith, common_steps, rows_more)
+pub returns : goal.returns
+returns c = grind (arith, common_steps, rows_more)

@@ -3,5 +3,9 @@ use Rattle.std.proofs.Common.{arith}
 use Rattle.hp_mapping.proofs.Untouched.{get_after, long, set_after}
 use Rattle.hp_mapping.proofs.dense.Dense.set_copy.Goals as goal
 
-pub returns-clause-set : goal.returns-clause-set
-returns-clause-set c = grind (arith, common_steps, get_after, long, set_after)
+pub returns : goal.returns
+returns c = record {
+  set = grind (arith, common_steps, get_after, long, set_after);
+  bare_is = grind (arith, common_steps, get_after, long);
+  few = grind (arith, common_steps, long);
+}

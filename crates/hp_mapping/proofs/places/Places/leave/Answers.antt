@@ -9,4 +9,4 @@ invariant_of-self c =
     let live : is_live (slice_index_or c.self.inside.places c.args.at Gone) ≡ true = rw (← c.self.view_is) at c.requires.live in
     let clear : copy_of (slice_index_or c.self.inside.places c.args.at Gone) ≡ None = rw (← c.self.view_is) at c.requires.clear in
     rw c.leave-freed.ensures.left (counted_left c.self.inside.copy_count c.self.inside.places c.self.inside.live c.self.inside.copies
-    c.unmark.new.self c.args.at c.self.invariant live clear c.unmark.ensures)
+    c.change.new.self c.args.at c.self.invariant live clear c.change.ensures)

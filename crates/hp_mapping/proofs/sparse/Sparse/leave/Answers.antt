@@ -6,8 +6,5 @@ use Rattle.hp_mapping.proofs.sparse.Sparse.leave.Goals as goal
 pub touch-slot-requires-clause-within : goal.touch-slot-requires-clause-within
 touch-slot-requires-clause-within c = grind (arith, common_steps, long)
 
-pub returns-clause-left : goal.returns-clause-left
-returns-clause-left c = grind (arith, common_steps, long, set_touched)
-
-pub returns-clause-freed : goal.returns-clause-freed
-returns-clause-freed c = grind (arith, common_steps, get_touched, long)
+pub returns : goal.returns
+returns c = record { left = grind (arith, common_steps, long, set_touched); freed_is = grind (arith, common_steps, get_touched, long) }

@@ -10,11 +10,9 @@ twice false = refl
 pub touch-slot-requires-clause-within : goal.touch-slot-requires-clause-within
 touch-slot-requires-clause-within c = grind (arith, common_steps, long)
 
-pub returns-clause-set : goal.returns-clause-set
-returns-clause-set c = grind (arith, common_steps, get_touched, long, set_touched)
-
-pub returns-clause-bare : goal.returns-clause-bare
-returns-clause-bare c = grind (arith, common_steps, get_touched, long, twice)
-
-pub returns-clause-few : goal.returns-clause-few
-returns-clause-few c = grind (arith, common_steps, long)
+pub returns : goal.returns
+returns c = record {
+  set = grind (arith, common_steps, get_touched, long, set_touched);
+  bare_is = grind (arith, common_steps, get_touched, long, twice);
+  few = grind (arith, common_steps, long);
+}

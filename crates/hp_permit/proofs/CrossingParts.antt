@@ -1,4 +1,4 @@
--- What units and their issuer own names no thread.
+-- What the books of ledgers, and parts of them, own names no thread.
 use Rattle.std.proofs.Common.{ℕ, zero, suc, List, [], ◌∷◌}
 use base.Shift.{Keyless}
 use denote.Param.Send.{IsSend, owning_send, sendable}
@@ -7,8 +7,6 @@ use Rattle.std.specs.Sync.Ledger.{chain, row, Rule, book_owns, share_owns}
 use Rattle.std.specs.declared.sync.ledger.Ledger.{Ghosts}
 use Rattle.std.specs.contracts.sync.ledger.Book as Book
 use Rattle.std.specs.contracts.sync.ledger.Share as Share
-use Rattle.hp_permit.specs.contracts.units.Issuer as Issuer
-use Rattle.hp_permit.specs.contracts.units.Units as Units
 use Rattle.hp_permit.specs.contracts.parts.Parts as Parts
 use Rattle.hp_permit.specs.contracts.quad.Quad as Quad
 
@@ -32,17 +30,11 @@ unfolding share_owns
 share-keyless name parts held amount = (rule-keyless name parts, λ i. row-keyless (suc i) (held, amount) name)
 
 module _ (L : RattleType) (g : Ghosts L.Denot) where
-  book_send : IsSend (Book.the_row L g)
+  pub book_send : IsSend (Book.the_row L g)
   book_send = owning_send (Book.the_type L g) (search sendable, tt) (λ b. book-keyless g.name g.parts b.total) (λ k x w. tt)
 
-  share_send : IsSend (Share.the_row L g)
+  pub share_send : IsSend (Share.the_row L g)
   share_send = owning_send (Share.the_type L g) (search sendable, tt) (λ s. share-keyless g.name g.parts s.parts s.amount) (λ k x w. tt)
-
-  pub issuer_send : IsSend (Issuer.the_row L g)
-  issuer_send = search (sendable, book_send, share_send) depth 20
-
-  pub units_send : IsSend (Units.the_row L g)
-  units_send = search (sendable, share_send) depth 20
 
   pub parts_send : IsSend (Parts.the_row L g)
   parts_send = search (sendable, share_send) depth 20
