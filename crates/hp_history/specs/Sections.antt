@@ -1,5 +1,6 @@
 -- What seats have before, while and after an event, and what a part under its lock has.
 use Rattle.std.specs.Prelude.{◌≡◌, ◌⊎◌, ℕ, Bool, true, Option, None, Some, Ok, List, [], ◌∷◌, ◌++◌, length}
+use Rattle.atomic_table.specs.Seated.{TableId}
 use Rattle.hp_model.specs.declared.entry.Asked.{Asked}
 use Rattle.hp_model.specs.declared.entry.PoolEntry.{PoolEntry}
 use Rattle.hp_model.specs.declared.entry.PoolEntry.TheVariants.{OfPool, OfSlot}
@@ -116,6 +117,24 @@ told_more v r = Session (number_in v) (receipts_in v ++ r ∷ [])
 -- a seat with the pool and a session, once the pool answered so
 abbrev pub pool_over : PoolEvent → Reply → List Held → List Held
 pool_over e r v = pool_with e r (entries_of_pool v) ∷ told_more v (pool_receipt e r (length (entries_of_pool v))) ∷ []
+
+-- ---- seats at one history
+
+-- one that waits for nothing
+pub record IsSeat (history : TableId) (id : TableId) (me : List Held × List (ℕ × Unit {0})) : Type 0 where
+  pub named : id ≡ history
+  pub alone : me.1 ≡ []
+
+-- a slot's and a session's, which entered no section either
+pub record IsFreeSeat (history : TableId) (id : TableId) (me : List Held × List (ℕ × Unit {0})) : Type 0 where
+  pub named : id ≡ history
+  pub free : IsFree me.0
+  pub alone : me.1 ≡ []
+
+-- the pool's, which has its trail
+pub record HasPool (history : TableId) (id : TableId) (views : List (List Held)) : Type 0 where
+  pub named : id ≡ history
+  pub one : views ≡ pool_view views ∷ []
 
 -- ---- what no event is
 

@@ -13,7 +13,7 @@ pub use held::Held;
 pub use history::{History, Opened};
 use hp_laws::trails_join;
 pub use law::{Change, Law, Places, Shape, Stepped, Token, View};
-pub use section::{PoolAnswer, SlotAnswer};
+pub use section::Answered;
 
 /// Look-ups that agree with the table at their places, put between the events of a run, are events of it.
 pub fn look_ups_stand_between()

@@ -1,26 +1,26 @@
 //! Events as they stand in the history.
 ghost use Rattle.std.specs.Prelude.{◌≡◌, ◌∷◌, [], length};
 ghost use Rattle.hp_history.specs.History.{IsSession};
-ghost use Rattle.hp_history.specs.Sections.{IsFree, IsHeld, asked_in, busy, section_at, pool_in, pool_next, pool_receipt, pool_view, pool_with, receipts_next, told_more, trail_next};
+ghost use Rattle.hp_history.specs.Sections.{HasPool, IsFreeSeat, IsHeld, IsSeat, asked_in, busy, section_at, pool_in, pool_next, pool_receipt, pool_with, receipts_next, told_more, trail_next};
 
 use crate::history::History;
 use crate::law::{Places, Token, View};
 use atomic_table::Badge;
 use hp_model::entry::Asked;
+use hp_model::event::{PoolEvent, SlotEvent};
 use std::marker::Brand;
 use std::mem;
 
-/// An event of a slot with its reply, to a proof.
-pub trait SlotAnswer {
-    ghost use Rattle.hp_model.specs.declared.event.SlotEvent.{SlotEvent};
+/// An event with its reply, to a proof.
+pub trait Answered<E> {
     ghost use Rattle.hp_model.specs.machine.Plan.{Reply};
 
-    ghost event: { SlotEvent };
+    ghost event: { E };
 
     ghost reply: { Reply };
 }
 
-impl SlotAnswer for Brand {
+impl Answered<SlotEvent> for Brand {
     ghost use Rattle.hp_history.specs.Sections.{no_reply, no_slot_event};
 
     ghost event = { no_slot_event };
@@ -28,17 +28,7 @@ impl SlotAnswer for Brand {
     ghost reply = { no_reply };
 }
 
-/// An event of the pool alone with its reply, to a proof.
-pub trait PoolAnswer {
-    ghost use Rattle.hp_model.specs.declared.event.PoolEvent.{PoolEvent};
-    ghost use Rattle.hp_model.specs.machine.Plan.{Reply};
-
-    ghost event: { PoolEvent };
-
-    ghost reply: { Reply };
-}
-
-impl PoolAnswer for Brand {
+impl Answered<PoolEvent> for Brand {
     ghost use Rattle.hp_history.specs.Sections.{no_pool_event, no_reply};
 
     ghost event = { no_pool_event };
@@ -50,11 +40,8 @@ impl<J: Places> History<J> {
     /// Under the pool's lock: the event of a slot that is held stands in the order from here on. The pool's trail has its section.
     #[inline(always)]
     pub fn enter(&self, pool: &mut Badge<View>, mine: &mut Token, asked: Asked)
-        requires pool { pool.old.table_id ≡ J.history }
-        requires trail { pool.old.views ≡ (pool_view pool.old.views) ∷ [] }
-        requires seat { mine.old.table_id ≡ J.history }
-        requires free { IsFree mine.old.me.0 }
-        requires none { mine.old.me.1 ≡ [] }
+        requires pool { HasPool J.history pool.old.table_id pool.old.views }
+        requires mine { IsFreeSeat J.history mine.old.table_id mine.old.me }
         ensures pool { pool.new.table_id ≡ J.history }
         ensures trail { pool.new.views ≡ (pool_next asked (pool_in pool.old.views) ∷ []) ∷ [] }
         ensures seat { mine.new.table_id ≡ J.history }
@@ -69,7 +56,7 @@ impl<J: Places> History<J> {
     /// Under a slot's lock: its event is over, and the session has its receipt. Where the event entered a section it stands in the
     /// order there, though others may have gone on since; else behind all. What is told is for the proof alone.
     #[inline(always)]
-    pub fn leave<X: SlotAnswer, I: Drop>(&self, mine: &mut Token, told: I) -> Badge<View>
+    pub fn leave<X: Answered<SlotEvent>, I: Drop>(&self, mine: &mut Token, told: I) -> Badge<View>
         requires seat { mine.old.table_id ≡ J.history }
         requires held { IsHeld mine.old.me.0 }
         requires none { mine.old.me.1 ≡ [] }
@@ -86,17 +73,15 @@ impl<J: Places> History<J> {
 
     /// Under the pool's lock: an event of the pool alone, of which the session has its receipt. What is told is for the proof alone.
     #[inline(always)]
-    pub fn answer_pool<X: PoolAnswer, I: Drop>(
+    pub fn answer_pool<X: Answered<PoolEvent>, I: Drop>(
         &self,
         pool: &mut Badge<View>,
         mine: &mut Token,
         told: I,
     )
-        requires pool { pool.old.table_id ≡ J.history }
-        requires trail { pool.old.views ≡ (pool_view pool.old.views) ∷ [] }
-        requires seat { mine.old.table_id ≡ J.history }
+        requires pool { HasPool J.history pool.old.table_id pool.old.views }
+        requires mine { IsSeat J.history mine.old.table_id mine.old.me }
         requires session { IsSession mine.old.me.0 }
-        requires none { mine.old.me.1 ≡ [] }
         ensures pool { pool.new.table_id ≡ J.history }
         ensures trail { pool.new.views
             ≡ (pool_with X.event X.reply (pool_in pool.old.views) ∷ []) ∷ [] }

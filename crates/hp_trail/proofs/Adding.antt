@@ -6,7 +6,7 @@ use Rattle.std.proofs.lemmas.List.{get_or-set_same, get_or-set_other, length-set
 use Rattle.hp_laws.proofs.Variants.{Asked, AtPool, AtSlot, Part, PoolEntry, Receipt}
 use Rattle.hp_model.specs.declared.entry.Part.TheVariants.{Tasks}
 use Rattle.hp_model.proofs.Words.{Entry, InSlot, InTasks, Trails, entry_at, event_of, of_pool, slot_trail}
-use Rattle.hp_trail.specs.Tellers.{Added, AddsPool, AddsSlot, AddsTask, ClaimsSection, Fit, Stands, TellerRows, asked_section, teller}
+use Rattle.hp_trail.specs.Tellers.{Added, AddsEntry, AddsSlot, ClaimsSection, Fit, Stands, TellerRows, asked_section, entry_of_tasks, teller}
 use Rattle.hp_trail.proofs.Indexing.{claim_long, claim_other, claim_same, row_there, some_is}
 
 module _ (t : Trails) (w : TellerRows) (r : Receipt) (s : ℕ) (fit : Fit t w) where
@@ -19,7 +19,7 @@ module _ (t : Trails) (w : TellerRows) (r : Receipt) (s : ℕ) (fit : Fit t w) w
       → (teller w' part place ≡ teller w part place) ⊎ (place ≡ r.place) → Others e w' part place
   one_row e w' part place is h = grind (arith, common_steps)
 
-  pub added_task : (row' : List ℕ) → r.part ≡ Tasks → AddsTask t.tasks w.tasks r s row' → Added t r s w (record w { tasks = row' })
+  pub added_task : (row' : List ℕ) → r.part ≡ Tasks → AddsEntry entry_of_tasks t.tasks w.tasks r s row' → Added t r s w (record w { tasks = row' })
   added_task row' is a = record {
     entry = InTasks a.0;
     tells = record {
@@ -42,7 +42,7 @@ module _ (t : Trails) (w : TellerRows) (r : Receipt) (s : ℕ) (fit : Fit t w) w
       → (e : Entry) × (of_pool x ≡ Some e) × (event_of e ≡ (r.event, r.reply)) × (asked_section e ≡ None)
   event_of_pool x e = grind (arith, common_steps)
 
-  pub added_pool : (row' : List ℕ) → r.part ≡ AtPool → AddsPool t.pool w.pool r s row' → Added t r s w (record w { pool = row' })
+  pub added_pool : (row' : List ℕ) → r.part ≡ AtPool → AddsEntry of_pool t.pool w.pool r s row' → Added t r s w (record w { pool = row' })
   added_pool row' is a = (
       let x = event_of_pool a.0 a.1.same in
       record {

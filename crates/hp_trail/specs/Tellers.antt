@@ -12,7 +12,7 @@ use Rattle.hp_model.specs.declared.entry.SlotEntry.{SlotEntry}
 use Rattle.hp_model.specs.declared.entry.TableEntry.{TableEntry}
 use Rattle.hp_model.specs.declared.section.PoolAnswer.{PoolAnswer}
 use Rattle.hp_model.specs.declared.section.Section.{Section}
-use Rattle.hp_model.specs.threads.Differ.{Asks, HasReceipt, entry_at, of_pool}
+use Rattle.hp_model.specs.threads.Differ.{Asks, HasReceipt, entry_at}
 use Rattle.hp_model.specs.threads.JointRun.{Trails, slot_trail, Entry, InTasks, InSlot, InPool, event_of}
 
 -- for each place of each trail the number of the session that tells of it, plus 1, or 0
@@ -124,18 +124,6 @@ entry_of_tasks e = Some (InTasks e)
 
 abbrev pub entry_of_slot : ℕ → SlotEntry → Option Entry
 entry_of_slot k e = Some (InSlot k e)
-
-abbrev pub AddsTask : List TableEntry → List ℕ → Receipt → ℕ → List ℕ → Type 0
-AddsTask = AddsEntry entry_of_tasks
-
-abbrev pub RefusesTask : List TableEntry → List ℕ → Receipt → Type 0
-RefusesTask = RefusesEntry entry_of_tasks
-
-abbrev pub AddsPool : List PoolEntry → List ℕ → Receipt → ℕ → List ℕ → Type 0
-AddsPool = AddsEntry of_pool
-
-abbrev pub RefusesPool : List PoolEntry → List ℕ → Receipt → Type 0
-RefusesPool = RefusesEntry of_pool
 
 abbrev pub RefusesSection : List PoolEntry → List ℕ → Option Asked → Type 0
 RefusesSection pool row None = ⊥

@@ -5,6 +5,7 @@ ghost use Rattle.hp_trail.specs.Audit.{IsJointList, IsUnjoined};
 ghost use Rattle.hp_trail.specs.Walk.{AreToldBy, lists, trails_of};
 
 use crate::join::join;
+use crate::trails::Trails;
 use hp_model::entry::{PoolEntry, Receipt, SlotEntry, TableEntry};
 use hp_model::event::Event;
 use hp_model::refusal::Refusal;
@@ -32,7 +33,7 @@ pub fn audit(
         let told = lists receipts.items in
         MatchResult result (λ events. IsJointList t told events.items) (IsUnjoined t told) }
 {
-    let order = match join(alloc, tasks, slots, pool, &receipts) {
+    let order = match join(alloc, Trails { tasks, slots, pool }, &receipts) {
         Ok(Some(order)) => order,
         Ok(None) => return Err(Refusal::TrailsDiffer),
         Err(_) => return Err(Refusal::OutOfMemory),

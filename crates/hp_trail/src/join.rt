@@ -5,27 +5,27 @@ ghost use Rattle.hp_trail.specs.Tellers.{AreTold, teller};
 ghost use Rattle.hp_trail.specs.Walk.{AreCovered, IsWoken, JoinsBy, WalkedBy, cursor, lists, trails_of};
 
 use crate::tellers::Tellers;
+use crate::trails::Trails;
 use crate::walk::Walk;
-use hp_model::entry::{Part, PoolEntry, Receipt, SlotEntry, TableEntry};
+use hp_model::entry::{Part, Receipt};
 use std::alloc::{AllocError, Global};
 
 /// The sessions in an order in which trails and receipts join, each as often as it was told of an
 /// event; None where trails and receipts differ.
 pub(crate) fn join(
     alloc: Global,
-    tasks: &[TableEntry],
-    slots: &[Vec<SlotEntry>],
-    pool: &[PoolEntry],
+    trails: Trails<'_>,
     receipts: &[Vec<Receipt>],
 ) -> Result<Option<Vec<usize>>, AllocError>
-    ensures { let t = trails_of tasks.now slots.now pool.now in
+    ensures { let at = trails.entry in
+        let t = trails_of at.tasks.now at.slots.now at.pool.now in
         let told = lists receipts.now in
         IfOk result (λ r. MatchOption r (Differ t told) (λ order. JoinsBy t told order.items)) }
 {
-    let Some(tellers) = Tellers::list(alloc, tasks, slots, pool, receipts)? else {
+    let Some(tellers) = Tellers::list(alloc, trails, receipts)? else {
         return Ok(None);
     };
-    let mut walk = Walk::open(alloc, tasks, slots, pool, receipts)?;
+    let mut walk = Walk::open(alloc, trails, receipts)?;
     let events = receipts
         .iter()
         .fold(0usize, |sum, told| sum.saturating_add(told.len()));

@@ -9,5 +9,6 @@ mod tellers;
 mod telling;
 pub mod trace;
 pub mod trail;
+mod trails;
 pub mod unkept;
 mod walk;

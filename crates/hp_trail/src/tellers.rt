@@ -5,9 +5,10 @@ ghost use Rattle.std.specs.Option.{option_and_then, option_map};
 ghost use Rattle.hp_model.specs.threads.Differ.{Differ, of_pool};
 ghost use Rattle.hp_model.specs.threads.JointRun.{InTasks, InSlot, event_of};
 ghost use Rattle.hp_trail.specs.Walk.{lists, trails_of};
-ghost use Rattle.hp_trail.specs.Tellers.{Added, AddsPool, AddsSlot, AddsTask, AreTold, Claims, ClaimsSection, Fit, Gap, IsNotFree, IsRefused, NoGap, RefusesPool, RefusesSection, RefusesSlot, RefusesTask, no_tellers, teller};
+ghost use Rattle.hp_trail.specs.Tellers.{Added, AddsEntry, AddsSlot, AreTold, Claims, ClaimsSection, Fit, Gap, IsNotFree, IsRefused, NoGap, RefusesEntry, RefusesSection, RefusesSlot, no_tellers, teller};
 
-use crate::telling::{is_section, tells_pool, tells_slot, tells_task};
+use crate::telling::{Told, is_section, tells_slot};
+use crate::trails::Trails;
 use hp_model::entry::{Asked, Part, PoolEntry, Receipt, SlotEntry, TableEntry};
 use std::alloc::{AllocError, Global};
 use std::marker::Model;
@@ -60,19 +61,23 @@ impl Tellers {
     /// of one slot's entry. None where they differ.
     pub(crate) fn list(
         alloc: Global,
-        tasks: &[TableEntry],
-        slots: &[Vec<SlotEntry>],
-        pool: &[PoolEntry],
+        trails: Trails<'_>,
         receipts: &[Vec<Receipt>],
     ) -> Result<Option<Tellers>, AllocError>
-        ensures { let trails = trails_of tasks.now slots.now pool.now in
+        ensures { let at = trails.entry in
+            let run = trails_of at.tasks.now at.slots.now at.pool.now in
             let told = lists receipts.now in
-            IfOk result (λ r. MatchOption r (Differ trails told) (λ w. AreTold trails told w)) }
+            IfOk result (λ r. MatchOption r (Differ run told) (λ w. AreTold run told w)) }
     {
-        let mut tellers = Tellers::none(alloc, tasks.len(), slots, pool.len())?;
+        let mut tellers = Tellers::none(
+            alloc,
+            trails.tasks.len(),
+            trails.slots,
+            trails.pool.len(),
+        )?;
         for (session, told) in receipts.iter().enumerate() {
             for receipt in told {
-                if !tellers.add(tasks, slots, pool, receipt, session) {
+                if !tellers.add(trails, receipt, session) {
                     return Ok(None);
                 }
             }
@@ -86,23 +91,19 @@ impl Tellers {
     /// Notes that the session tells of the receipt's event, and of its section. Refused where the
     /// receipt does not tell what stands at its place, where the section is not in the pool's
     /// trail, and where a session is noted there already.
-    fn add(
-        &mut self,
-        tasks: &[TableEntry],
-        slots: &[Vec<SlotEntry>],
-        pool: &[PoolEntry],
-        receipt: &Receipt,
-        session: usize,
-    ) -> bool
-        requires fit { Fit (trails_of tasks.now slots.now pool.now) self.old }
+    fn add(&mut self, trails: Trails<'_>, receipt: &Receipt, session: usize) -> bool
+        requires fit { Fit (trails_of trails.tasks.now trails.slots.now trails.pool.now) self.old }
         requires session { session < usize.MAX }
-        ensures added { let trails = trails_of tasks.now slots.now pool.now in
-            result ≡ true → Added trails receipt.now session self.old self.new }
-        ensures refused { let trails = trails_of tasks.now slots.now pool.now in
-            result ≡ false → IsRefused trails receipt.now self.old }
+        ensures added { let at = trails.entry in
+            let run = trails_of at.tasks.now at.slots.now at.pool.now in
+            result ≡ true → Added run receipt.now session self.old self.new }
+        ensures refused { let at = trails.entry in
+            let run = trails_of at.tasks.now at.slots.now at.pool.now in
+            result ≡ false → IsRefused run receipt.now self.old }
     {
+        let Trails { tasks, slots, pool } = trails;
         match receipt.part {
-            Part::Tasks => add_task(&mut self.tasks, tasks, receipt, session),
+            Part::Tasks => add_entry(&mut self.tasks, tasks, receipt, session),
             Part::Slot(slot) => add_slot(
                 &mut self.slots,
                 &mut self.pool,
@@ -112,7 +113,7 @@ impl Tellers {
                 receipt,
                 session,
             ),
-            Part::Pool => add_pool(&mut self.pool, pool, receipt, session),
+            Part::Pool => add_entry(&mut self.pool, pool, receipt, session),
         }
     }
 
@@ -146,18 +147,18 @@ impl Tellers {
     }
 }
 
-fn add_task(row: &mut Vec<usize>, trail: &[TableEntry], receipt: &Receipt, session: usize) -> bool
+fn add_entry<E: Told>(row: &mut Vec<usize>, trail: &[E], receipt: &Receipt, session: usize) -> bool
     requires row { length row.old.items ≡ length trail.now }
     requires session { session < usize.MAX }
     ensures added { let new = row.new.items in
-        result ≡ true → AddsTask trail.now row.old.items receipt.now session new }
-    ensures refused { result ≡ false → RefusesTask trail.now row.old.items receipt.now }
+        result ≡ true → AddsEntry E.entry trail.now row.old.items receipt.now session new }
+    ensures refused { result ≡ false → RefusesEntry E.entry trail.now row.old.items receipt.now }
 {
     let place = receipt.place as usize;
     let Some(entry) = trail.get(place) else {
         return false;
     };
-    tells_task(receipt, entry) && claim(row, place, session)
+    entry.is_told(receipt) && claim(row, place, session)
 }
 
 fn add_slot(
@@ -197,20 +198,6 @@ fn add_slot(
         return false;
     }
     claim_section(pool_row, pool, entry.asked, session)
-}
-
-fn add_pool(row: &mut Vec<usize>, trail: &[PoolEntry], receipt: &Receipt, session: usize) -> bool
-    requires row { length row.old.items ≡ length trail.now }
-    requires session { session < usize.MAX }
-    ensures added { let new = row.new.items in
-        result ≡ true → AddsPool trail.now row.old.items receipt.now session new }
-    ensures refused { result ≡ false → RefusesPool trail.now row.old.items receipt.now }
-{
-    let place = receipt.place as usize;
-    let Some(entry) = trail.get(place) else {
-        return false;
-    };
-    tells_pool(receipt, entry) && claim(row, place, session)
 }
 
 /// Notes the session at a place where none was.

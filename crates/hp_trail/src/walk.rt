@@ -3,6 +3,7 @@ ghost use Rattle.std.specs.Prelude.{◌≡◌, ◌<◌, true, false, length, IfO
 ghost use Rattle.hp_trail.specs.Tellers.{AreRight, HaveSections};
 ghost use Rattle.hp_trail.specs.Walk.{ComesNext, HasReceiptsLeft, HaveEnded, IsLater, IsNext, Passed, SectionStands, at_start, cursor, lists, next_section, part_length, past, past_section, trails_of};
 
+use crate::trails::Trails;
 use hp_model::entry::{Asked, Part, PoolEntry, Receipt, SlotEntry, TableEntry};
 use std::alloc::{AllocError, Global};
 use std::marker::Model;
@@ -46,18 +47,18 @@ impl<'a> Walk<'a> {
     /// At the start of all.
     pub(crate) fn open(
         alloc: Global,
-        tasks: &'a [TableEntry],
-        slots: &'a [Vec<SlotEntry>],
-        pool: &'a [PoolEntry],
+        trails: Trails<'a>,
         receipts: &'a [Vec<Receipt>],
     ) -> Result<Walk<'a>, AllocError>
-        ensures { let trails = trails_of tasks.now slots.now pool.now in
+        ensures { let at = trails.entry in
+            let run = trails_of at.tasks.now at.slots.now at.pool.now in
             IfOk result (λ w. w ≡ record {
-              trails = trails;
+              trails = run;
               receipts = lists receipts.now;
-              cursors = at_start (length slots.now) (length receipts.now);
+              cursors = at_start (length at.slots.now) (length receipts.now);
             }) }
     {
+        let Trails { tasks, slots, pool } = trails;
         let slot_cursors = vec![in alloc; 0usize; slots.len()]?;
         let session_cursors = vec![in alloc; 0usize; receipts.len()]?;
         Ok(Walk {

@@ -1,17 +1,16 @@
 //! Events of a session.
-ghost use Rattle.std.specs.Prelude.{◌≡◌, ◌<◌, ◌≤◌, ◌==◌, Err, ℕ, true, false, length, IfOk, IfErr};
+ghost use Rattle.std.specs.Prelude.{◌≡◌, ◌<◌, ◌==◌, Err, ℕ, true, false, length, IfOk, IfErr};
 ghost use Rattle.std.specs.Bool.{MatchBool};
-ghost use Rattle.hp_laws.specs.Answers.{lists_names};
 ghost use Rattle.hp_model.specs.declared.event.Event.TheVariants.{Tasks as OnTasks, Slot as OnSlot, Pool as OnPool};
 ghost use Rattle.hp_model.specs.declared.event.SlotEvent.TheVariants.{ForkMaps, Ls};
 ghost use Rattle.hp_model.specs.machine.Step.{Script, exit_slot, finding, on_slot};
 ghost use Rattle.hp_model.specs.beside.Told.{told_answer, told_reply};
 ghost use Rattle.hp_model.specs.text.Writing.{IsWithinLimits};
-ghost use Rattle.hp_model.specs.Profile.{most_bytes};
-ghost use Rattle.hp_events.specs.SlotWork.{AreCopiesFor, asked_event, is_of_maps, needs_room};
+ghost use Rattle.hp_events.specs.SlotWork.{AreCopiesFor, asked_event};
 ghost use Rattle.hp_events.specs.Replies.{table_reply};
 ghost use Rattle.hp_sessions.specs.Calls.{Carries, Grows, HasReceiptRoom, IsMade, Leads};
 ghost use Rattle.hp_sessions.specs.Forks.{IsForked};
+ghost use Rattle.hp_sessions.specs.Works.{IsPlain};
 ghost use Rattle.hp_events.specs.Fitting.{HasAnswerOf};
 
 use super::Session;
@@ -71,9 +70,7 @@ impl<P: Parts> Session<P> {
         room: &'b mut [u8],
     ) -> Result<Told<'b>, Refusal>
         requires places { HasReceiptRoom P.keeps 1 self.old }
-        requires room { needs_room work ≡ true → most_bytes ≤ length room.old }
-        requires apart { lists_names (asked_event work) ≡ false }
-        requires always { is_of_maps work ≡ false }
+        requires plain { IsPlain work (length room.old) }
         requires copies { P.keeps ≡ true → AreCopiesFor work copies }
         ensures carried { Carries P.keeps P.page self.old
             (on_slot self.old.slots slot (asked_event work.entry))

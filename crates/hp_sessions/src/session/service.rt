@@ -2,7 +2,7 @@
 ghost use Rattle.hp_sessions.specs.Calls.{IsCallAnswered};
 
 use super::Session;
-use hp_events::Parts;
+use hp_events::{MountEvent, Parts, into_bytes, into_done};
 use hp_model::answer::Reply;
 use hp_model::queued::Queued;
 use hp_model::refusal::Refusal;
@@ -37,11 +37,27 @@ impl<P: Parts> Service for Session<P> {
         count: u64,
         room: &'b mut [u8],
     ) -> Result<&'b [u8], Refusal> {
-        Session::load(self, access, count, room)
+        let event = MountEvent::Load {
+            task: access.task,
+            map: access.map,
+            index: access.index,
+            offset: access.offset,
+            count,
+        };
+        let told = self.of_task(access.task, access.slot, event, room);
+        into_bytes(told)
     }
 
     fn store(&mut self, access: &Access, bytes: &[u8]) -> Result<(), Refusal> {
-        Session::store(self, access, bytes)
+        let event = MountEvent::Store {
+            task: access.task,
+            map: access.map,
+            index: access.index,
+            offset: access.offset,
+            bytes,
+        };
+        let told = self.of_task(access.task, access.slot, event, &mut []);
+        into_done(told)
     }
 
     fn fault(&mut self, access: &Access, intent: Intent) -> Result<(), Refusal> {

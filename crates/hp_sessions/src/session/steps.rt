@@ -11,10 +11,11 @@ ghost use Rattle.hp_events.specs.Event.{as_event, shows_bytes};
 ghost use Rattle.hp_events.specs.SlotWork.{AreCopiesFor, asked_event, carries, is_of_maps, needs_room};
 ghost use Rattle.hp_events.specs.Replies.{table_reply};
 ghost use Rattle.hp_events.specs.declared.work.Work.TheVariants.{Attach as AttachATask, OfTask as OfATask, OnSlot as OnASlot, Pool as ThePool};
+ghost use Rattle.hp_events.specs.declared.event.MountEvent.TheVariants.{Stat as StatFile};
 ghost use Rattle.hp_sessions.specs.Calls.{HasReceiptRoom, IsCallAnswered};
 ghost use Rattle.hp_events.specs.Works.{ListsByLsAlone};
 ghost use Rattle.hp_events.specs.Fitting.{HasAnswerOf};
-ghost use Rattle.hp_sessions.specs.Works.{IsAsked, IsWorked};
+ghost use Rattle.hp_sessions.specs.Works.{IsAsked, IsPlain, IsPlainEvent, IsWorked};
 
 use super::Session;
 use hp_events::copies::Copies;
@@ -84,10 +85,7 @@ impl<P: Parts> Session<P> {
                 *reply = Told::done(self.fault(&access, *intent));
             }
             Step::Stat { slot, name } => {
-                let event = MountEvent::Stat {
-                    name: name.as_slice(),
-                };
-                *reply = self.of_mount(*slot, event, room);
+                *reply = self.stat(*slot, name.as_slice(), room);
             }
             _ => {
                 *reply = self.do_step(step, room);
@@ -106,46 +104,6 @@ impl<P: Parts> Session<P> {
     {
         let work = work_of(step);
         self.do_work(&work, room)
-    }
-
-    /// Does the step of a load of `count` bytes, as `call` does, and answers them in the front of the room.
-    pub fn load<'b>(
-        &mut self,
-        access: &Access,
-        count: u64,
-        room: &'b mut [u8],
-    ) -> Result<&'b [u8], Refusal>
-        requires { most_bytes ≤ length room.old }
-        ensures answered { IsCallAnswered P.keeps P.page self.old
-            (load_step access.now count)
-            (bytes_reply result) self.new }
-        ensures few { IfOk result (λ bytes. length bytes.now ≤ most_bytes) }
-    {
-        let event = MountEvent::Load {
-            task: access.task,
-            map: access.map,
-            index: access.index,
-            offset: access.offset,
-            count,
-        };
-        let told = self.of_task(access.task, access.slot, event, room);
-        into_bytes(told)
-    }
-
-    /// Does the step of a store of these bytes, as `call` does.
-    pub fn store(&mut self, access: &Access, bytes: &[u8]) -> Result<(), Refusal>
-        ensures { IsCallAnswered P.keeps P.page self.old (store_step access.now bytes.now)
-            (done_reply result) self.new }
-    {
-        let event = MountEvent::Store {
-            task: access.task,
-            map: access.map,
-            index: access.index,
-            offset: access.offset,
-            bytes,
-        };
-        let told = self.of_task(access.task, access.slot, event, &mut []);
-        into_done(told)
     }
 
     /// Does the step of a fault, as `call` does.
@@ -190,7 +148,9 @@ impl<P: Parts> Session<P> {
             }
             Work::Umount { slot } => self.on_slot(slot, SlotWork::Umount, room),
             Work::Ls { slot } => self.make_names(slot),
-            Work::OnSlot { slot, event } => self.of_mount(slot, event, room),
+            Work::OnSlot { slot, event } => {
+                self.on_slot(slot, SlotWork::OfMount { home: 0, event }, room)
+            }
             Work::OfTask { task, slot, event } => self.of_task(task, slot, event, room),
         }
     }
@@ -221,23 +181,17 @@ impl<P: Parts> Session<P> {
         self.make_pool(event)
     }
 
-    // An event of a mount.
+    // The size of a file and its pages.
     #[inline(always)]
-    fn of_mount<'b>(
-        &mut self,
-        slot: u64,
-        event: MountEvent<'_>,
-        room: &'b mut [u8],
-    ) -> Result<Told<'b>, Refusal>
-        requires room { shows_bytes event ≡ true → most_bytes ≤ length room.old }
-        requires apart { lists_names (as_event 0 event) ≡ false }
-        ensures worked { IsWorked P.keeps P.page self.old (OnASlot slot event.entry)
+    fn stat<'b>(&mut self, slot: u64, name: &[u8], room: &'b mut [u8]) -> Result<Told<'b>, Refusal>
+        ensures worked { IsWorked P.keeps P.page self.old (OnASlot slot (StatFile name.entry))
             (told_reply result) self.new }
         ensures limits { IsWithinLimits (told_reply result) }
     {
         if self.lacks(1) {
             return Err(Refusal::TraceFull);
         }
+        let event = MountEvent::Stat { name };
         self.on_slot(slot, SlotWork::OfMount { home: 0, event }, room)
     }
 
@@ -250,9 +204,7 @@ impl<P: Parts> Session<P> {
         room: &'b mut [u8],
     ) -> Result<Told<'b>, Refusal>
         requires places { HasReceiptRoom P.keeps 1 self.old }
-        requires room { needs_room work ≡ true → most_bytes ≤ length room.old }
-        requires apart { lists_names (asked_event work) ≡ false }
-        requires always { is_of_maps work ≡ false }
+        requires plain { IsPlain work (length room.old) }
         ensures asked { IsAsked P.keeps P.page self.old slot work.entry (told_reply result)
             self.new }
         ensures limits { IsWithinLimits (told_reply result) }
@@ -265,15 +217,14 @@ impl<P: Parts> Session<P> {
 
     // An event of a mount, for a task that is looked up first.
     #[inline(always)]
-    fn of_task<'b>(
+    pub(super) fn of_task<'b>(
         &mut self,
         task: u64,
         slot: u64,
         event: MountEvent<'_>,
         room: &'b mut [u8],
     ) -> Result<Told<'b>, Refusal>
-        requires room { shows_bytes event ≡ true → most_bytes ≤ length room.old }
-        requires apart { lists_names (as_event 0 event) ≡ false }
+        requires plain { IsPlainEvent event (length room.old) }
         ensures worked { IsWorked P.keeps P.page self.old (OfATask task slot event.entry)
             (told_reply result) self.new }
         ensures limits { IsWithinLimits (told_reply result) }

@@ -21,7 +21,7 @@ loop-session-preserved c s l =
 
 pub pass_all-requires-clause-told : goal.pass_all-requires-clause-told
 pass_all-requires-clause-told c =
-    let t : Trails = trails_of c.args.tasks.now c.args.slots.now c.args.pool.now in
+    let t : Trails = trails_of c.args.trails.tasks.now c.args.trails.slots.now c.args.trails.pool.now in
     let receipts : List (List Receipt) = lists c.args.receipts.now in
     let told : AreTold t receipts c.in-Some.tellers = subst (λ o. MatchOption o (Differ t receipts) (λ (w : TellerRows). AreTold t receipts w)) c.in-Some.is c.in_ok-tellers.ensures in
     subst (λ (w : Walking). AreTold w.trails w.receipts c.in-Some.tellers) (sym c.in_ok-walk.ensures) told
@@ -29,7 +29,7 @@ pass_all-requires-clause-told c =
 pub pass_all-requires-clause-walked : goal.pass_all-requires-clause-walked
 pass_all-requires-clause-walked c =
     subst (λ (w : Walking). WalkedBy w.trails w.receipts w.cursors c.reserve.new.self.items) (sym c.in_ok-walk.ensures)
-    (started_by _ _ (length c.args.slots.now) (length c.args.receipts.now) _ c.reserve.new.self.items refl (c.in_ok-reserve.ensures.items ∙ c.new-order.ensures.items))
+    (started_by _ _ (length c.args.trails.slots.now) (length c.args.receipts.now) _ c.reserve.new.self.items refl (c.in_ok-reserve.ensures.items ∙ c.new-order.ensures.items))
 
 pub pass_all-requires-clause-covered : goal.pass_all-requires-clause-covered
 pass_all-requires-clause-covered c =
@@ -38,7 +38,7 @@ pass_all-requires-clause-covered c =
 
 pub returns-then-not-has_ended : goal.returns-then-not-has_ended
 returns-then-not-has_ended c =
-    let t : Trails = trails_of c.args.tasks.now c.args.slots.now c.args.pool.now in
+    let t : Trails = trails_of c.args.trails.tasks.now c.args.trails.slots.now c.args.trails.pool.now in
     let receipts : List (List Receipt) = lists c.args.receipts.now in
     let told : AreTold t receipts c.in-Some.tellers = subst (λ o. MatchOption o (Differ t receipts) (λ (w : TellerRows). AreTold t receipts w)) c.in-Some.is c.in_ok-tellers.ensures in
     let walk = c.in_ok-walk.walk in
@@ -52,7 +52,7 @@ returns-then-not-has_ended c =
 
 pub returns : goal.returns
 returns c =
-    let t : Trails = trails_of c.args.tasks.now c.args.slots.now c.args.pool.now in
+    let t : Trails = trails_of c.args.trails.tasks.now c.args.trails.slots.now c.args.trails.pool.now in
     let receipts : List (List Receipt) = lists c.args.receipts.now in
     let told : AreTold t receipts c.in-Some.tellers = subst (λ o. MatchOption o (Differ t receipts) (λ (w : TellerRows). AreTold t receipts w)) c.in-Some.is c.in_ok-tellers.ensures in
     let walk = c.in_ok-walk.walk in

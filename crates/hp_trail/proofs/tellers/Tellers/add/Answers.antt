@@ -7,16 +7,16 @@ use Rattle.hp_trail.proofs.tellers.Tellers.add.Goals as goal
 
 pub returns-in-Tasks-clause-added : goal.returns-in-Tasks-clause-added
 returns-in-Tasks-clause-added c e =
-    let t : Trails = trails_of c.args.tasks.now c.args.slots.now c.args.pool.now in
+    let t : Trails = trails_of c.args.trails.tasks.now c.args.trails.slots.now c.args.trails.pool.now in
     let old : TellerRows = record { tasks = c.self.inside.tasks.items; slots = lists c.self.inside.slots.items; pool = c.self.inside.pool.items } in
     let fit : Fit t old = subst (λ (x : TellerRows). Fit t x) (sym c.self.view_is) c.requires.fit in
-    let new : TellerRows = record old { tasks = c.add_task.new.row.items } in
+    let new : TellerRows = record old { tasks = c.add_entry.new.row.items } in
     subst (λ (x : TellerRows). Added t c.args.receipt.now c.args.session x new) c.self.view_is
-    (added_task t old c.args.receipt.now c.args.session fit c.add_task.new.row.items c.in-Tasks.is (c.add_task.ensures.added e))
+    (added_task t old c.args.receipt.now c.args.session fit c.add_entry.new.row.items c.in-Tasks.is (c.add_entry.ensures.added e))
 
 pub returns-in-Slot-clause-added : goal.returns-in-Slot-clause-added
 returns-in-Slot-clause-added c e =
-    let t : Trails = trails_of c.args.tasks.now c.args.slots.now c.args.pool.now in
+    let t : Trails = trails_of c.args.trails.tasks.now c.args.trails.slots.now c.args.trails.pool.now in
     let old : TellerRows = record { tasks = c.self.inside.tasks.items; slots = lists c.self.inside.slots.items; pool = c.self.inside.pool.items } in
     let fit : Fit t old = subst (λ (x : TellerRows). Fit t x) (sym c.self.view_is) c.requires.fit in
     let new : TellerRows = record old { slots = lists c.add_slot.new.rows.items; pool = c.add_slot.new.pool_row.items } in
@@ -25,9 +25,9 @@ returns-in-Slot-clause-added c e =
 
 pub returns-in-Pool-clause-added : goal.returns-in-Pool-clause-added
 returns-in-Pool-clause-added c e =
-    let t : Trails = trails_of c.args.tasks.now c.args.slots.now c.args.pool.now in
+    let t : Trails = trails_of c.args.trails.tasks.now c.args.trails.slots.now c.args.trails.pool.now in
     let old : TellerRows = record { tasks = c.self.inside.tasks.items; slots = lists c.self.inside.slots.items; pool = c.self.inside.pool.items } in
     let fit : Fit t old = subst (λ (x : TellerRows). Fit t x) (sym c.self.view_is) c.requires.fit in
-    let new : TellerRows = record old { pool = c.add_pool.new.row.items } in
+    let new : TellerRows = record old { pool = c.add_entry-in-Pool.new.row.items } in
     subst (λ (x : TellerRows). Added t c.args.receipt.now c.args.session x new) c.self.view_is
-    (added_pool t old c.args.receipt.now c.args.session fit c.add_pool.new.row.items c.in-Pool.is (c.add_pool.ensures.added e))
+    (added_pool t old c.args.receipt.now c.args.session fit c.add_entry-in-Pool.new.row.items c.in-Pool.is (c.add_entry-in-Pool.ensures.added e))

@@ -8,7 +8,7 @@ use Rattle.hp_trail.proofs.tellers.Tellers.list.Goals as goal
 
 pub loop-session-init : goal.loop-session-init
 loop-session-init c =
-    let t : Trails = trails_of c.args.tasks.now c.args.slots.now c.args.pool.now in
+    let t : Trails = trails_of c.args.trails.tasks.now c.args.trails.slots.now c.args.trails.pool.now in
     record {
       fit = subst (λ (w : TellerRows). Fit t w) (sym c.in_ok-tellers.ensures) (fit_none t);
       listed = subst (λ (w : TellerRows). AreListed t (lists c.args.receipts.now) 0 0 w) (sym c.in_ok-tellers.ensures) (listed_none t (lists c.args.receipts.now));
@@ -16,7 +16,7 @@ loop-session-init c =
 
 pub returns-then-not-add : goal.returns-then-not-add
 returns-then-not-add c =
-    let t : Trails = trails_of c.args.tasks.now c.args.slots.now c.args.pool.now in
+    let t : Trails = trails_of c.args.trails.tasks.now c.args.trails.slots.now c.args.trails.pool.now in
     let has =
     read_at c.args.receipts.now c.loop-session.session c.loop-receipt.receipt-index c.index-receipts-session.result c.deref-receipt-items.result.now c.receipt-item.result c.loop-session-test.true
     c.index-receipts-session.is c.deref-receipt-items.ensures.value c.loop-receipt-test.true c.receipt-item.is in
@@ -25,7 +25,7 @@ returns-then-not-add c =
 
 pub loop-receipt-preserved : goal.loop-receipt-preserved
 loop-receipt-preserved c =
-    let t : Trails = trails_of c.args.tasks.now c.args.slots.now c.args.pool.now in
+    let t : Trails = trails_of c.args.trails.tasks.now c.args.trails.slots.now c.args.trails.pool.now in
     let has =
     read_at c.args.receipts.now c.loop-session.session c.loop-receipt.receipt-index c.index-receipts-session.result c.deref-receipt-items.result.now c.receipt-item.result c.loop-session-test.true
     c.index-receipts-session.is c.deref-receipt-items.ensures.value c.loop-receipt-test.true c.receipt-item.is in
@@ -39,7 +39,7 @@ loop-receipt-preserved c =
 
 pub loop-session-preserved : goal.loop-session-preserved
 loop-session-preserved c =
-    let t : Trails = trails_of c.args.tasks.now c.args.slots.now c.args.pool.now in
+    let t : Trails = trails_of c.args.trails.tasks.now c.args.trails.slots.now c.args.trails.pool.now in
     let receipts = lists c.args.receipts.now in
     let long : length (slice_index_or receipts c.loop-session.session []) ≡ length c.deref-receipt-items.result.now =
     ap length (lists_read c.args.receipts.now c.loop-session.session c.index-receipts-session.result c.loop-session-test.true c.index-receipts-session.is ∙ sym c.deref-receipt-items.ensures.value) in
@@ -53,7 +53,7 @@ loop-session-preserved c =
 
 pub returns-then-has_gap : goal.returns-then-has_gap
 returns-then-has_gap c =
-    let t : Trails = trails_of c.args.tasks.now c.args.slots.now c.args.pool.now in
+    let t : Trails = trails_of c.args.trails.tasks.now c.args.trails.slots.now c.args.trails.pool.now in
     let receipts = lists c.args.receipts.now in
     let at_end : c.loop-session.session ≡ length receipts = omega (arith, lists_long c.args.receipts.now) in
     gap_differs t receipts c.loop-session.tellers c.loop-session.invariant.fit (subst (λ (n : ℕ). AreListed t receipts n 0 c.loop-session.tellers) at_end c.loop-session.invariant.listed)
@@ -61,7 +61,7 @@ returns-then-has_gap c =
 
 pub returns : goal.returns
 returns c =
-    let t : Trails = trails_of c.args.tasks.now c.args.slots.now c.args.pool.now in
+    let t : Trails = trails_of c.args.trails.tasks.now c.args.trails.slots.now c.args.trails.pool.now in
     let receipts = lists c.args.receipts.now in
     let at_end : c.loop-session.session ≡ length receipts = omega (arith, lists_long c.args.receipts.now) in
     all_told t receipts c.loop-session.tellers c.loop-session.invariant.fit (subst (λ (n : ℕ). AreListed t receipts n 0 c.loop-session.tellers) at_end c.loop-session.invariant.listed)

@@ -4,12 +4,12 @@ use Rattle.hp_trail.proofs.tellers.Tellers.list.Given as goal
 
 abbrev pub invariant-loop-session : goal.invariant-loop-session
 invariant-loop-session l = record {
-  fit : Fit (trails_of l.tasks l.slots l.pool) l.tellers;
-  listed : AreListed (trails_of l.tasks l.slots l.pool) (lists l.receipts) l.session 0 l.tellers;
+  fit : Fit (trails_of l.trails.tasks.now l.trails.slots.now l.trails.pool.now) l.tellers;
+  listed : AreListed (trails_of l.trails.tasks.now l.trails.slots.now l.trails.pool.now) (lists l.receipts) l.session 0 l.tellers;
 }
 
 abbrev pub invariant-loop-receipt : goal.invariant-loop-receipt
 invariant-loop-receipt l = record {
-  fit : Fit (trails_of l.tasks l.slots l.pool) l.tellers;
-  listed : AreListed (trails_of l.tasks l.slots l.pool) (lists l.receipts) l.session l.receipt-index l.tellers;
+  fit : Fit (trails_of l.trails.tasks.now l.trails.slots.now l.trails.pool.now) l.tellers;
+  listed : AreListed (trails_of l.trails.tasks.now l.trails.slots.now l.trails.pool.now) (lists l.receipts) l.session l.receipt-index l.tellers;
 }
