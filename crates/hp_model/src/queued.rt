@@ -1,8 +1,8 @@
 //! Loads, stores and faults that wait, so that several are done together.
-ghost use Rattle.std.specs.Prelude.{◌≡◌, ◌≤◌, true, false, length, take, IfOk};
+ghost use Rattle.std.specs.Prelude.{◌≡◌, ◌≤◌, [], true, false, length, take, IfOk};
 ghost use Rattle.hp_model.specs.Profile.{most_bytes};
-ghost use Rattle.hp_model.specs.beside.Accesses.{bytes_reply, done_reply, fault_step, load_step, store_step};
-ghost use Rattle.hp_model.specs.beside.Queue.{doing_step, is_load};
+ghost use Rattle.hp_model.specs.beside.Accesses.{bytes_reply, done_reply, store_step};
+ghost use Rattle.hp_model.specs.beside.Queue.{access_step, doing_step, is_load};
 ghost use Rattle.hp_model.specs.beside.Told.{told_reply};
 ghost use Rattle.hp_model.specs.text.Writing.{IsWithinLimits};
 
@@ -87,14 +87,14 @@ impl Queued {
         }
     }
 
-    /// A load of `count` bytes takes this one's place.
+    /// A load or a fault takes this one's place, or a store of no bytes.
     #[inline(always)]
-    pub fn set_load(&mut self, access: Access, count: u64)
-        ensures step { self.new.step ≡ load_step access count }
+    pub fn set(&mut self, access: Access, wanted: Wanted)
+        ensures step { self.new.step ≡ access_step access wanted [] }
         ensures access { self.new.access ≡ access }
     {
         self.access = access;
-        self.wanted = Wanted::Load(count);
+        self.wanted = wanted;
         self.len = 0;
     }
 
@@ -108,16 +108,6 @@ impl Queued {
         self.access = access;
         self.wanted = Wanted::Store;
         self.len = put(&mut self.bytes, bytes);
-    }
-
-    /// A fault takes this one's place.
-    #[inline(always)]
-    pub fn set_fault(&mut self, access: Access, intent: Intent)
-        ensures step { self.new.step ≡ fault_step access intent }
-        ensures access { self.new.access ≡ access }
-    {
-        self.access = access;
-        self.wanted = Wanted::Fault(intent);
     }
 
     /// Where it begins.

@@ -4,7 +4,7 @@ use crate::asking::{ask, create, fault, map, mount, preallocate, store};
 use hp_events::Parts;
 use hp_model::answer::{Answer, Reply};
 use hp_model::profile::MOST_BYTES;
-use hp_model::queued::Queued;
+use hp_model::queued::{Queued, Wanted};
 use hp_model::service::{Access, Service};
 use hp_model::step::{Intent, Reserving, Sharing, Step};
 use hp_sessions::Session;
@@ -37,7 +37,7 @@ fn store_queued<P: Parts>(session: &mut Session<P>) -> Reply {
     };
     let mut queue = [Queued::new(), Queued::new()];
     queue[0].set_store(access, &[0x11]);
-    queue[1].set_fault(access, Intent::Write);
+    queue[1].set(access, Wanted::Fault(Intent::Write));
     let mut room = [0u8; MOST_BYTES];
     session.do_queued(&mut queue, &mut room);
     match (queue[0].reply(), queue[1].reply()) {

@@ -122,3 +122,8 @@ pub all_together : {S : Type 0} {m : S → Step → Reply → S → Type 0} {pag
 all_together {rest} done waiting cut one first same read others =
     let none : ended_lines rest ≡ [] = ap ended_pieces one in
     rw (cut.lines ∙ ap (λ ls. (done ++ waiting) ++ ls) none ∙ append-nil (done ++ waiting)) (answered_then first (rw same at others waiting read))
+
+-- lines read as nothing are none
+pub none_read : (lines : List Line) → AreRead lines [] → lines ≡ []
+none_read [] read = refl
+none_read (l ∷ ls) read = absurd read

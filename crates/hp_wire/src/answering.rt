@@ -4,7 +4,7 @@ ghost use Rattle.hp_model.specs.text.Lines.{ended, ended_lines};
 ghost use Rattle.hp_model.specs.text.Reading.{fault_of, load_of, step_of, step_of_command, store_of};
 ghost use Rattle.hp_wire.specs.Added.{AddsAnswer, AddsReply};
 ghost use Rattle.hp_wire.specs.Answered.{AnswersAll, AnswersSome, RunsAll, RunsSome};
-ghost use Rattle.hp_wire.specs.Sent.{Writes, WritesFront};
+ghost use Rattle.hp_wire.specs.Sent.{KeepsWriter, Writes, WritesFront};
 ghost use Rattle.hp_model.specs.run.Served.{text_of_refusals, unended_by};
 ghost use Rattle.hp_wire.specs.Unanswered.{CountsLines};
 ghost use Rattle.hp_wire.specs.Waiting.{HasRoomForOne};
@@ -48,44 +48,12 @@ impl Replies {
         ensures none { OnOk result (self.new.text ≡ []) }
         ensures no_queue { OnOk result (queue.new ≡ []) }
         ensures page { self.new.page ≡ self.old.page }
-        ensures sure { W.is_sure writer.old → IsOk result }
-        ensures stays { W.is_sure writer.old → W.is_sure writer.new }
-        ensures lent { W.lent writer.new ≡ W.lent writer.old }
+        ensures writer { KeepsWriter W.is_sure W.lent writer.old writer.new result }
         ensures ready { S.is_ready service.new }
     {
         let (left, count) = self.answer_ended(chunk, queue, service, writer)?;
         self.send(writer)?;
         Ok((left, count))
-    }
-
-    // Answers the lines that end in these bytes, and says how many bytes follow the last of them, and how many they were.
-    pub(crate) fn answer_lines<W: Sink, S: Service>(
-        &mut self,
-        bytes: &[u8],
-        service: &mut S,
-        writer: &mut W,
-    ) -> Result<(usize, u64), RunFault>
-        requires ready { S.is_ready service.old }
-        ensures answered { OnOk result (AnswersAll S.may_answer W.contents (ended_lines bytes.now)
-            service.old service.new writer.old writer.new self.old self.new) }
-        ensures cut { IfErr result (AnswersSome S.may_answer W.contents (ended_lines bytes.now)
-            service.old service.new writer.old writer.new self.old) }
-        ensures counts { IfOk result (CountsLines bytes.now) }
-        ensures page { self.new.page ≡ self.old.page }
-        ensures sure { W.is_sure writer.old → IsOk result }
-        ensures stays { W.is_sure writer.old → W.is_sure writer.new }
-        ensures lent { W.lent writer.new ≡ W.lent writer.old }
-        ensures ready { S.is_ready service.new }
-    {
-        let mut room = [0u8; ROOM];
-        let mut rest = bytes;
-        let mut count = 0u64;
-        while let (line, Some(after)) = first_long_piece(b'\n', rest) {
-            self.answer_line(line, &mut room, service, writer)?;
-            count += 1;
-            rest = after;
-        }
-        Ok((rest.len(), count))
     }
 
     // Answers one line, for which room is made first.
@@ -102,9 +70,7 @@ impl Replies {
         ensures cut { IfErr result (WritesFront W.contents writer.old writer.new self.old.text) }
         ensures undone { IfErr result (λ _. service.new ≡ service.old) }
         ensures page { self.new.page ≡ self.old.page }
-        ensures sure { W.is_sure writer.old → IsOk result }
-        ensures stays { W.is_sure writer.old → W.is_sure writer.new }
-        ensures lent { W.lent writer.new ≡ W.lent writer.old }
+        ensures writer { KeepsWriter W.is_sure W.lent writer.old writer.new result }
         ensures ready { S.is_ready service.new }
     {
         self.make_room(writer)?;
@@ -125,47 +91,23 @@ impl Replies {
             return self.add_refusal(Refusal::LineTooLong);
         }
         match kind_of_line(line) {
-            Ok(LineKind::Load(words)) => self.add_load(words, room, service),
-            Ok(LineKind::Store(words)) => self.add_store(words, room, service),
+            Ok(LineKind::Load(words)) => match loading(words) {
+                Ok((access, count)) => {
+                    let loaded = service.load(&access, count, room);
+                    self.add_loaded(loaded);
+                }
+                Err(refusal) => self.add_refusal(refusal),
+            },
+            Ok(LineKind::Store(words)) => match storing(words, room) {
+                Ok((access, bytes)) => {
+                    let stored = service.store(&access, bytes);
+                    self.add_ended(stored);
+                }
+                Err(refusal) => self.add_refusal(refusal),
+            },
             Ok(LineKind::Fault(words)) => self.add_fault(words, service),
             Ok(LineKind::Other { word, mut words }) => {
                 self.add_other(word, &mut words, room, service)
-            }
-            Err(refusal) => self.add_refusal(refusal),
-        }
-    }
-
-    // Does the load of these words.
-    #[inline(always)]
-    fn add_load<S: Service>(&mut self, words: Words<'_>, room: &mut [u8; ROOM], service: &mut S)
-        requires ready { S.is_ready service.old }
-        requires room { HasRoomForOne self.old }
-        ensures answered { AddsReply S.may_answer (load_of words.entry)
-            service.old service.new self.old self.new }
-        ensures ready { S.is_ready service.new }
-    {
-        match loading(words) {
-            Ok((access, count)) => {
-                let loaded = service.load(&access, count, room);
-                self.add_loaded(loaded);
-            }
-            Err(refusal) => self.add_refusal(refusal),
-        }
-    }
-
-    // Does the store of these words.
-    #[inline(always)]
-    fn add_store<S: Service>(&mut self, words: Words<'_>, room: &mut [u8; ROOM], service: &mut S)
-        requires ready { S.is_ready service.old }
-        requires room { HasRoomForOne self.old }
-        ensures answered { AddsReply S.may_answer (store_of words.entry)
-            service.old service.new self.old self.new }
-        ensures ready { S.is_ready service.new }
-    {
-        match storing(words, room) {
-            Ok((access, bytes)) => {
-                let stored = service.store(&access, bytes);
-                self.add_ended(stored);
             }
             Err(refusal) => self.add_refusal(refusal),
         }
@@ -241,9 +183,7 @@ impl Replies {
             (text_of_refusals self.old.page (unended_by held))) }
         ensures cut { IfErr result (WritesFront W.contents writer.old writer.new
             (text_of_refusals self.old.page (unended_by held))) }
-        ensures sure { W.is_sure writer.old → IsOk result }
-        ensures stays { W.is_sure writer.old → W.is_sure writer.new }
-        ensures lent { W.lent writer.new ≡ W.lent writer.old }
+        ensures writer { KeepsWriter W.is_sure W.lent writer.old writer.new result }
     {
         let mut lines = count;
         if held > 0 {

@@ -4,6 +4,7 @@ ghost use Rattle.hp_model.specs.text.Lines.{Line, ended, ended_lines};
 ghost use Rattle.hp_model.specs.text.Writing.{line_of};
 ghost use Rattle.hp_wire.specs.Answered.{AnswersAll, AnswersSome};
 ghost use Rattle.hp_wire.specs.Queues.{AddsText, AreRead, CutsText, TakesLine, queued_text};
+ghost use Rattle.hp_wire.specs.Sent.{KeepsWriter};
 ghost use Rattle.hp_wire.specs.Unanswered.{CountsLines};
 ghost use Rattle.hp_wire.specs.Waiting.{HasRoomForOne};
 
@@ -18,8 +19,8 @@ use hp_model::told::Told;
 use hp_text::pieces::first_long_piece;
 
 impl Replies {
-    /// Answers the lines that end in these bytes, and says how many bytes follow the last of them, and how many they were:
-    /// one by one, or several at a time where the service takes them so.
+    /// Answers the lines that end in these bytes, and says how many bytes follow the last of them, and how many they were.
+    /// Where the service takes several at once, loads, stores and faults wait for those behind them.
     pub fn answer_ended<W: Sink, S: Service>(
         &mut self,
         bytes: &[u8],
@@ -36,15 +37,10 @@ impl Replies {
         ensures counts { IfOk result (CountsLines bytes.now) }
         ensures none { OnOk result (queue.new ≡ []) }
         ensures page { self.new.page ≡ self.old.page }
-        ensures sure { W.is_sure writer.old → IsOk result }
-        ensures stays { W.is_sure writer.old → W.is_sure writer.new }
-        ensures lent { W.lent writer.new ≡ W.lent writer.old }
+        ensures writer { KeepsWriter W.is_sure W.lent writer.old writer.new result }
         ensures ready { S.is_ready service.new }
     {
-        if !service.takes_several() {
-            return self.answer_lines(bytes, service, writer);
-        }
-        // Loads, stores and faults wait in the queue for those behind them, and none waits at the end.
+        // What waits in the queue waits for lines behind it, and nothing does at the end.
         let mut room = [0u8; ROOM];
         let mut rest = bytes;
         let mut count = 0u64;
@@ -85,12 +81,10 @@ impl Replies {
             service.old service.new writer.old writer.new self.old fault) }
         ensures few { OnOk result (length queue.new < 16) }
         ensures page { self.new.page ≡ self.old.page }
-        ensures sure { W.is_sure writer.old → IsOk result }
-        ensures stays { W.is_sure writer.old → W.is_sure writer.new }
-        ensures lent { W.lent writer.new ≡ W.lent writer.old }
+        ensures writer { KeepsWriter W.is_sure W.lent writer.old writer.new result }
         ensures ready { S.is_ready service.new }
     {
-        if queue.take(line, room) {
+        if queue.take(line, room, service.takes_several()) {
             if queue.is_full() {
                 return self.answer_queued(queue, room, service, writer);
             }
@@ -101,7 +95,7 @@ impl Replies {
     }
 
     // Does all that waits, and adds the replies.
-    #[inline(never)]
+    #[inline(always)]
     fn answer_queued<W: Sink, S: Service>(
         &mut self,
         queue: &mut Queue,
@@ -118,11 +112,12 @@ impl Replies {
             service.old service.new writer.old writer.new self.old fault) }
         ensures none { OnOk result (queue.new ≡ []) }
         ensures page { self.new.page ≡ self.old.page }
-        ensures sure { W.is_sure writer.old → IsOk result }
-        ensures stays { W.is_sure writer.old → W.is_sure writer.new }
-        ensures lent { W.lent writer.new ≡ W.lent writer.old }
+        ensures writer { KeepsWriter W.is_sure W.lent writer.old writer.new result }
         ensures ready { S.is_ready service.new }
     {
+        if queue.is_empty() {
+            return Ok(());
+        }
         queue.do_all(service, room);
         self.add_queued(queue, writer)?;
         queue.clear();
@@ -130,15 +125,14 @@ impl Replies {
     }
 
     // Adds the replies of all that was done.
+    #[inline(never)]
     fn add_queued<W: Sink>(&mut self, queue: &Queue, writer: &mut W) -> Result<(), RunFault>
         ensures added { OnOk result (AddsText W.contents writer.old writer.new self.old self.new
             (queued_text self.old.page queue.now)) }
         ensures cut { IfErr result (CutsText W.contents writer.old writer.new self.old
             (queued_text self.old.page queue.now)) }
         ensures page { self.new.page ≡ self.old.page }
-        ensures sure { W.is_sure writer.old → IsOk result }
-        ensures stays { W.is_sure writer.old → W.is_sure writer.new }
-        ensures lent { W.lent writer.new ≡ W.lent writer.old }
+        ensures writer { KeepsWriter W.is_sure W.lent writer.old writer.new result }
     {
         let waiting = queue.as_slice();
         for at in 0..waiting.len() {

@@ -1,15 +1,14 @@
 //! Loads, stores and faults that were read and wait.
-ghost use Rattle.std.specs.Prelude.{◌≡◌, ◌≤◌, ◌<◌, [], ◌∷◌, ◌++◌, length, true, false};
-ghost use Rattle.hp_model.specs.beside.Accesses.{fault_step, load_step, store_step};
-ghost use Rattle.hp_model.specs.beside.Queue.{DoesAll, QueuedView};
+ghost use Rattle.std.specs.Prelude.{◌≡◌, ◌≤◌, ◌<◌, [], ◌∷◌, ◌++◌, length, IsTrue, true, false};
+ghost use Rattle.hp_model.specs.beside.Accesses.{store_step};
+ghost use Rattle.hp_model.specs.beside.Queue.{DoesAll, QueuedView, access_step};
 ghost use Rattle.hp_model.specs.Profile.{most_bytes};
 ghost use Rattle.hp_model.specs.text.Lines.{ended};
 ghost use Rattle.hp_wire.specs.Queues.{IsAdded, IsLineTaken};
 
 use hp_model::profile::MOST_LINE_BYTES;
-use hp_model::queued::{QUEUED_BYTES, Queued};
+use hp_model::queued::{QUEUED_BYTES, Queued, Wanted};
 use hp_model::service::{Access, Service};
-use hp_model::step::Intent;
 use hp_wire_lines::accesses::{faulting, loading, storing};
 use hp_wire_lines::reading::{LineKind, kind_of_line};
 use std::array;
@@ -47,6 +46,14 @@ impl Queue {
         }
     }
 
+    /// Whether nothing waits.
+    #[inline(always)]
+    pub fn is_empty(&self) -> bool
+        ensures { IsTrue result → self.now ≡ [] }
+    {
+        self.count == 0
+    }
+
     /// Whether as many wait as may.
     #[inline(always)]
     pub fn is_full(&self) -> bool
@@ -82,20 +89,20 @@ impl Queue {
         service.do_queued(&mut items[..*count], room);
     }
 
-    /// Takes a line that is a load, a store or a fault, and says whether it is one.
+    /// Takes a line that is a load, a store or a fault, and says whether it did. It takes none where not `several` are done at once.
     #[inline(always)]
-    pub fn take(&mut self, line: &[u8], room: &mut [u8; 512]) -> bool
+    pub fn take(&mut self, line: &[u8], room: &mut [u8; 512], several: bool) -> bool
         requires { length self.old < 16 }
         ensures taken { result ≡ true → IsLineTaken (ended line.now) self.old self.new }
         ensures left { result ≡ false → self.new ≡ self.old }
     {
-        if line.len() > MOST_LINE_BYTES {
+        if !several || line.len() > MOST_LINE_BYTES {
             return false;
         }
         match kind_of_line(line) {
             Ok(LineKind::Load(words)) => match loading(words) {
                 Ok((access, count)) => {
-                    self.add_load(access, count);
+                    self.add(access, Wanted::Load(count));
                     true
                 }
                 Err(_refusal) => false,
@@ -109,7 +116,7 @@ impl Queue {
             },
             Ok(LineKind::Fault(words)) => match faulting(words) {
                 Ok((access, intent)) => {
-                    self.add_fault(access, intent);
+                    self.add(access, Wanted::Fault(intent));
                     true
                 }
                 Err(_refusal) => false,
@@ -118,12 +125,13 @@ impl Queue {
         }
     }
 
+    // A load or a fault.
     #[inline(always)]
-    fn add_load(&mut self, access: Access, count: u64)
+    fn add(&mut self, access: Access, wanted: Wanted)
         requires { length self.old < 16 }
-        ensures { IsAdded (load_step access count) self.old self.new }
+        ensures { IsAdded (access_step access wanted []) self.old self.new }
     {
-        self.items[self.count].set_load(access, count);
+        self.items[self.count].set(access, wanted);
         self.count += 1;
     }
 
@@ -134,15 +142,6 @@ impl Queue {
         ensures { IsAdded (store_step access bytes.now) self.old self.new }
     {
         self.items[self.count].set_store(access, bytes);
-        self.count += 1;
-    }
-
-    #[inline(always)]
-    fn add_fault(&mut self, access: Access, intent: Intent)
-        requires { length self.old < 16 }
-        ensures { IsAdded (fault_step access intent) self.old self.new }
-    {
-        self.items[self.count].set_fault(access, intent);
         self.count += 1;
     }
 }

@@ -5,7 +5,7 @@ ghost use Rattle.hp_model.specs.beside.Told.{told_reply};
 ghost use Rattle.hp_model.specs.text.Writing.{IsWithinLimits, line_of};
 ghost use Rattle.hp_model.specs.Profile.{most_bytes, most_page_bytes};
 ghost use Rattle.hp_wire.specs.Answered.{LosesNone};
-ghost use Rattle.hp_wire.specs.Sent.{Writes, WritesFront};
+ghost use Rattle.hp_wire.specs.Sent.{KeepsWriter, Writes, WritesFront};
 ghost use Rattle.hp_wire.specs.Waiting.{HasRoomForOne};
 
 use crate::ends::{Sink, write_whole};
@@ -107,9 +107,7 @@ impl Replies {
         ensures page { self.new.page ≡ self.old.page }
         ensures kept { OnOk result (LosesNone W.contents writer.old writer.new self.old self.new) }
         ensures cut { IfErr result (WritesFront W.contents writer.old writer.new self.old.text) }
-        ensures sure { W.is_sure writer.old → IsOk result }
-        ensures stays { W.is_sure writer.old → W.is_sure writer.new }
-        ensures lent { W.lent writer.new ≡ W.lent writer.old }
+        ensures writer { KeepsWriter W.is_sure W.lent writer.old writer.new result }
     {
         if self.waiting.len() > ROOM - LONGEST {
             return self.send(writer);
@@ -123,9 +121,7 @@ impl Replies {
         ensures none { OnOk result (self.new.text ≡ []) }
         ensures page { self.new.page ≡ self.old.page }
         ensures cut { IfErr result (WritesFront W.contents writer.old writer.new self.old.text) }
-        ensures sure { W.is_sure writer.old → IsOk result }
-        ensures stays { W.is_sure writer.old → W.is_sure writer.new }
-        ensures lent { W.lent writer.new ≡ W.lent writer.old }
+        ensures writer { KeepsWriter W.is_sure W.lent writer.old writer.new result }
     {
         write_whole(writer, self.waiting.as_slice())?;
         self.waiting.clear();

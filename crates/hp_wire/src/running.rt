@@ -87,36 +87,6 @@ pub fn run_lines_in<R: Source, W: Sink, S: Service>(
     } = rooms;
     replies.set_page(service.page_bytes());
     let mut queue = Queue::new();
-    serve(
-        reader,
-        writer,
-        service,
-        &mut unanswered,
-        &mut replies,
-        &mut queue,
-    )
-}
-
-fn serve<R: Source, W: Sink, S: Service>(
-    reader: &mut R,
-    writer: &mut W,
-    service: &mut S,
-    unanswered: &mut Unanswered,
-    replies: &mut Replies,
-    queue: &mut Queue,
-) -> Result<u64, RunFault>
-    requires unread { unanswered.old ≡ [] }
-    requires no_queue { queue.old ≡ [] }
-    requires none { replies.old.text ≡ [] }
-    requires ready { S.is_ready service.old }
-    ensures served { ServesInput S.may_answer (λ _. replies.old.page) R.remaining W.contents
-        service.old service.new reader.old reader.new writer.old writer.new result }
-    ensures whole { OnOk result (IsAtEnd (R.remaining reader.new)) }
-    ensures sure_reader { R.is_sure reader.old → IfErr result (λ e. e ≢ RunFault.Read) }
-    ensures sure_writer { W.is_sure writer.old → IfErr result (λ e. e ≢ RunFault.Write) }
-    ensures lent { W.lent writer.new ≡ W.lent writer.old }
-    ensures ready { S.is_ready service.new }
-{
     let mut total = 0u64;
     let mut count = 0u64;
     for _ in 0..MOST_INPUT_BYTES + 2 {
@@ -127,10 +97,10 @@ fn serve<R: Source, W: Sink, S: Service>(
         }
         total += n as u64;
         if total > MOST_INPUT_BYTES {
-            replies.answer_chunk(&bytes[..bytes.len() - 1], queue, service, writer)?;
+            replies.answer_chunk(&bytes[..bytes.len() - 1], &mut queue, service, writer)?;
             return Err(RunFault::TooLong);
         }
-        let (left, more) = replies.answer_chunk(bytes, queue, service, writer)?;
+        let (left, more) = replies.answer_chunk(bytes, &mut queue, service, writer)?;
         unanswered.keep_last(left);
         count += more;
     }

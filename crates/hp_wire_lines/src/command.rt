@@ -1,6 +1,6 @@
 //! The commands, and their words.
 ghost use Rattle.std.specs.Prelude.{◌≡◌, ℕ, List, false};
-ghost use Rattle.hp_model.specs.text.Reading.{pool_command, slot_command, step_of_command};
+ghost use Rattle.hp_model.specs.text.Reading.{step_of_command};
 ghost use Rattle.hp_wire_lines.specs.Accesses.{is_access};
 ghost use Rattle.hp_wire_lines.specs.Commands.{step_as};
 
@@ -42,7 +42,7 @@ macro_rules! known {
 }
 
 /// The command of a word that is not that of a load, a store or a fault, if it is one.
-#[tactic(auto, unfolding(hp_model::specs::text::Reading::step_of_command))]
+#[tactic(auto, unfolding(hp_model::specs::text::Reading::step_of_command, hp_model::specs::text::Reading::slot_command, hp_model::specs::text::Reading::pool_command))]
 pub fn command_of(word: &[u8]) -> Option<Command>
     requires { is_access word.now ≡ false }
     ensures { (words : List (List ℕ)) → step_of_command word.now words ≡ step_as result words }
@@ -55,17 +55,6 @@ pub fn command_of(word: &[u8]) -> Option<Command>
         b"map" => Map,
         b"anon" => Anon,
         b"unmap" => Unmap,
-        else slot_command(word)
-    )
-}
-
-// A command of a slot, without a task, or another.
-#[tactic(auto, unfolding(hp_model::specs::text::Reading::slot_command))]
-#[inline(always)]
-fn slot_command(word: &[u8]) -> Option<Command>
-    ensures { (words : List (List ℕ)) → slot_command word.now words ≡ step_as result words }
-{
-    known!(word;
         b"mount" => Mount,
         b"remount" => Remount,
         b"umount" => Umount,
@@ -78,17 +67,6 @@ fn slot_command(word: &[u8]) -> Option<Command>
         b"ls" => Ls,
         b"stat" => Stat,
         b"df" => Df,
-        else pool_command(word)
-    )
-}
-
-// A command of the pool.
-#[tactic(auto, unfolding(hp_model::specs::text::Reading::pool_command))]
-#[inline(always)]
-fn pool_command(word: &[u8]) -> Option<Command>
-    ensures { (words : List (List ℕ)) → pool_command word.now words ≡ step_as result words }
-{
-    known!(word;
         b"nr" => Nr,
         b"overcommit" => Overcommit,
         b"meminfo" => Meminfo,

@@ -2,7 +2,7 @@ use Rattle.std.proofs.Common.{◌<◌, ◌-◌, ◌∙◌, ap, arith, drop, leng
 use Rattle.std.proofs.lemmas.Result.{err_from_is_err_and}
 use Rattle.hp_wire.proofs.Endings.{finished}
 use Rattle.hp_wire.proofs.Turns.{all_read, but_one, cut_short, few, gets_as, passed, turned}
-use Rattle.hp_wire.proofs.running.serve.Goals as goal
+use Rattle.hp_wire.proofs.running.run_lines_in.Goals as goal
 
 pub returns-then-n-eq0-clause-served : goal.returns-then-n-eq0-clause-served
 returns-then-n-eq0-clause-served g c =
@@ -58,6 +58,6 @@ loop-preserved g c =
       none = c.in_ok-left.ensures.none;
       no_queue = c.in_ok-left.ensures.no_queue;
       reader = λ s. c.read.ensures.stays (i.reader s);
-      writer = λ s. c.answer_chunk-in-loop.ensures.stays (i.writer s);
-      lent = c.answer_chunk-in-loop.ensures.lent ∙ i.lent;
+      writer = λ s. c.answer_chunk-in-loop.ensures.writer.1 (i.writer s);
+      lent = c.answer_chunk-in-loop.ensures.writer.2 ∙ i.lent;
     }

@@ -1,16 +1,16 @@
 use Rattle.std.proofs.Common.{◌≡◌, ◌≤◌, [], length}
 use Rattle.hp_wire.proofs.Turns.{Progress}
-use Rattle.hp_wire.proofs.running.serve.Given as goal
+use Rattle.hp_wire.proofs.running.run_lines_in.Given as goal
 
 abbrev pub invariant-loop : goal.invariant-loop
 invariant-loop g l = record {
-  progress : Progress g.S.Service.may_answer l.fn.replies.page (g.R.Read.remaining l.fn.reader) (g.R.Read.remaining l.reader) l.fn.service l.service
+  progress : Progress g.S.Service.may_answer (g.S.Service.page l.fn.service) (g.R.Read.remaining l.fn.reader) (g.R.Read.remaining l.reader) l.fn.service l.service
       (g.W.Write.contents l.fn.writer) (g.W.Write.contents l.writer) l.unanswered l.total l.count;
   limit : l.total ≤ 1073741824;
   turns : l.counter ≤ l.total;
   held : length l.unanswered ≤ 1025;
   few : l.count ≤ l.total;
-  page : l.replies.page ≡ l.fn.replies.page;
+  page : l.replies.page ≡ g.S.Service.page l.fn.service;
   ready : g.S.Service.is_ready l.service;
   none : l.replies.text ≡ [];
   no_queue : l.queue ≡ [];

@@ -32,6 +32,6 @@ loop-at-preserved g c =
       added = subst (λ (xs : List ℕ). Gains (g.W.Write.contents c.args.writer.now) c.args.self.now.text (g.W.Write.contents c.make_room.new.writer) c.add_done.new.self.text xs)
           (text_more page qs at d (rw c.as_slice-waiting.ensures at c.loop-at-test.true)) (gains_line line c.add_done.new.self.text i.added c.in_ok-make_room.ensures.kept is);
       page = c.add_done.ensures.page ∙ c.make_room.ensures.page ∙ i.page;
-      sure = λ s. c.make_room.ensures.stays (i.sure s);
-      lent = c.make_room.ensures.lent ∙ i.lent;
+      sure = λ s. c.make_room.ensures.writer.1 (i.sure s);
+      lent = c.make_room.ensures.writer.2 ∙ i.lent;
     }

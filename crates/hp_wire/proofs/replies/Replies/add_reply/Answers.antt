@@ -1,4 +1,4 @@
-use Rattle.std.proofs.Common.{◌≡◌, length, nat_le, false, true, arith, ap, sym, cond, Ok, Err}
+use Rattle.std.proofs.Common.{◌≡◌, ◌∙◌, length, nat_le, false, true, arith, ap, sym, cond, Ok, Err}
 use Rattle.std.proofs.lemmas.Bool.Decides.{nat_tests}
 use Rattle.hp_model.specs.declared.refusal.Refusal.TheVariants.{LineTooLong}
 use Rattle.hp_model.proofs.Words.{Line, ended, step_of, step_of_bytes}
@@ -18,3 +18,19 @@ returns-in-Err-clause-answered g c =
     let short : nat_le (length line) 1024 ≡ true = grind (arith, nat_tests) in
     let same : step_of (ended line) ≡ step_of_bytes line = ap (λ b. step_of (cond {A = Line} b (Ok line) (Err LineTooLong))) short in
     rw same (not_read c.in-Err.refusal (sym c.in-Err.ensures) c.add_refusal-in-Err.ensures.text c.add_refusal-in-Err.ensures.page)
+
+pub returns-in-Err-loading-clause-answered : goal.returns-in-Err-loading-clause-answered
+returns-in-Err-loading-clause-answered g c =
+    let line = c.args.line.now in
+    let short : nat_le (length line) 1024 ≡ true = grind (arith, nat_tests) in
+    let same : step_of (ended line) ≡ step_of_bytes line = ap (λ b. step_of (cond {A = Line} b (Ok line) (Err LineTooLong))) short in
+    let kind = rw c.in-Ok-Load.field-0-is at c.in-Ok-Load.ensures in
+    rw same (not_read c.in-Err-loading.refusal (c.in-Err-loading.ensures ∙ sym kind) c.add_refusal-in-Err-loading.ensures.text c.add_refusal-in-Err-loading.ensures.page)
+
+pub returns-in-Err-storing-clause-answered : goal.returns-in-Err-storing-clause-answered
+returns-in-Err-storing-clause-answered g c =
+    let line = c.args.line.now in
+    let short : nat_le (length line) 1024 ≡ true = grind (arith, nat_tests) in
+    let same : step_of (ended line) ≡ step_of_bytes line = ap (λ b. step_of (cond {A = Line} b (Ok line) (Err LineTooLong))) short in
+    let kind = rw c.in-Ok-Store.field-0-is at c.in-Ok-Store.ensures in
+    rw same (not_read c.in-Err-storing.refusal (c.in-Err-storing.ensures ∙ sym kind) c.add_refusal-in-Err-storing.ensures.text c.add_refusal-in-Err-storing.ensures.page)

@@ -48,8 +48,8 @@ loop-after-preserved g c =
         places = c.in_ok-take_line-in-Some.ensures.few;
         ready = c.take_line.ensures.ready;
         page = c.take_line.ensures.page ∙ i.2.page;
-        sure = λ s. c.take_line.ensures.stays (i.2.sure s);
-        lent = c.take_line.ensures.lent ∙ i.2.lent;
+        sure = λ s. c.take_line.ensures.writer.1 (i.2.sure s);
+        lent = c.take_line.ensures.writer.2 ∙ i.2.lent;
       },
     )
 
