@@ -62,7 +62,7 @@ fn run<'x, R: Threads + Wait + Sync, M: Machine + Sync, C: Connections>(
 ) -> Result<(), ServeFault> {
     thread::scope(thread::scope_env(), rt, |scope| {
         if start_workers(scope, rt, alloc, machine, workers, jobs, ends, filed) {
-            hand_out_all(rt, connections, to, ended, filed.len())
+            hand_out(rt, connections, to, ended, filed.len())
         } else {
             Err(ServeFault::Memory)
         }
@@ -99,8 +99,8 @@ fn start_workers<
     started
 }
 
-// Announces the connections, and hands out so many.
-fn hand_out_all<R: Wait, C: Connections>(
+// Announces the connections, and hands out so many; fewer only where the source fails.
+fn hand_out<R: Wait, C: Connections>(
     rt: &R,
     connections: &mut C,
     to: Sender<(C::Reader, C::Writer), Global>,
@@ -110,34 +110,18 @@ fn hand_out_all<R: Wait, C: Connections>(
     if connections.announce().is_err() {
         return Err(ServeFault::Write);
     }
-    if hand_out(rt, connections, to, ended, count) < count {
-        return Err(ServeFault::Network);
-    }
-    Ok(())
-}
-
-// Hands out so many connections, and says how many; fewer only where the source fails.
-fn hand_out<R: Wait, C: Connections>(
-    rt: &R,
-    connections: &mut C,
-    to: Sender<(C::Reader, C::Writer), Global>,
-    ended: &Endings,
-    count: usize,
-) -> usize
-    ensures { result ≤ count }
-{
-    for number in 0..count {
+    for _ in 0..count {
         match connections.next(ended) {
             Ok(Some(connection)) => {
                 if to.send(rt, connection).is_err() {
-                    return number;
+                    return Err(ServeFault::Network);
                 }
             }
             Ok(None) => {}
-            Err(_) => return number,
+            Err(_) => return Err(ServeFault::Network),
         }
     }
-    count
+    Ok(())
 }
 
 // Serves connections until no more come.

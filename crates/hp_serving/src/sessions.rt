@@ -57,15 +57,27 @@ pub fn serve_sessions<
         × Prints (W.contents output.old) (W.contents output.new) ended
         × SaysEnd (E.is_sure faults.old) (E.contents faults.old) (E.contents faults.new) ended }
 {
-    let ended = run(rt, alloc, machine, connections, sessions, workers, output);
-    report(ended, faults)
+    match rooms::<M>(alloc, sessions) {
+        Ok(rooms) => {
+            let ended = run(rt, alloc, machine, connections, workers, rooms, output);
+            report(ended, faults)
+        }
+        Err(AllocError) => {
+            machine.abandon();
+            report(Ended::Failed(ServeFault::Memory), faults)
+        }
+    }
 }
 
-// What is asked for before the first session: cells for what they are told, a list of it, and a text.
-fn rooms<M: Machine>(
-    alloc: Global,
-    sessions: usize,
-) -> Result<(Vec<Mutex<Option<Filed<M>>>>, Vec<M::Told>, Vec<u8>), AllocError>
+// Cells for what the sessions are told, a list of it, and a text.
+type Rooms<M> = (
+    Vec<Mutex<Option<Filed<M>>>>,
+    Vec<<M as Machine>::Told>,
+    Vec<u8>,
+);
+
+// What is asked for before the first session.
+fn rooms<M: Machine>(alloc: Global, sessions: usize) -> Result<Rooms<M>, AllocError>
     ensures { IfOk result (λ rooms. (rooms.1.items ≡ [])
         × (rooms.2.items ≡ []) × (256 ≤ vec_capacity rooms.2)) }
 {
@@ -88,19 +100,19 @@ fn run<R: Threads + Wait + Sync, M: Machine + Sync, C: Connections, W: Sink>(
     alloc: Global,
     machine: M,
     connections: &mut C,
-    sessions: usize,
     workers: usize,
+    rooms: Rooms<M>,
     output: &mut W,
 ) -> Ended
+    requires untold { rooms.1.items ≡ [] }
+    requires empty { rooms.2.items ≡ [] }
+    requires room { 256 ≤ vec_capacity rooms.2 }
     ensures leaves { LeavesAsked
         (IsOfConnection M.is_opened M.was_told M.may_answer M.page)
         (M.may_leave machine) result }
     ensures prints { Prints (W.contents output.old) (W.contents output.new) result }
 {
-    let Ok((filed, told, mut text)) = rooms::<M>(alloc, sessions) else {
-        machine.abandon();
-        return Ended::Failed(ServeFault::Memory);
-    };
+    let (filed, told, mut text) = rooms;
     if let Err(fault) = serve(rt, alloc, &machine, connections, workers, &filed) {
         machine.abandon();
         return Ended::Failed(fault);
