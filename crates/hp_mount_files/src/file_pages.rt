@@ -3,15 +3,13 @@ ghost use Rattle.std.specs.Prelude.{ℕ, ◌≡◌, ◌^◌, ◌+◌, ◌<◌, �
 ghost use Rattle.hp_model.specs.declared.cell.Cell.TheVariants.{Hole, Entered};
 ghost use Rattle.hp_model.specs.files.File.{cell_at};
 ghost use Rattle.hp_model.specs.files.Spot.{cell_written};
-ghost use Rattle.hp_model.specs.files.Page.{zeros};
+ghost use Rattle.hp_model.specs.files.Page.{zeros, Page as ThePage};
 ghost use Rattle.hp_model.specs.files.Value.{shown};
-ghost use Rattle.hp_lookup.specs.Files.{file_at, with_cell_at, filled_at};
+ghost use Rattle.hp_lookup.specs.Files.{file_at, with_cell_at, filled_at, Files as TheFiles};
 ghost use Rattle.std.specs.List.{sum_by};
 ghost use Rattle.hp_model.specs.files.MountCounts.{file_pages};
 ghost use Rattle.hp_file.specs.declared.file.CellState.TheVariants as CellState;
 ghost use Rattle.hp_file.specs.States.{IsState};
-ghost use Rattle.hp_lookup.specs.Files.{Files as TheFiles};
-ghost use Rattle.hp_model.specs.files.Page.{Page as ThePage};
 
 use hp_file::CellState;
 use std::alloc::AllocError;

@@ -1,8 +1,8 @@
 //! The pages that maps show.
 ghost use Rattle.std.specs.Prelude.{ℕ, ◌≡◌, ◌^◌, ◌+◌, ◌<◌, ◌≤◌, length, IfSome, IfNone, ◌||◌, false, Bool, None, Some, IsSome, IsTrue};
-ghost use Rattle.hp_model.specs.files.Page.{zeros, Copy};
+ghost use Rattle.hp_model.specs.files.Page.{zeros, Copy, Page as ThePage};
 ghost use Rattle.hp_model.specs.files.Value.{shown};
-ghost use Rattle.hp_lookup.specs.Files.{file_at, copied_at, parted_at, placed_at, taken_back_at};
+ghost use Rattle.hp_lookup.specs.Files.{file_at, copied_at, parted_at, placed_at, taken_back_at, Files as TheFiles};
 ghost use Rattle.std.specs.List.{sum_by, flat_map};
 ghost use Rattle.hp_model.specs.files.MountCounts.{file_pages, stamps_of};
 ghost use Rattle.hp_lookup.specs.Places.{shown_at, map_among};
@@ -13,8 +13,6 @@ ghost use Rattle.hp_model.specs.Lists.{is_among};
 ghost use Rattle.hp_lookup.specs.declared.copy_state.CopyState.TheVariants as CopyState;
 ghost use Rattle.hp_lookup.specs.Dropping.{IsLeft};
 ghost use Rattle.hp_file.specs.States.{AreAgreed, IsCopyState};
-ghost use Rattle.hp_lookup.specs.Files.{Files as TheFiles};
-ghost use Rattle.hp_model.specs.files.Page.{Page as ThePage};
 
 use hp_lookup::{CopyState, MapPlace};
 use hp_model::page_no::PageNo;

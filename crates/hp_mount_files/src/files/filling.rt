@@ -39,48 +39,6 @@ impl<N: Naming> Files<N> {
         Ok(batch)
     }
 
-    // Enters indices of a file, and takes `count` pages for them at once. Refused as `preallocate` is.
-    fn take_pages<D: PoolDoor<N>>(
-        &mut self,
-        door: &mut D,
-        share: &mut Subpool<N>,
-        file: usize,
-        from: u64,
-        to: u64,
-        k: u64,
-        count: u64,
-    ) -> Result<PageBatch<N>, Refusal>
-        requires ready { D.is_ready door.old }
-        requires file { file < length self.old.files }
-        requires reach { to ≤ most_file_pages }
-        requires within { is_full share.old k ≡ false }
-        requires held { count ≤ share.old.held + k }
-        requires pages { share.old.pages ≡ sum_by file_pages self.old.files }
-        ensures ok { OnOk result (self.new
-            ≡ entered_at file from to (max self.old.room (share.old.held + k)) self.old) }
-        ensures taken { IfOk result (λ batch. IsTaking D.took D.is_full k count share.old door.old
-            (reply_of result) (by_node batch.pages) share.new door.new) }
-        ensures rising { IfOk result (λ batch. AreRising count batch.pages) }
-        ensures err { OnErr result (self.new ≡ record self.old { room = self.new.room }) }
-        ensures more { OnErr result (self.old.room ≤ self.new.room) }
-        ensures refused { OnErr result (IsTaking D.took D.is_full k count share.old door.old
-            (reply_of result) [] share.new door.new) }
-        ensures left { D.is_left door.new }
-    {
-        let reserves = share.held().saturating_add(k);
-        let Ok(mut batch) = self.new_batch(reserves as usize, count as usize) else {
-            return Err(Refusal::OutOfMemory);
-        };
-        let at = &mut self.list[file];
-        if let Err(refusal) = at.take_pages(
-            self.alloc, door, share, from, to, k, count, &mut batch,
-        ) {
-            batch.close();
-            return Err(refusal);
-        }
-        Ok(batch)
-    }
-
     // How many indices of a file from `from` up to `to` have no page.
     fn lacking_in(&self, file: usize, from: u64, to: u64) -> u64
         requires file { file < length self.now.files }
@@ -187,17 +145,21 @@ impl<N: Naming> Files<N> {
         ensures left { D.is_left door.new }
     {
         let room = self.spare_room();
-        match self.take_pages(door, share, file, from, to, k, count) {
-            Ok(got) => {
-                let mut batch = got;
-                self.put_pages(file, from, to, &mut batch);
-                batch.close();
-                Ok(())
-            }
-            Err(refusal) => {
-                self.lower_room(room);
-                Err(refusal)
-            }
+        let reserves = share.held().saturating_add(k);
+        let Ok(mut batch) = self.new_batch(reserves as usize, count as usize) else {
+            self.lower_room(room);
+            return Err(Refusal::OutOfMemory);
+        };
+        let at = &mut self.list[file];
+        if let Err(refusal) = at.take_pages(
+            self.alloc, door, share, from, to, k, count, &mut batch,
+        ) {
+            batch.close();
+            self.lower_room(room);
+            return Err(refusal);
         }
+        self.put_pages(file, from, to, &mut batch);
+        batch.close();
+        Ok(())
     }
 }

@@ -71,60 +71,6 @@ impl<N: Naming> Files<N> {
         }
     }
 
-    // Adds a map of a file, as `add_map` does when its room is made.
-    fn put_map<D: PoolDoor<N>>(
-        &mut self,
-        door: &mut D,
-        share: &mut Subpool<N>,
-        home: usize,
-        file: usize,
-        range: &MapRange,
-        next: NextMap,
-    ) -> Result<(), Refusal>
-        requires ready { D.is_ready door.old }
-        requires file { file < length self.old.files }
-        requires reach { range.now.start + range.now.pages ≤ most_file_pages }
-        requires maps { length (all_maps self.old.files) < most_maps }
-        requires number { next.number ≡ next_of range.now.task self.old.files }
-        requires first { next.is_first ≡ is_first_of range.now.task self.old.files }
-        requires within { is_full share.old (wants range.now (file_at self.old.files file))
-            ≡ false }
-        requires few { used share.old + wants range.now (file_at self.old.files file) < 2 ^ 64 }
-        ensures ok { OnOk result (self.new
-            ≡ with_file_at file (with_range range.now next.number (file_at self.old.files file))
-            self.old) }
-        ensures err { OnErr result (self.new ≡ self.old) }
-        ensures asked { IsAsked D.took D.is_full home
-            (wants range.now (file_at self.old.files file))
-            share.old door.old result share.new door.new }
-        ensures left { D.is_left door.new }
-    {
-        let wanted = self.wanted(file, range);
-        let at = MapPlace {
-            file,
-            map: self.list[file].map_count(),
-        };
-        let tag = MapTag::new(at, self.list.tag(file), self.tags.take());
-        let Ok(()) = make_map_room(&mut self.hints, &mut self.counts) else {
-            return Err(Refusal::OutOfMemory);
-        };
-        let at = &mut self.list[file];
-        at.add_range(
-            self.alloc,
-            door,
-            share,
-            home,
-            wanted,
-            range,
-            tag.map(),
-            next.number,
-        )?;
-        self.hints.note_map(range.task, next.number, tag).unwrap();
-        self.maps += 1;
-        self.counts.add_one(range.task);
-        Ok(())
-    }
-
     /// Adds a map of a file, which makes the file longer where it reaches past its end. The indices of a shared map that
     /// reserves are entered. What it asks for (`wanted`) is reserved through the door, and there is room for each
     /// reservation.
@@ -160,54 +106,34 @@ impl<N: Naming> Files<N> {
         ensures left { D.is_left door.new }
     {
         let room = self.spare_room();
-        let reserves = share.held().saturating_add(self.wanted(file, range));
-        let done = match self.make_room(reserves as usize) {
-            Ok(()) => self.put_map(door, share, home, file, range, next),
-            Err(_) => Err(Refusal::OutOfMemory),
+        let wanted = self.wanted(file, range);
+        let reserves = share.held().saturating_add(wanted);
+        let Ok(()) = self.make_room(reserves as usize) else {
+            return Err(Refusal::OutOfMemory);
         };
-        if done.is_err() {
-            self.lower_room(room);
-        }
-        done
-    }
-
-    // Adds a file with a map, as `add_anon` does when its room is made.
-    fn put_anon<D: PoolDoor<N>>(
-        &mut self,
-        door: &mut D,
-        share: &mut Subpool<N>,
-        home: usize,
-        range: &MapRange,
-        next: NextMap,
-    ) -> Result<(), Refusal>
-        requires ready { D.is_ready door.old }
-        requires reach { range.now.start + range.now.pages ≤ most_file_pages }
-        requires maps { length (all_maps self.old.files) < most_maps }
-        requires number { next.number ≡ next_of range.now.task self.old.files }
-        requires first { next.is_first ≡ is_first_of range.now.task self.old.files }
-        requires within { is_full share.old (wants range.now (new_file None)) ≡ false }
-        requires few { used share.old + wants range.now (new_file None) < 2 ^ 64 }
-        ensures ok { OnOk result (self.new ≡ record self.old {
-          files = self.old.files ++ with_range range.now next.number (new_file None) ∷ [];
-        }) }
-        ensures err { OnErr result (self.new ≡ self.old) }
-        ensures asked { IsAsked D.took D.is_full home (wants range.now (new_file None))
-            share.old door.old result share.new door.new }
-        ensures left { D.is_left door.new }
-    {
         let at = MapPlace {
-            file: self.list.len(),
-            map: 0,
+            file,
+            map: self.list[file].map_count(),
         };
-        let tag = MapTag::new(at, self.tags.take(), self.tags.take());
-        if self.list.make_room().is_err() {
-            return Err(Refusal::OutOfMemory);
-        }
+        let tag = MapTag::new(at, self.list.tag(file), self.tags.take());
         let Ok(()) = make_map_room(&mut self.hints, &mut self.counts) else {
+            self.lower_room(room);
             return Err(Refusal::OutOfMemory);
         };
-        let file = File::anon(self.alloc, door, share, home, range, tag.map(), next.number)?;
-        self.list.push(file, tag.file());
+        let at = &mut self.list[file];
+        if let Err(refusal) = at.add_range(
+            self.alloc,
+            door,
+            share,
+            home,
+            wanted,
+            range,
+            tag.map(),
+            next.number,
+        ) {
+            self.lower_room(room);
+            return Err(refusal);
+        }
         self.hints.note_map(range.task, next.number, tag).unwrap();
         self.maps += 1;
         self.counts.add_one(range.task);
@@ -245,13 +171,34 @@ impl<N: Naming> Files<N> {
     {
         let room = self.spare_room();
         let reserves = share.held().saturating_add(range.wanted_alone());
-        let done = match self.make_room(reserves as usize) {
-            Ok(()) => self.put_anon(door, share, home, range, next),
-            Err(_) => Err(Refusal::OutOfMemory),
+        let Ok(()) = self.make_room(reserves as usize) else {
+            return Err(Refusal::OutOfMemory);
         };
-        if done.is_err() {
+        let at = MapPlace {
+            file: self.list.len(),
+            map: 0,
+        };
+        let tag = MapTag::new(at, self.tags.take(), self.tags.take());
+        if self.list.make_room().is_err() {
             self.lower_room(room);
+            return Err(Refusal::OutOfMemory);
         }
-        done
+        let Ok(()) = make_map_room(&mut self.hints, &mut self.counts) else {
+            self.lower_room(room);
+            return Err(Refusal::OutOfMemory);
+        };
+        let made = File::anon(self.alloc, door, share, home, range, tag.map(), next.number);
+        let file = match made {
+            Ok(file) => file,
+            Err(refusal) => {
+                self.lower_room(room);
+                return Err(refusal);
+            }
+        };
+        self.list.push(file, tag.file());
+        self.hints.note_map(range.task, next.number, tag).unwrap();
+        self.maps += 1;
+        self.counts.add_one(range.task);
+        Ok(())
     }
 }
