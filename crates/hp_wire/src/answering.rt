@@ -3,7 +3,7 @@ ghost use Rattle.std.specs.Prelude.{◌≡◌, ◌+◌, ◌<◌, ◌^◌, [], �
 ghost use Rattle.hp_model.specs.text.Lines.{ended, ended_lines};
 ghost use Rattle.hp_model.specs.text.Reading.{fault_of, load_of, step_of, step_of_command, store_of};
 ghost use Rattle.hp_wire.specs.Added.{AddsAnswer, AddsReply};
-ghost use Rattle.hp_wire.specs.Answered.{AnswersAll, AnswersSome, RunsAll, RunsSome};
+ghost use Rattle.hp_wire.specs.Answered.{AnswersAll};
 ghost use Rattle.hp_wire.specs.Sent.{KeepsWriter, Writes, WritesFront};
 ghost use Rattle.hp_model.specs.run.Served.{text_of_refusals, unended_by};
 ghost use Rattle.hp_wire.specs.Unanswered.{CountsLines};
@@ -28,34 +28,6 @@ use hp_wire_lines::words::Words;
 pub(crate) const ROOM: usize = 512;
 
 impl Replies {
-    /// Answers the lines that end in these bytes, and writes out their replies. It says how many bytes follow the last of
-    /// the lines, and how many lines there were.
-    pub fn answer_chunk<W: Sink, S: Service>(
-        &mut self,
-        chunk: &[u8],
-        queue: &mut Queue,
-        service: &mut S,
-        writer: &mut W,
-    ) -> Result<(usize, u64), RunFault>
-        requires ready { S.is_ready service.old }
-        requires none { self.old.text ≡ [] }
-        requires no_queue { queue.old ≡ [] }
-        ensures ran { OnOk result (RunsAll S.may_answer W.contents self.old.page
-            (ended_lines chunk.now) service.old service.new writer.old writer.new) }
-        ensures cut { IfErr result (RunsSome S.may_answer W.contents self.old.page
-            (ended_lines chunk.now) service.old service.new writer.old writer.new) }
-        ensures counts { IfOk result (CountsLines chunk.now) }
-        ensures none { OnOk result (self.new.text ≡ []) }
-        ensures no_queue { OnOk result (queue.new ≡ []) }
-        ensures page { self.new.page ≡ self.old.page }
-        ensures writer { KeepsWriter W.is_sure W.lent writer.old writer.new result }
-        ensures ready { S.is_ready service.new }
-    {
-        let (left, count) = self.answer_ended(chunk, queue, service, writer)?;
-        self.send(writer)?;
-        Ok((left, count))
-    }
-
     // Answers one line, for which room is made first.
     pub(crate) fn answer_line<W: Sink, S: Service>(
         &mut self,

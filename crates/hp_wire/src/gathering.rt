@@ -2,7 +2,7 @@
 ghost use Rattle.std.specs.Prelude.{◌≡◌, ◌<◌, ◌++◌, ◌∷◌, [], List, length, IfErr, IfOk, IsOk, OnOk};
 ghost use Rattle.hp_model.specs.text.Lines.{Line, ended, ended_lines};
 ghost use Rattle.hp_model.specs.text.Writing.{line_of};
-ghost use Rattle.hp_wire.specs.Answered.{AnswersAll, AnswersSome};
+ghost use Rattle.hp_wire.specs.Answered.{AnswersAll, AnswersSome, RunsAll, RunsSome};
 ghost use Rattle.hp_wire.specs.Queues.{AddsText, AreRead, CutsText, TakesLine, queued_text};
 ghost use Rattle.hp_wire.specs.Sent.{KeepsWriter};
 ghost use Rattle.hp_wire.specs.Unanswered.{CountsLines};
@@ -19,30 +19,33 @@ use hp_model::told::Told;
 use hp_text::pieces::first_long_piece;
 
 impl Replies {
-    /// Answers the lines that end in these bytes, and says how many bytes follow the last of them, and how many they were.
-    /// Where the service takes several at once, loads, stores and faults wait for those behind them.
-    pub fn answer_ended<W: Sink, S: Service>(
+    /// Answers the lines that end in these bytes, and writes out their replies. It says how many bytes follow the last of
+    /// the lines, and how many lines there were. Where the service takes several at once, loads, stores and faults wait for
+    /// those behind them.
+    pub fn answer_chunk<W: Sink, S: Service>(
         &mut self,
-        bytes: &[u8],
+        chunk: &[u8],
         queue: &mut Queue,
         service: &mut S,
         writer: &mut W,
     ) -> Result<(usize, u64), RunFault>
         requires ready { S.is_ready service.old }
-        requires none { queue.old ≡ [] }
-        ensures answered { OnOk result (AnswersAll S.may_answer W.contents (ended_lines bytes.now)
-            service.old service.new writer.old writer.new self.old self.new) }
-        ensures cut { IfErr result (AnswersSome S.may_answer W.contents (ended_lines bytes.now)
-            service.old service.new writer.old writer.new self.old) }
-        ensures counts { IfOk result (CountsLines bytes.now) }
-        ensures none { OnOk result (queue.new ≡ []) }
+        requires none { self.old.text ≡ [] }
+        requires no_queue { queue.old ≡ [] }
+        ensures ran { OnOk result (RunsAll S.may_answer W.contents self.old.page
+            (ended_lines chunk.now) service.old service.new writer.old writer.new) }
+        ensures cut { IfErr result (RunsSome S.may_answer W.contents self.old.page
+            (ended_lines chunk.now) service.old service.new writer.old writer.new) }
+        ensures counts { IfOk result (CountsLines chunk.now) }
+        ensures none { OnOk result (self.new.text ≡ []) }
+        ensures no_queue { OnOk result (queue.new ≡ []) }
         ensures page { self.new.page ≡ self.old.page }
         ensures writer { KeepsWriter W.is_sure W.lent writer.old writer.new result }
         ensures ready { S.is_ready service.new }
     {
         // What waits in the queue waits for lines behind it, and nothing does at the end.
         let mut room = [0u8; ROOM];
-        let mut rest = bytes;
+        let mut rest = chunk;
         let mut count = 0u64;
         loop {
             let (line, after) = first_long_piece(b'\n', rest);
@@ -54,6 +57,7 @@ impl Replies {
                 }
                 None => {
                     self.answer_queued(queue, &mut room, service, writer)?;
+                    self.send(writer)?;
                     return Ok((rest.len(), count));
                 }
             }

@@ -3,15 +3,15 @@ use Rattle.hp_model.proofs.Words.{Line}
 use Rattle.hp_wire.specs.Answered.{Answered}
 use Rattle.hp_wire.specs.Queues.{AreRead}
 use Rattle.hp_wire.proofs.LineCuts.{CutOff}
-use Rattle.hp_wire.proofs.replies.Replies.answer_ended.Given as goal
+use Rattle.hp_wire.proofs.replies.Replies.answer_chunk.Given as goal
 
 abbrev pub invariant-loop-after : goal.invariant-loop-after
 invariant-loop-after g l = (done : List Line) × (waiting : List Line) × record {
   answered : Answered g.S.Service.may_answer l.fn.self.page l.fn.service done l.service (g.W.Write.contents l.fn.writer) l.fn.self.text (g.W.Write.contents l.writer) l.self.text;
   read : AreRead waiting l.queue;
-  cut : CutOff l.bytes l.rest (done ++ waiting);
+  cut : CutOff l.chunk l.rest (done ++ waiting);
   count : l.count ≡ length (done ++ waiting);
-  few : l.count + length l.rest ≤ length l.bytes;
+  few : l.count + length l.rest ≤ length l.chunk;
   places : length l.queue < 16;
   ready : g.S.Service.is_ready l.service;
   page : l.self.page ≡ l.fn.self.page;
