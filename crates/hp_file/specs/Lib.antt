@@ -5,3 +5,4 @@ pub mod NewMap
 pub mod FileList
 pub mod Lends
 pub mod HeldPages
+pub mod Leaving

@@ -65,30 +65,6 @@ fn fill_at(
     Ok(count)
 }
 
-// The maps that a child gets of each file for those of a parent, which are so many, found by going over the files: a list for
-// each of them up to the last that has any.
-fn children_among_all(
-    files: &FileList,
-    alloc: Global,
-    tags: &mut Tags,
-    parent: u64,
-    child: u64,
-    count: u64,
-) -> Result<Vec<Vec<Mapping>>, AllocError>
-    requires { count ≡ sum_by (maps_by parent) files.now.files }
-    ensures { IfOk result (λ lists. AreReady parent child files.now.files lists.items) }
-{
-    let mut lists = Vec::with_capacity(alloc, files.len())?;
-    let mut left = count;
-    while left > 0 {
-        let at = lists.len();
-        let list = files[at].children(alloc, tags, parent, child)?;
-        left -= list.len() as u64;
-        lists.push_reserved(list);
-    }
-    Ok(lists)
-}
-
 /// The maps that a child gets of each file for those of a parent, which are so many: a list for each file, or none where there
 /// are none. The files are found by the numbers of the parent's maps, and no other is looked at unless some are not found so.
 pub fn children(
@@ -111,10 +87,19 @@ pub fn children(
         left -= fill_at(at, files, alloc, tags, parent, child, &mut lists)?;
         number += 1;
     }
-    if left > 0 {
-        return children_among_all(files, alloc, tags, parent, child, count);
+    if left == 0 {
+        return Ok(lists);
     }
-    Ok(lists)
+    // not all were found so: the files are gone over, up to the last that has any
+    let mut found = Vec::with_capacity(alloc, files.len())?;
+    let mut rest = count;
+    while rest > 0 {
+        let at = found.len();
+        let list = files[at].children(alloc, tags, parent, child)?;
+        rest -= list.len() as u64;
+        found.push_reserved(list);
+    }
+    Ok(found)
 }
 
 // How many copies the maps of some lists have, or the greatest number where they have more.

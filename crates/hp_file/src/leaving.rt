@@ -4,7 +4,8 @@ ghost use Rattle.std.specs.List.{All, sum_by};
 ghost use Rattle.hp_file.specs.HeldPages.{AreDropped, AreHeld};
 ghost use Rattle.hp_lookup.specs.Held.{in_files};
 ghost use Rattle.hp_lookup.specs.Keyed.{is_listed, labels_of, maps_for};
-ghost use Rattle.hp_lookup.specs.Leaving.{HaveMapsLeft, file_owed, map_sum, swept_at};
+ghost use Rattle.hp_file.specs.Leaving.{HaveLeft};
+ghost use Rattle.hp_lookup.specs.Leaving.{file_owed, map_sum, swept_at};
 
 use crate::file_list::FileList;
 use crate::held_pages::HeldPages;
@@ -21,9 +22,7 @@ pub fn drop_maps_of<N: Naming>(
     requires held { AreHeld (λ n. in_files n files.old.files) pages.old }
     requires few { sum_by file_owed files.old.files < 2 ^ 64 }
     requires few_maps { map_sum files.old.files < 2 ^ 64 }
-    ensures { HaveMapsLeft task files.old.files files.new.files hints.old hints.new
-        pages.old.store pages.new.store pages.new.more
-        result.maps result.reserves }
+    ensures { HaveLeft task files.old files.new hints.old hints.new pages.old pages.new result }
 {
     let mut maps = 0;
     let mut reserves = 0;
@@ -48,9 +47,7 @@ pub fn drop_some_maps_of<N: Naming>(
     requires held { AreHeld (λ n. in_files n files.old.files) pages.old }
     requires few { sum_by file_owed files.old.files < 2 ^ 64 }
     requires few_maps { map_sum files.old.files < 2 ^ 64 }
-    ensures { HaveMapsLeft task files.old.files files.new.files hints.old hints.new
-        pages.old.store pages.new.store pages.new.more
-        result.maps result.reserves }
+    ensures { HaveLeft task files.old files.new hints.old hints.new pages.old pages.new result }
 {
     if count == 0 {
         return Departed {

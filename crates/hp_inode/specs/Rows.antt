@@ -3,8 +3,9 @@
 --     page_in rows i, has_slot rows i      the page of an index, and whether there is a slot for it
 --     IsFirstPage pages a i      the first with a page, of those from an index on
 --     IsTaken old new a b i page      the first page of those from a up to b was taken out, at index i
+--     MakesSlot page has i old new result      index i has a slot now, if there was memory
 --     IsTable rows words marks      the words and their marks say where there are pages
-use Rattle.std.specs.Prelude.{ℕ, ◌≡◌, ◌*◌, ◌/◌, ◌%◌, ◌<◌, ◌≤◌, ◌^◌, Bool, true, false, List, [], length, nat_lt, Option, None, Some, IsSome, MatchOption}
+use Rattle.std.specs.Prelude.{ℕ, ◌≡◌, ◌*◌, ◌/◌, ◌%◌, ◌<◌, ◌≤◌, ◌^◌, Bool, true, false, List, [], length, nat_lt, Option, None, Some, IsSome, MatchOption, Result, OnOk}
 use Rattle.std.specs.Option.{is_some}
 use Rattle.std.specs.List.{slice_index_or}
 use Rattle.hp_marks.specs.Marks.{marked}
@@ -42,6 +43,12 @@ pub record IsTable (rows : Rows) (words marks : List ℕ) : Type 0 where
   pub pages : (i : ℕ) → marked words i ≡ is_some (page_in rows i)
   pub some : (j : ℕ) → marked marks j ≡ true → ((i : ℕ) → i / 64 ≡ j → marked words i ≡ false) → ⊥
   pub none : (i : ℕ) → marked marks (i / 64) ≡ false → marked words i ≡ false
+
+-- an index has a slot now, if there was memory for it; no page changed, and no slot is gone
+pub record MakesSlot {R E : Type 0} (page : R → ℕ → Option ℕ) (has : R → ℕ → Bool) (i : ℕ) (old new : R) (result : Result (Unit {0}) E) : Type 0 where
+  pub pages : (k : ℕ) → page new k ≡ page old k
+  pub kept : (k : ℕ) → has old k ≡ true → has new k ≡ true
+  pub made : OnOk result (has new i ≡ true)
 
 -- the first index with a page, of those from a on, or none where there is none
 abbrev pub FindsPage : Rows → ℕ → Option ℕ → Type 0

@@ -75,6 +75,16 @@ impl<B: Block> BlockList<B> {
         Some(&self.made[n - 1])
     }
 
+    /// The block, if it was made. In one that was not there is nothing.
+    #[inline(always)]
+    pub fn block(&self, at: u64) -> Option<&B>
+        ensures { MatchOption result
+            (slice_index_or (contents B.empty self.now) at B.empty ≡ B.empty)
+            (λ block. slice_index_or (contents B.empty self.now) at B.empty ≡ block.now) }
+    {
+        self.get(at as usize)
+    }
+
     #[inline(always)]
     pub fn first(&self) -> &B
         ensures { slice_index_or self.now 0 None ≡ Some result.now }

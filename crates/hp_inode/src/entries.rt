@@ -39,15 +39,6 @@ impl Entries {
         }
     }
 
-    // The block with this number, if it was made.
-    #[inline(always)]
-    fn block(&self, at: u64) -> Option<&EntryBlock>
-        ensures { MatchOption result (slice_index_or self.now at [] ≡ [])
-            (λ block. slice_index_or self.now at [] ≡ block.now) }
-    {
-        self.blocks.get(at as usize)
-    }
-
     /// Whether the index `i` is in the set.
     #[inline(always)]
     pub fn contains(&self, i: u64) -> bool
@@ -56,7 +47,7 @@ impl Entries {
         if i < BLOCK {
             return self.blocks.first().contains(i);
         }
-        match self.block(i / BLOCK) {
+        match self.blocks.block(i / BLOCK) {
             Some(block) => block.contains(i % BLOCK),
             None => false,
         }
@@ -79,7 +70,7 @@ impl Entries {
     fn missing_in(&self, at: u64, from: u64, to: u64) -> u64
         ensures { result ≡ missing_in (slice_index_or self.now at []) from to }
     {
-        match self.block(at) {
+        match self.blocks.block(at) {
             Some(block) => block.missing(from, to),
             None => to.saturating_sub(from),
         }
@@ -95,7 +86,7 @@ impl Entries {
         ensures { IsTrue result → (k : ℕ)
             → marked (slice_index_or self.now at []) k ≡ false }
     {
-        match self.block(at) {
+        match self.blocks.block(at) {
             Some(block) => block.is_spent(),
             None => false,
         }

@@ -18,11 +18,11 @@ use std::marker::Model;
 /// Contracts see the list of its cells, and the range. The methods that `Inode` has are as it says of them.
 pub(crate) struct Indices {
     len: u64,
-    table: PageTable,
+    pub(crate) table: PageTable,
     // how many indices are entered, and how many of these have a page
     count: u64,
     pages: u64,
-    entries: Entries,
+    pub(crate) entries: Entries,
     // the range that can be entered: none after a change of the entries
     from: u64,
     to: u64,
@@ -84,18 +84,6 @@ impl Indices {
         ensures small { result < 2 ^ 32 }
     {
         self.len
-    }
-
-    pub fn page_at(&self, i: u64) -> Option<PageNo>
-        ensures { result ≡ page_of (cell_in self.now.cells i) }
-    {
-        self.table.page_at(i)
-    }
-
-    pub fn entered(&self, i: u64) -> bool
-        ensures { result ≡ is_entered (cell_in self.now.cells i) }
-    {
-        self.entries.contains(i)
     }
 
     pub fn entry_count(&self) -> u64

@@ -70,6 +70,17 @@ impl Inode {
         }
     }
 
+    // A file of some indices. It asks for memory where they did.
+    #[inline(always)]
+    fn kept(indices: Box<Indices>) -> Self
+        ensures { result ≡ indices.value.cells }
+    {
+        Inode {
+            alloc: *Box::allocator(&indices),
+            form: Form::Kept(indices),
+        }
+    }
+
     /// The length in indices.
     #[inline(always)]
     pub fn len(&self) -> u64
@@ -88,7 +99,7 @@ impl Inode {
     {
         match &self.form {
             Form::Holes(_) => None,
-            Form::Kept(indices) => indices.page_at(i),
+            Form::Kept(indices) => indices.table.page_at(i),
         }
     }
 
@@ -98,7 +109,7 @@ impl Inode {
     {
         match &self.form {
             Form::Holes(_) => false,
-            Form::Kept(indices) => indices.entered(i),
+            Form::Kept(indices) => indices.entries.contains(i),
         }
     }
 
@@ -186,12 +197,9 @@ impl Inode {
             Err(form) => return Err(Inode { alloc, form }),
         };
         if indices.prepare(a, b).is_err() {
-            return Err(Inode {
-                alloc,
-                form: Form::Kept(indices),
-            });
+            return Err(Inode::kept(indices));
         }
-        Ok(ReadyInode { alloc, indices })
+        Ok(ReadyInode { indices })
     }
 
     /// Makes the file `len` indices long: longer by holes, or shorter by holes alone. A file of length 0 gives back what its

@@ -2,7 +2,7 @@
 ghost use Rattle.std.specs.Prelude.{ℕ, ◌≡◌, ◌+◌, ◌-◌, ◌*◌, ◌/◌, ◌<◌, ◌≤◌, ◌^◌, ◌++◌, ◌∷◌, [], length, IsSome, OnOk, OnErr, true, None, Some};
 ghost use Rattle.std.specs.List.{count_by, range_with_len, slice_index_or};
 ghost use Rattle.std.specs.Option.{is_some};
-ghost use Rattle.hp_inode.specs.Rows.{page_in, has_slot, FindsPage, TakesFirst};
+ghost use Rattle.hp_inode.specs.Rows.{page_in, has_slot, FindsPage, MakesSlot, TakesFirst};
 
 use crate::bits::count_bits;
 use crate::block::Block;
@@ -57,20 +57,9 @@ impl PageBlock {
         count_bits(self.words.as_slice(), self.marks.as_slice(), a, b)
     }
 
-    /// Gives an index its page.
+    /// Gives an index a page, or none where it has one, and answers which it had.
     #[inline(always)]
-    pub fn fill(&mut self, i: u64, page: PageNo)
-        requires { has_slot self.old i ≡ true }
-        ensures here { page_in self.new i ≡ Some page }
-        ensures others { (k : ℕ) → (k ≡ i → ⊥) → page_in self.new k ≡ page_in self.old k }
-        ensures slots { (k : ℕ) → has_slot self.new k ≡ has_slot self.old k }
-    {
-        self.replace(i as usize, Some(page));
-    }
-
-    // Gives an index a page, or none where it has one, and answers which it had.
-    #[inline(always)]
-    fn replace(&mut self, i: usize, page: Option<PageNo>) -> Option<PageNo>
+    pub fn replace(&mut self, i: usize, page: Option<PageNo>) -> Option<PageNo>
         requires slot { has_slot self.old i ≡ true }
         requires some { page ≡ None → IsSome (page_in self.old i) }
         ensures was { result ≡ page_in self.old i }
@@ -140,9 +129,7 @@ impl PageBlock {
     #[inline(always)]
     pub fn make_slot(&mut self, i: u64) -> Result<(), AllocError>
         requires { i < 2 ^ 32 }
-        ensures pages { (k : ℕ) → page_in self.new k ≡ page_in self.old k }
-        ensures kept { (k : ℕ) → has_slot self.old k ≡ true → has_slot self.new k ≡ true }
-        ensures made { OnOk result (has_slot self.new i ≡ true) }
+        ensures { MakesSlot page_in has_slot i self.old self.new result }
     {
         if self.chunks.has_slots(i as usize / CHUNK) {
             return Ok(());

@@ -4,15 +4,12 @@ ghost use Rattle.hp_model.specs.files.File.{at_least, entered};
 ghost use Rattle.hp_model.specs.Lists.{edit_range};
 
 use crate::Inode;
-use crate::form::Form;
 use crate::indices::Indices;
-use std::alloc::Global;
 use std::marker::Model;
 
 /// A file's indices, and a range of them that can be entered with no memory. Contracts see its cells, which are as they
 /// were, and the range.
 pub struct ReadyInode {
-    pub(crate) alloc: Global,
     pub(crate) indices: Box<Indices>,
 }
 
@@ -27,10 +24,7 @@ impl Model for ReadyInode {
 // What drops one calls this, and need not know what it holds.
 impl Drop for ReadyInode {
     fn drop(self) {
-        let ReadyInode {
-            alloc: _alloc,
-            indices: _indices,
-        } = self;
+        let ReadyInode { indices: _indices } = self;
     }
 }
 
@@ -39,23 +33,17 @@ impl ReadyInode {
     pub fn enter(self) -> Inode
         ensures { result ≡ edit_range entered self.from self.to (at_least self.to self.cells) }
     {
-        let ReadyInode { alloc, mut indices } = self;
+        let ReadyInode { mut indices } = self;
         indices.enter();
-        Inode {
-            alloc,
-            form: Form::Kept(indices),
-        }
+        Inode::kept(indices)
     }
 
     /// Leaves the inode as it was.
     pub fn leave(self) -> Inode
         ensures { result ≡ self.cells }
     {
-        let ReadyInode { alloc, mut indices } = self;
+        let ReadyInode { mut indices } = self;
         indices.leave();
-        Inode {
-            alloc,
-            form: Form::Kept(indices),
-        }
+        Inode::kept(indices)
     }
 }

@@ -3,7 +3,7 @@ ghost use Rattle.std.specs.Prelude.{ℕ, ◌≡◌, ◌≢◌, ◌+◌, ◌-◌,
 ghost use Rattle.std.specs.List.{count_by, range_with_len, slice_index_or};
 ghost use Rattle.std.specs.Option.{is_some};
 ghost use Rattle.hp_inode.specs.Blocks.{block_size, most_blocks, page_at, has_slot_at};
-ghost use Rattle.hp_inode.specs.Rows.{page_in, has_slot, TakesFirst};
+ghost use Rattle.hp_inode.specs.Rows.{page_in, has_slot, MakesSlot, TakesFirst};
 
 use crate::block::{BLOCK, in_each_block, within_block};
 use crate::block_list::BlockList;
@@ -45,15 +45,6 @@ impl PageTable {
         }
     }
 
-    // The block with this number, if it was made.
-    #[inline(always)]
-    fn block(&self, at: u64) -> Option<&PageBlock>
-        ensures { MatchOption result (slice_index_or self.now at [] ≡ [])
-            (λ block. slice_index_or self.now at [] ≡ block.now) }
-    {
-        self.blocks.get(at as usize)
-    }
-
     #[inline(always)]
     pub fn page_at(&self, i: u64) -> Option<PageNo>
         ensures { result ≡ page_at self.now i }
@@ -61,7 +52,7 @@ impl PageTable {
         if i < BLOCK {
             return self.blocks.first().page_at(i);
         }
-        self.block(i / BLOCK)?.page_at(i % BLOCK)
+        self.blocks.block(i / BLOCK)?.page_at(i % BLOCK)
     }
 
     /// How many indices from `a` up to `b` have a page.
@@ -85,7 +76,7 @@ impl PageTable {
         ensures { result ≡ count_by (λ k. is_some (page_at self.now k)) (range_with_len a part) }
     {
         let from = a % BLOCK;
-        match self.block(a / BLOCK) {
+        match self.blocks.block(a / BLOCK) {
             Some(block) => block.count(from, from + part),
             None => 0,
         }
@@ -101,12 +92,11 @@ impl PageTable {
     {
         self.bare_to = self.bare_to.min(i);
         if i < BLOCK {
-            self.blocks.first_mut().fill(i, page);
+            self.blocks.first_mut().replace(i as usize, Some(page));
             return;
         }
-        self.blocks
-            .at_mut((i / BLOCK) as usize)
-            .fill(i % BLOCK, page);
+        let block = self.blocks.at_mut((i / BLOCK) as usize);
+        block.replace((i % BLOCK) as usize, Some(page));
     }
 
     /// Takes the first page of the indices from `a` up to `b` out, and answers its index with it.
@@ -192,9 +182,7 @@ impl PageTable {
     #[inline(always)]
     pub fn make_slot(&mut self, i: u64) -> Result<(), AllocError>
         requires { i < 2 ^ 32 }
-        ensures pages { (k : ℕ) → page_at self.new k ≡ page_at self.old k }
-        ensures kept { (k : ℕ) → has_slot_at self.old k ≡ true → has_slot_at self.new k ≡ true }
-        ensures made { OnOk result (has_slot_at self.new i ≡ true) }
+        ensures { MakesSlot page_at has_slot_at i self.old self.new result }
     {
         if i < BLOCK {
             return self.blocks.first_mut().make_slot(i);

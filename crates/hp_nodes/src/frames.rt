@@ -74,16 +74,6 @@ impl<N: Naming, const K: usize> NodeFrames<N, K> {
         PageDraft::new(draft, self.marks.split(node, 1))
     }
 
-    /// The page of a claim, with the bytes that its last holder left. Never refused.
-    pub fn redeem(&mut self, claim: Claim<N>) -> Page<N>
-        requires own { claim.node ≡ K }
-        requires one { claim.amount ≡ 1 }
-        ensures node { result.node ≡ K }
-        ensures left { self.new + 1 ≡ self.old }
-    {
-        self.draw(claim).into_page()
-    }
-
     /// The claim of a page that comes back. Never refused.
     pub fn give(&mut self, page: Page<N>) -> Claim<N>
         requires own { page.node ≡ K }
@@ -98,13 +88,13 @@ impl<N: Naming, const K: usize> NodeFrames<N, K> {
     }
 }
 
-/// The frames of all nodes that nobody holds, for one thread. It can't be dropped: `close` ends it.
-pub struct Frames<N: Naming> {
-    pub zero: NodeFrames<N, 0>,
-    pub one: NodeFrames<N, 1>,
-    pub two: NodeFrames<N, 2>,
-    pub three: NodeFrames<N, 3>,
-}
+/// The frames of nodes 0 to 3 that nobody holds, for one thread. It can't be dropped: `close` ends it.
+pub struct Frames<N: Naming>(
+    pub NodeFrames<N, 0>,
+    pub NodeFrames<N, 1>,
+    pub NodeFrames<N, 2>,
+    pub NodeFrames<N, 3>,
+);
 
 impl<N: Naming> Frames<N> {
     /// All frames, and the claims on them.
@@ -144,12 +134,12 @@ impl<N: Naming> Frames<N> {
         } = three;
         let mut claims = ClaimSet::all(claims_0, claims_1, claims_2, claims_3);
         let mut marks: Marks<N> = Quad::all(pages_0, pages_1, pages_2, pages_3);
-        let frames = Frames {
-            zero: NodeFrames::new(stock_0, marks.split(0, count_0), claims.redeemed(0)),
-            one: NodeFrames::new(stock_1, marks.split(1, count_1), claims.redeemed(1)),
-            two: NodeFrames::new(stock_2, marks.split(2, count_2), claims.redeemed(2)),
-            three: NodeFrames::new(stock_3, marks.split(3, count_3), claims.redeemed(3)),
-        };
+        let frames = Frames(
+            NodeFrames::new(stock_0, marks.split(0, count_0), claims.redeemed(0)),
+            NodeFrames::new(stock_1, marks.split(1, count_1), claims.redeemed(1)),
+            NodeFrames::new(stock_2, marks.split(2, count_2), claims.redeemed(2)),
+            NodeFrames::new(stock_3, marks.split(3, count_3), claims.redeemed(3)),
+        );
         marks.close();
         (frames, claims)
     }
@@ -159,12 +149,13 @@ impl<N: Naming> Frames<N> {
         requires { claim.amount ≡ 1 }
         ensures { result.node ≡ claim.node }
     {
-        match claim.node() {
-            0 => self.zero.redeem(claim),
-            1 => self.one.redeem(claim),
-            2 => self.two.redeem(claim),
-            _ => self.three.redeem(claim),
-        }
+        let draft = match claim.node() {
+            0 => self.0.draw(claim),
+            1 => self.1.draw(claim),
+            2 => self.2.draw(claim),
+            _ => self.3.draw(claim),
+        };
+        draft.into_page()
     }
 
     /// The claim of a page that comes back. Never refused.
@@ -173,21 +164,16 @@ impl<N: Naming> Frames<N> {
         ensures few { N.frames page.node < 2 ^ 64 }
     {
         match page.node() {
-            0 => self.zero.give(page),
-            1 => self.one.give(page),
-            2 => self.two.give(page),
-            _ => self.three.give(page),
+            0 => self.0.give(page),
+            1 => self.1.give(page),
+            2 => self.2.give(page),
+            _ => self.3.give(page),
         }
     }
 
     /// Ends them. A page that is still out can't come back any more.
     pub fn close(self) {
-        let Frames {
-            zero,
-            one,
-            two,
-            three,
-        } = self;
+        let Frames(zero, one, two, three) = self;
         zero.close();
         one.close();
         two.close();
@@ -206,12 +192,7 @@ impl<N: Naming> Frames<N> {
         NodeFrames<N, 2>,
         NodeFrames<N, 3>,
     ) {
-        let Frames {
-            zero,
-            one,
-            two,
-            three,
-        } = self;
+        let Frames(zero, one, two, three) = self;
         (zero, one, two, three)
     }
 
@@ -222,11 +203,6 @@ impl<N: Naming> Frames<N> {
         two: NodeFrames<N, 2>,
         three: NodeFrames<N, 3>,
     ) -> Self {
-        Frames {
-            zero,
-            one,
-            two,
-            three,
-        }
+        Frames(zero, one, two, three)
     }
 }

@@ -1,5 +1,6 @@
 //! The section in which a mount's limits are set anew.
-ghost use Rattle.std.specs.Prelude.{◌≡◌, ◌<◌};
+ghost use Rattle.std.specs.Prelude.{◌≡◌, ◌<◌, true, Err};
+ghost use Rattle.hp_model.specs.declared.section.Section.TheVariants.{ReadAndGrant};
 ghost use Rattle.hp_model.specs.files.Options.{limits, wanted_of};
 ghost use Rattle.hp_model.specs.pool.Pool.{section};
 ghost use Rattle.hp_mount_door.specs.Door.{IsReady};
@@ -27,14 +28,9 @@ pub fn set_limits<N: Naming>(
         pool.old.nr share.old share.new result.0 result.1 result.2 }
     ensures ready { IsReady pool.new }
 {
-    pool.law();
     let nr = pool.nr();
     match parse_options(options, nr, page_bytes) {
-        Err(refusal) => (
-            Err(refusal),
-            Section::ReadAndGrant { pages: 0 },
-            read_nr(true, nr),
-        ),
+        Err(refusal) => no_limits(pool, refusal),
         Ok(limits) => {
             let section = minimum_section(share, limits.min);
             match share.set_limits(pool, limits.max, limits.min) {
@@ -60,6 +56,22 @@ fn minimum_section<N: Naming>(share: &Subpool<N>, min: u64) -> Section
             pages: wanted - committed,
         }
     }
+}
+
+// What is answered where the options mean no limits: nr was read, and nothing asked of the pool.
+pub(crate) fn no_limits<N: Naming, T>(
+    pool: &Pool<N>,
+    refusal: Refusal,
+) -> (Result<T, Refusal>, Section, PoolAnswer)
+    requires { IsReady pool.now }
+    ensures error { result.0 ≡ Err refusal }
+    ensures asked { result.1 ≡ ReadAndGrant 0 }
+    ensures answer { result.2 ≡ read_nr true pool.now.nr }
+    ensures section { section pool.now result.1 ≡ (result.2, pool.now) }
+{
+    pool.law();
+    let section = Section::ReadAndGrant { pages: 0 };
+    (Err(refusal), section, read_nr(true, pool.nr()))
 }
 
 // The pool's answer where nr is read.

@@ -5,7 +5,7 @@ ghost use Rattle.hp_model.specs.pool.Pool.{section};
 ghost use Rattle.hp_mount_door.specs.Door.{IsReady};
 ghost use Rattle.hp_mount_door.specs.Opened.{IsShareOf};
 
-use crate::limits::read_nr;
+use crate::limits::{no_limits, read_nr};
 use hp_model::limits::Limits;
 use hp_model::naming::Naming;
 use hp_model::refusal::Refusal;
@@ -29,14 +29,9 @@ pub fn open_share<N: Naming>(
         pool.old.nr result.0 result.1 result.2 }
     ensures ready { IsReady pool.new }
 {
-    pool.law();
     let nr = pool.nr();
     match parse_options(options, nr, page_bytes) {
-        Err(refusal) => (
-            Err(refusal),
-            Section::ReadAndGrant { pages: 0 },
-            read_nr(true, nr),
-        ),
+        Err(refusal) => no_limits(pool, refusal),
         Ok(limits) => {
             let section = Section::ReadAndGrant { pages: limits.min };
             match Subpool::open(pool, limits.max, limits.min) {

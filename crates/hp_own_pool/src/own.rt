@@ -141,13 +141,6 @@ impl<N: Naming> OwnPool<N> {
         self.pool.node(node)
     }
 
-    /// How many pages are persistent, apart from those that became surplus.
-    pub fn nr(&self) -> u64
-        ensures { result ≡ self.now.nr }
-    {
-        self.pool.nr()
-    }
-
     /// How many nodes there are.
     pub fn len(&self) -> usize
         ensures { result ≡ length self.now.nodes.rows }
@@ -223,10 +216,10 @@ fn add_pages<N: Naming>(frames: &mut Frames<N>, parcel: Parcel<N>, batch: &mut P
     ensures rising { AreRising (sum parcel) batch.new.pages }
 {
     let (zero, one, two, three) = parcel.into_claims();
-    add_part(&mut frames.three, three, batch);
-    add_part(&mut frames.two, two, batch);
-    add_part(&mut frames.one, one, batch);
-    add_part(&mut frames.zero, zero, batch);
+    add_part(&mut frames.3, three, batch);
+    add_part(&mut frames.2, two, batch);
+    add_part(&mut frames.1, one, batch);
+    add_part(&mut frames.0, zero, batch);
 }
 
 impl<N: Naming> PoolDoor<N> for OwnPool<N> {

@@ -154,12 +154,7 @@ impl<N: Naming> Parcel<N> {
             ≡ released (fall share.old (sum self)) (puts_from 0 self pool.old) }
         ensures used { in_use pool.new + sum self ≡ in_use pool.old }
     {
-        let Parcel {
-            zero,
-            one,
-            two,
-            three,
-        } = self;
+        let (zero, one, two, three) = self.into_claims();
         put_part::<N, 0>(pool, share, zero);
         put_part::<N, 1>(pool, share, one);
         put_part::<N, 2>(pool, share, two);

@@ -10,7 +10,7 @@ ghost use Rattle.hp_file.specs.Filling.{IsTaking};
 ghost use Rattle.hp_subpool.specs.Subpool.{is_full, used};
 
 use super::File;
-use super::adding::put_back;
+use super::adding::{enter_given, prepared};
 use hp_inode::Inode;
 use hp_model::naming::Naming;
 use hp_model::refusal::Refusal;
@@ -18,7 +18,6 @@ use hp_mount_door::PoolDoor;
 use hp_store::PageBatch;
 use hp_subpool::Subpool;
 use std::alloc::Global;
-use std::mem;
 
 /// Where the word of 64 indices of `at` ends, or `end` where that comes first.
 pub fn word_end(at: u64, end: u64) -> u64
@@ -104,23 +103,8 @@ impl File {
         ensures empty { OnErr result (batch.new.pages ≡ []) }
         ensures left { D.is_left door.new }
     {
-        let inode = &mut self.inode;
-        let taken = mem::replace(inode, Inode::new(alloc));
-        match taken.prepare(a, b) {
-            Ok(ready) => match fill(door, share, k, count, batch) {
-                Ok(()) => {
-                    put_back(inode, ready.enter());
-                    Ok(())
-                }
-                Err(refusal) => {
-                    put_back(inode, ready.leave());
-                    Err(refusal)
-                }
-            },
-            Err(taken) => {
-                put_back(inode, taken);
-                Err(Refusal::OutOfMemory)
-            }
-        }
+        let ready = prepared(&mut self.inode, alloc, a, b)?;
+        let filled = fill(door, share, k, count, batch);
+        enter_given(&mut self.inode, ready, filled)
     }
 }

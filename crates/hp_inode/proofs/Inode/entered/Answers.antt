@@ -5,3 +5,8 @@ use Rattle.hp_inode.proofs.Inode.entered.Goals as goal
 
 pub returns-in-Holes : goal.returns-in-Holes
 returns-in-Holes c = rw (← c.self.view_is, c.in-Holes.is) (sym (unmarked c.args.i) ∙ entered_at_cell _ _ _ _ (holes_kept c.in-Holes.is c.self.invariant) c.args.i)
+
+pub returns-in-Kept : goal.returns-in-Kept
+returns-in-Kept c =
+    rw (← c.self.view_is, c.in-Kept.is, ← c.deref.ensures, ← c.behind-indices.view_is)
+    (c.contains.ensures ∙ entered_at_cell _ _ _ _ c.behind-indices.invariant.kept c.args.i)

@@ -8,8 +8,8 @@ pub returns-in-Some : goal.returns-in-Some
 returns-in-Some c =
     let from = c.args.a % 65536 in
     let wide : from + c.args.part - from ≡ c.args.part = omega arith in
-    c.count.ensures ∙ ap (λ m. count_by (λ k. is_some (page_in c.in-Some.block.now k)) (range_with_len from m)) wide
-    ∙ counted_in_block c.args.self.now c.args.a c.args.part c.requires c.in-Some.block.now c.in-Some.ensures
+    rw (← c.self.view_is) (c.count.ensures ∙ ap (λ m. count_by (λ k. is_some (page_in c.in-Some.block.now k)) (range_with_len from m)) wide
+    ∙ counted_in_block _ c.args.a c.args.part c.requires c.in-Some.block.now c.in-Some.ensures)
 
 pub returns-in-None : goal.returns-in-None
-returns-in-None c = none_in_block c.args.self.now c.args.a c.args.part c.requires c.in-None.ensures
+returns-in-None c = rw (← c.self.view_is) (none_in_block _ c.args.a c.args.part c.requires c.in-None.ensures)

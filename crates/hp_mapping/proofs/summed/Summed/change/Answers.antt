@@ -20,9 +20,9 @@ invariant_of-self-then-on c =
     let one = c.change_mark.ensures in
     let above = c.change_mark-then-on.ensures in
     elim c.then-on.branch [
-    | then-on-via-then-on w ↦
-      summed_marked s.words.items s.above.items new c.args.at c.self.invariant one.others one.len now (one.here ∙ w.if-on.true) above.len (above.here ∙ w.if-on.true) above.others
-    | then-on-via-else-on+then-as_slice-at-eq0 w ↦
-      (let zero : slice_index_or new (c.args.at / 64) 0 ≡ 0 = rw w.as_slice.ensures at w.if-as_slice-at-eq0.true in
-      summed_gone s.words.items s.above.items new c.args.at c.self.invariant one.others one.len (one.here ∙ w.if-on.false) now zero above.len (above.here ∙ w.if-on.false) above.others)
+      | then-on-via-then-on w ↦
+          summed_marked s.words.items s.above.items new c.args.at c.self.invariant one.others one.len now (one.here ∙ w.if-on.true) above.len (above.here ∙ w.if-on.true) above.others
+      | then-on-via-else-on+then-as_slice-at-eq0 w ↦
+          (let zero : slice_index_or new (c.args.at / 64) 0 ≡ 0 = rw w.as_slice.ensures at w.if-as_slice-at-eq0.true in
+          summed_gone s.words.items s.above.items new c.args.at c.self.invariant one.others one.len (one.here ∙ w.if-on.false) now zero above.len (above.here ∙ w.if-on.false) above.others)
     ]
