@@ -41,3 +41,8 @@ found_handed kept size at task home event reply was mid now unkept found answere
   found = subst (λ k. IsHanded k size (OnTasks (Find task)) (Ok (Home home)) was mid) unkept found;
   handed = subst (λ k. IsHanded k size (OnSlot at (event home)) reply mid now) unkept answered;
 }
+
+-- what is answered to an event, by what event it is
+pub handed_of : (kept : Bool) (size at : ℕ) (e f : SlotEvent) (reply : Reply) (was now : List Receipt) → e ≡ f → IsHanded kept size (OnSlot at e) reply was now →
+    IsHanded kept size (OnSlot at f) reply was now
+handed_of kept size at e f reply was now same handed = subst (λ (x : SlotEvent). IsHanded kept size (OnSlot at x) reply was now) same handed

@@ -1,7 +1,9 @@
 //! Loads, stores and faults that are done while their slot's lock is held, where no entries are kept.
-ghost use Rattle.std.specs.Prelude.{◌≡◌, ◌==◌, ◌≤◌, false, length, IfNone, IfSome, true};
+ghost use Rattle.std.specs.Prelude.{ℕ, ◌≡◌, ◌==◌, ◌≤◌, false, length, IfNone, IfSome, true};
 ghost use Rattle.hp_model.specs.Profile.{most_bytes};
+ghost use Rattle.hp_events.specs.Event.{as_event, shows_bytes};
 ghost use Rattle.hp_events.specs.Queues.{AreFirstHanded, IsAccessHanded};
+ghost use Rattle.hp_model.specs.declared.event.SlotEvent.TheVariants.{Fault as FaultThere, Load as LoadThere, Store as StoreThere};
 
 use crate::member::Member;
 use hp_events::{MountEvent, into_bytes, into_done};
@@ -10,6 +12,8 @@ use hp_locked::Gate;
 use hp_model::entry::{PoolEntry, SlotEntry};
 use hp_model::naming::Naming;
 use hp_model::queued::{Doing, Queued};
+use hp_model::service::Access;
+use hp_model::step::Intent;
 use hp_shared::{SeatedSlot, Shared, Ways};
 use hp_trail::trace::Trace;
 use std::sync::Wait;
@@ -71,39 +75,68 @@ fn held_access<N: Naming + Places, R: Wait, G: Gate, const K: usize>(
     let page_bytes = shared.page_bytes();
     match queued.doing() {
         Doing::Load { count } => {
-            let event = MountEvent::Load {
-                task: access.task,
-                map: access.map,
-                index: access.index,
-                offset: access.offset,
-                count,
-            };
+            let event = load_of(&access, count);
             let (told, entered) = member.unnoted(ways, slot, page_bytes, home, event, room);
             queued.answer_load(into_bytes(told));
             Some(entered)
         }
         Doing::Store { bytes } => {
-            let event = MountEvent::Store {
-                task: access.task,
-                map: access.map,
-                index: access.index,
-                offset: access.offset,
-                bytes,
-            };
+            let event = store_of(&access, bytes);
             let (told, entered) = member.unnoted(ways, slot, page_bytes, home, event, &mut []);
             queued.answer_done(into_done(told));
             Some(entered)
         }
         Doing::Fault { intent } => {
-            let event = MountEvent::Fault {
-                task: access.task,
-                map: access.map,
-                index: access.index,
-                intent,
-            };
+            let event = fault_of(&access, intent);
             let (told, entered) = member.unnoted(ways, slot, page_bytes, home, event, &mut []);
             queued.answer_done(into_done(told));
             Some(entered)
         }
+    }
+}
+
+// The event of a load.
+#[inline(always)]
+fn load_of(access: &Access, count: u64) -> MountEvent<'static>
+    ensures { (home : ℕ) → as_event home result ≡ LoadThere access.now.task home
+        access.now.map access.now.index access.now.offset count }
+{
+    MountEvent::Load {
+        task: access.task,
+        map: access.map,
+        index: access.index,
+        offset: access.offset,
+        count,
+    }
+}
+
+// The event of a store.
+#[inline(always)]
+fn store_of<'q>(access: &Access, bytes: &'q [u8]) -> MountEvent<'q>
+    ensures event { (home : ℕ) → as_event home result ≡ StoreThere access.now.task home
+        access.now.map access.now.index access.now.offset bytes.now }
+    ensures silent { shows_bytes result ≡ false }
+{
+    MountEvent::Store {
+        task: access.task,
+        map: access.map,
+        index: access.index,
+        offset: access.offset,
+        bytes,
+    }
+}
+
+// The event of a fault.
+#[inline(always)]
+fn fault_of(access: &Access, intent: Intent) -> MountEvent<'static>
+    ensures event { (home : ℕ) → as_event home result ≡ FaultThere access.now.task home
+        access.now.map access.now.index intent }
+    ensures silent { shows_bytes result ≡ false }
+{
+    MountEvent::Fault {
+        task: access.task,
+        map: access.map,
+        index: access.index,
+        intent,
     }
 }
