@@ -5,6 +5,7 @@ use Rattle.std.specs.List.{filter, sum}
 use Rattle.hp_model.specs.declared.entry.Asked.{Asked}
 use Rattle.hp_model.specs.declared.entry.PoolEntry.{PoolEntry}
 use Rattle.hp_model.specs.declared.entry.PoolEntry.TheVariants.{OfSlot}
+use Rattle.hp_model.specs.declared.entry.Receipt.{Receipt}
 use Rattle.hp_model.specs.declared.section.PoolAnswer.{PoolAnswer}
 use Rattle.hp_model.specs.declared.section.Section.{Section}
 use Rattle.hp_model.specs.declared.section.Section.TheVariants.{GiveBack}
@@ -18,7 +19,7 @@ use Rattle.hp_mount_door.specs.Door.{IsReady}
 use Rattle.hp_subpool.specs.Subpool.{Subpool, rise, with_reserves}
 use Rattle.atomic_table.specs.Seated.{TableId}
 use Rattle.hp_history.specs.declared.held.Held.{Held}
-use Rattle.hp_history.specs.Sections.{IsFree, pool_in, pool_view}
+use Rattle.hp_history.specs.Sections.{pool_in, pool_view, told_more}
 use Rattle.hp_trail.specs.Keeping.{has_room, with_entry}
 
 -- the frames of each node that a machine has: of its four names of nodes those with some
@@ -32,6 +33,9 @@ pub record CoreView : Type 0 where
   pub entries : Option (List PoolEntry)
   pub left : Option ℕ
   pub extra : ℕ
+
+abbrev pub core_view : Pool → List PoolEntry → Option (List PoolEntry) → Option ℕ → ℕ → CoreView
+core_view p run entries left extra = record { pool = p; run = run; entries = entries; left = left; extra = extra }
 
 -- from the start the trail is a run of the pool that ends in these numbers
 abbrev pub IsPoolTrail : Pool → Option (List PoolEntry) → Pool → Type 0
@@ -70,16 +74,10 @@ pub record IsPoolSeat (history : TableId) (id : TableId) (views : List (List Hel
   pub one : views ≡ pool_view views ∷ []
   pub kept : IsTrailOf (pool_in views) entries
 
--- a session's seat, which waits for nothing
-pub record IsSeat (history : TableId) (id : TableId) (me : List Held × List (ℕ × Unit {0})) : Type 0 where
+-- a session's seat, which waits for nothing, and was told of an event more
+pub record IsToldMore (history : TableId) (id : TableId) (me : List Held × List (ℕ × Unit {0})) (v : List Held) (r : Receipt) : Type 0 where
   pub named : id ≡ history
-  pub alone : me.1 ≡ []
-
--- one that entered no section either
-pub record IsFreeSeat (history : TableId) (id : TableId) (me : List Held × List (ℕ × Unit {0})) : Type 0 where
-  pub named : id ≡ history
-  pub free : IsFree me.0
-  pub alone : me.1 ≡ []
+  pub told : me ≡ (told_more v r ∷ [], [])
 
 -- what is told of the place of an entry
 abbrev pub IsPlace : {E : Type 0} → Option (List E) → ℕ → Type 0

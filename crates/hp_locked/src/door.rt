@@ -1,5 +1,6 @@
 //! A session's door to the pool under its lock.
-ghost use Rattle.std.specs.Prelude.{◌≡◌, ◌<◌, ◌==◌, Bool, List, None, Option, Some, is_some, true, []};
+ghost use Rattle.std.specs.Prelude.{◌≡◌, ◌<◌, ◌==◌, Bool, Err, IfOk, List, None, Ok, OnErr, Option, Some, is_some, true, []};
+ghost use Rattle.hp_model.specs.declared.refusal.Refusal.TheVariants.{TraceFull};
 ghost use Rattle.hp_history.specs.declared.held.Held.{Held};
 ghost use Rattle.hp_history.specs.Sections.{IsEntered, IsFree};
 ghost use Rattle.hp_model.specs.declared.entry.Asked.{Asked as AskedValue};
@@ -10,8 +11,9 @@ ghost use Rattle.hp_locked.specs.Views.{HasAsked};
 use crate::gate::Gate;
 use crate::nodes::NodeLocks;
 use crate::noted::Notes;
-use crate::pool_core::Core;
+use crate::pool_core::{Core, Full};
 use crate::waiting::hold;
+use crate::ways::Ways;
 use hp_history::{History, Places, Token};
 use hp_model::entry::{Asked, PoolEntry};
 use hp_model::limits::Limits;
@@ -59,14 +61,7 @@ impl<'a, N: Naming + Places, R: Wait, G: Gate, S: Notes, const K: usize> Model
 impl<'a, N: Naming + Places, R: Wait, G: Gate, S: Notes, const K: usize> Door<'a, N, R, G, S, K> {
     /// A door that was not used. Where entries are kept, it notes which section is entered.
     #[inline(always)]
-    pub fn new(
-        rt: &'a R,
-        gate: &'a G,
-        core: &'a Mutex<Core<N, Trace<PoolEntry, K>>>,
-        nodes: &'a NodeLocks<N>,
-        history: &'a History<N>,
-        mine: Token,
-    ) -> Self
+    pub fn new(ways: &Ways<'a, N, R, G, K>, mine: Token) -> Self
         requires named { mine.table_id ≡ N.history }
         requires free { IsFree mine.me.0 }
         requires alone { mine.me.1 ≡ [] }
@@ -74,11 +69,11 @@ impl<'a, N: Naming + Places, R: Wait, G: Gate, S: Notes, const K: usize> Door<'a
         ensures { result ≡ record { asked = None; mine = mine.me.0 } }
     {
         Door {
-            rt,
-            gate,
-            core,
-            nodes,
-            history,
+            rt: ways.rt,
+            gate: ways.gate,
+            core: ways.core,
+            nodes: ways.nodes,
+            history: ways.history,
             mine,
             noted: S::new(),
         }
@@ -107,6 +102,22 @@ impl<'a, N: Naming + Places, R: Wait, G: Gate, S: Notes, const K: usize> Door<'a
         ensures { (K == 1) ≡ true → result ≡ self.now.asked }
     {
         self.noted.section()
+    }
+}
+
+// What a section brought, which is noted; or the trail was full.
+#[inline(always)]
+fn noted<T, S: Notes>(notes: &mut S, got: Result<(T, Asked), Full>) -> Result<T, Refusal>
+    ensures some { IfOk got (λ r. (result ≡ Ok r.0) × (S.is_entered notes.new ≡ true)
+        × (S.keeps ≡ true → S.section notes.new ≡ Some r.1)) }
+    ensures none { OnErr got ((result ≡ Err TraceFull) × (notes.new ≡ notes.old)) }
+{
+    match got {
+        Ok((brought, asked)) => {
+            notes.note(Some(asked));
+            Ok(brought)
+        }
+        Err(_full) => Err(Refusal::TraceFull),
     }
 }
 
@@ -141,11 +152,7 @@ impl<'a, N: Naming + Places, R: Wait, G: Gate, S: Notes, const K: usize> PoolDoo
     fn get_page(&mut self, share: &mut Subpool<N>, home: usize) -> Result<Page<N>, Refusal> {
         let mine = &mut self.mine;
         let got = hold(self.core, self.rt).get_page(self.history, mine, share, home);
-        let Ok((claim, asked)) = got else {
-            return Err(Refusal::TraceFull);
-        };
-        self.noted.note(Some(asked));
-        match claim {
+        match noted(&mut self.noted, got)? {
             Some(claim) => Ok(self.nodes.redeem(self.rt, self.gate, claim)),
             None => Err(Refusal::NoPages),
         }
@@ -170,11 +177,7 @@ impl<'a, N: Naming + Places, R: Wait, G: Gate, S: Notes, const K: usize> PoolDoo
     ) -> Result<(), Refusal> {
         let mine = &mut self.mine;
         let got = hold(self.core, self.rt).fill(self.history, mine, share, k, count);
-        let Ok((parcel, asked)) = got else {
-            return Err(Refusal::TraceFull);
-        };
-        self.noted.note(Some(asked));
-        match parcel {
+        match noted(&mut self.noted, got)? {
             Some(parcel) => {
                 self.nodes.add_pages(self.rt, self.gate, parcel, batch);
                 Ok(())

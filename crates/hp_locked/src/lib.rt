@@ -10,6 +10,7 @@ mod noting;
 mod pool_core;
 mod pool_told;
 mod waiting;
+mod ways;
 
 pub use door::{Door, SessionDoor};
 pub use gate::Gate;
@@ -19,3 +20,4 @@ pub use noted::{Entered, Noted, Notes};
 pub use pool_core::{Core, Full};
 pub use pool_told::PoolTold;
 pub use waiting::hold;
+pub use ways::Ways;

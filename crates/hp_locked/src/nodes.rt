@@ -9,12 +9,12 @@ use crate::gate::Gate;
 use crate::line_lock::LineLock;
 use crate::waiting::hold;
 use hp_model::naming::Naming;
-use hp_nodes::{Frames, NodeFrames, Page, PageDraft};
+use hp_nodes::{Frames, NodeFrames, Page};
 use hp_own_pool::Parcel;
 use hp_own_pool::filling::add_claim;
 use hp_permit::Claim;
 use hp_store::{PageBatch, PageStore};
-use std::sync::{Mutex, Wait};
+use std::sync::{Mutex, MutexGuard, Wait};
 
 /// The frames of each node that nobody holds, under a lock of its own, on cache lines of its own. No page is filled, read or
 /// written under one.
@@ -25,19 +25,16 @@ pub struct NodeLocks<N: Naming> {
     three: LineLock<NodeFrames<N, 3>>,
 }
 
-fn draw_at<N: Naming, R: Wait, G: Gate, const K: usize>(
+// The frames of node K, once their lock is held.
+#[inline(always)]
+fn held<'b, N: Naming, R: Wait, G: Gate, const K: usize>(
     rt: &R,
     gate: &G,
-    lock: &Mutex<NodeFrames<N, K>>,
-    claim: Claim<N>,
-) -> PageDraft<N>
-    requires node { claim.node ≡ K }
-    requires one { claim.amount ≡ 1 }
-    ensures { result.node ≡ claim.node }
-{
-    let mut frames = hold(lock, rt);
+    lock: &'b Mutex<NodeFrames<N, K>>,
+) -> MutexGuard<'b, NodeFrames<N, K>> {
+    let frames = hold(lock, rt);
     gate.frame(K as u64);
-    frames.draw(claim)
+    frames
 }
 
 // Draws the pages of a claim on node K's frames, if there is one, in one hold of its lock.
@@ -55,26 +52,10 @@ fn add_part_at<N: Naming, R: Wait, G: Gate, const K: usize>(
     ensures room { batch.new.room + claimed part ≡ batch.old.room }
 {
     if let Some(claim) = part {
-        let mut value = hold(lock, rt);
-        gate.frame(K as u64);
+        let mut value = held(rt, gate, lock);
         let frames: &mut NodeFrames<N, K> = &mut value;
         add_claim(frames, claim, batch);
     }
-}
-
-fn give_at<N: Naming, R: Wait, G: Gate, const K: usize>(
-    rt: &R,
-    gate: &G,
-    lock: &Mutex<NodeFrames<N, K>>,
-    page: Page<N>,
-) -> Claim<N>
-    requires node { page.node ≡ K }
-    ensures claim { result ≡ record { node = page.node; amount = 1 } }
-    ensures few { N.frames page.node < 2 ^ 64 }
-{
-    let mut frames = hold(lock, rt);
-    gate.frame(K as u64);
-    frames.give(page)
 }
 
 impl<N: Naming> NodeLocks<N> {
@@ -111,10 +92,10 @@ impl<N: Naming> NodeLocks<N> {
         ensures { result.node ≡ claim.node }
     {
         let draft = match claim.node() {
-            0 => draw_at(rt, gate, self.zero.mutex(), claim),
-            1 => draw_at(rt, gate, self.one.mutex(), claim),
-            2 => draw_at(rt, gate, self.two.mutex(), claim),
-            _ => draw_at(rt, gate, self.three.mutex(), claim),
+            0 => held(rt, gate, self.zero.mutex()).draw(claim),
+            1 => held(rt, gate, self.one.mutex()).draw(claim),
+            2 => held(rt, gate, self.two.mutex()).draw(claim),
+            _ => held(rt, gate, self.three.mutex()).draw(claim),
         };
         draft.into_page()
     }
@@ -145,10 +126,10 @@ impl<N: Naming> NodeLocks<N> {
         ensures few { N.frames page.node < 2 ^ 64 }
     {
         match page.node() {
-            0 => give_at(rt, gate, self.zero.mutex(), page),
-            1 => give_at(rt, gate, self.one.mutex(), page),
-            2 => give_at(rt, gate, self.two.mutex(), page),
-            _ => give_at(rt, gate, self.three.mutex(), page),
+            0 => held(rt, gate, self.zero.mutex()).give(page),
+            1 => held(rt, gate, self.one.mutex()).give(page),
+            2 => held(rt, gate, self.two.mutex()).give(page),
+            _ => held(rt, gate, self.three.mutex()).give(page),
         }
     }
 

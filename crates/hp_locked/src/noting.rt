@@ -1,11 +1,11 @@
 //! Entries of the pool's trail.
 ghost use Rattle.std.specs.Prelude.{◌≡◌, ◌∷◌, [], length, true, Some};
 ghost use Rattle.hp_history.specs.History.{IsSession};
-ghost use Rattle.hp_history.specs.Sections.{IsEntered, pool_in, pool_next, pool_receipt, pool_with, told_more};
+ghost use Rattle.hp_history.specs.Sections.{IsEntered, IsFreeSeat, IsSeat, pool_in, pool_next, pool_receipt, pool_with};
 ghost use Rattle.hp_model.specs.declared.entry.PoolEntry.TheVariants.{OfPool, OfSlot};
 ghost use Rattle.hp_trail.specs.Keeping.{has_room, one_less, with_entry};
 ghost use Rattle.hp_locked.specs.Told.{pool_reply};
-ghost use Rattle.hp_locked.specs.Views.{IsFreeSeat, IsPlace, IsPoolSeat, IsSeat};
+ghost use Rattle.hp_locked.specs.Views.{IsPlace, IsPoolSeat, IsToldMore};
 
 use crate::pool_told::PoolTold;
 use atomic_table::Badge;
@@ -74,12 +74,8 @@ pub(crate) fn note_event<N: Places, T: Trail<PoolEntry>>(
     ensures pool { seat.new.table_id ≡ N.history }
     ensures run { seat.new.views
         ≡ (pool_with event (pool_reply told) (pool_in seat.old.views) ∷ []) ∷ [] }
-    ensures named { mine.new.table_id ≡ N.history }
-    ensures told { mine.new.me ≡ (
-      told_more mine.old.me.0
-          (pool_receipt event (pool_reply told) (length (pool_in seat.old.views))) ∷ [],
-      [],
-    ) }
+    ensures mine { IsToldMore N.history mine.new.table_id mine.new.me mine.old.me.0
+        (pool_receipt event (pool_reply told) (length (pool_in seat.old.views))) }
 {
     let place = trail.place();
     trail.push(PoolEntry::OfPool {

@@ -13,7 +13,7 @@ ghost use Rattle.hp_pool.specs.Sums.{idle_pool};
 ghost use Rattle.hp_subpool.specs.Subpool.{committed_of};
 ghost use Rattle.hp_trail.specs.Keeping.{has_room};
 ghost use Rattle.hp_locked.specs.Told.{IsPoolEventDone, pool_reply};
-ghost use Rattle.hp_locked.specs.Views.{IsNewTrail, IsPoolTrail, IsTrailOf, frames_list};
+ghost use Rattle.hp_locked.specs.Views.{IsNewTrail, IsPoolTrail, IsTrailOf, core_view, frames_list};
 
 mod giving;
 mod opening;
@@ -53,17 +53,12 @@ pub struct Core<N: Naming + Places, T: Trail<PoolEntry>> {
 impl<N: Naming + Places, T: Trail<PoolEntry>> Model for Core<N, T> {
     ghost use Rattle.hp_history.specs.Sections.{pool_in};
     ghost use Rattle.hp_pool.specs.Sums.{idle_pool};
-    ghost use Rattle.hp_locked.specs.Views.{CoreView, IsCore, IsSeated, frames_list};
+    ghost use Rattle.hp_locked.specs.Views.{CoreView, IsCore, IsSeated, core_view, frames_list};
 
     ghost Value = { CoreView };
 
-    ghost view = { λ c. record {
-      pool = c.pool;
-      run = pool_in c.seat.views;
-      entries = T.entries c.trail;
-      left = T.left c.trail;
-      extra = T.extra c.trail;
-    } };
+    ghost view = { λ c. core_view c.pool (pool_in c.seat.views) (T.entries c.trail)
+        (T.left c.trail) (T.extra c.trail) };
 
     ghost invariant = { λ c. IsCore (idle_pool (frames_list N.frames)) (T.entries c.trail)
         (T.left c.trail) (T.extra c.trail) c.pool
@@ -82,13 +77,7 @@ impl<N: Naming + Places, T: Trail<PoolEntry>> Core<N, T> {
             ≤ T.extra trail }
         requires named { seat.table_id ≡ N.history }
         requires seat { seat.me ≡ (PoolPart [] ∷ [], []) }
-        ensures { result ≡ record {
-          pool = pool;
-          run = [];
-          entries = T.entries trail;
-          left = T.left trail;
-          extra = T.extra trail;
-        } }
+        ensures { result ≡ core_view pool [] (T.entries trail) (T.left trail) (T.extra trail) }
     {
         pool.law();
         Core {

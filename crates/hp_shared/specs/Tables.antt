@@ -61,6 +61,9 @@ pub record TableView : Type 0 where
   pub left : Option ℕ
   pub extra : ℕ
 
+abbrev pub locked_table : Table → List TableEntry → Option (List TableEntry) → Option ℕ → ℕ → TableView
+locked_table t run entries left extra = record { tasks = t; run = run; entries = entries; left = left; extra = extra }
+
 -- what holds of the table under its lock: from no task its trail is a run of it that ends in these tasks; and a place is left for the
 -- removal of each task
 pub record IsLockedTable (nodes : ℕ) (run : List TableEntry) (entries : Option (List TableEntry)) (left : Option ℕ) (extra : ℕ) (t : Table) : Type 0 where

@@ -15,12 +15,11 @@ mod shared;
 mod spare;
 mod table;
 mod told;
-mod ways;
 
 pub use ended::Ended;
 pub use finished::Finished;
+pub use hp_locked::Ways;
 pub use locked_slot::Slot;
 pub use seated_slot::SeatedSlot;
 pub use shared::{Shared, Trails, Unshared};
 pub use table::Table;
-pub use ways::Ways;

@@ -20,12 +20,11 @@ ghost use Rattle.hp_shared.specs.Slots.{IsSlotTrail, slot_start};
 
 use crate::locked_slot::Slot;
 use crate::seats::{join, leave, leave_names};
-use crate::ways::Ways;
 use atomic_table::Badge;
 use hp_events::copies::Copies;
 use hp_events::{MountEvent, SlotWork};
 use hp_history::{History, Places, Token, View};
-use hp_locked::{Door, Entered, Gate, Noted};
+use hp_locked::{Door, Entered, Gate, Noted, Ways};
 use hp_model::entry::{Receipt, SlotEntry};
 use hp_model::names::Names;
 use hp_model::naming::Naming;
@@ -154,14 +153,7 @@ impl<N: Naming + Places, T: Trail<SlotEntry>> SeatedSlot<N, T> {
         let SeatedSlot { slot, seat } = self;
         let mut mine = mine;
         join(ways.history, seat, &mut mine);
-        let mut door: Door<'_, N, R, G, Noted, K> = Door::new(
-            ways.rt,
-            ways.gate,
-            ways.core,
-            ways.nodes,
-            ways.history,
-            mine,
-        );
+        let mut door: Door<'_, N, R, G, Noted, K> = Door::new(ways, mine);
         let (told, receipt) = slot.work(&mut door, alloc, page_bytes, work, copies, room);
         let mut mine = door.into_mine();
         *seat = leave(ways.history, &mut mine, work, &told);
@@ -199,14 +191,7 @@ impl<N: Naming + Places, T: Trail<SlotEntry>> SeatedSlot<N, T> {
         let SeatedSlot { slot, seat } = self;
         let mut mine = mine;
         join(ways.history, seat, &mut mine);
-        let mut door: Door<'_, N, R, G, Entered, K> = Door::new(
-            ways.rt,
-            ways.gate,
-            ways.core,
-            ways.nodes,
-            ways.history,
-            mine,
-        );
+        let mut door: Door<'_, N, R, G, Entered, K> = Door::new(ways, mine);
         let told = slot.event_unnoted(&mut door, page_bytes, home, event, room);
         let entered = door.is_entered();
         let mut mine = door.into_mine();

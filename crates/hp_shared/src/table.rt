@@ -11,7 +11,7 @@ ghost use Rattle.hp_history.specs.History.{IsChange, IsSession};
 ghost use Rattle.hp_history.specs.Sections.{told_more};
 ghost use Rattle.hp_locked.specs.Views.{IsNewTrail, IsTrailOf, frames_list};
 ghost use Rattle.hp_events.specs.Replies.{table_reply};
-ghost use Rattle.hp_shared.specs.Tables.{IsNext, IsTableEventDone, table_in, table_receipt, table_view, table_with};
+ghost use Rattle.hp_shared.specs.Tables.{IsNext, IsTableEventDone, locked_table, table_in, table_receipt, table_view, table_with};
 ghost use Rattle.hp_trail.specs.Keeping.{has_room, one_less, with_entry};
 
 use atomic_table::Badge;
@@ -42,17 +42,12 @@ pub struct Table<N: Naming + Places, T: Trail<TableEntry>> {
 impl<N: Naming + Places, T: Trail<TableEntry>> Model for Table<N, T> {
     ghost use Rattle.std.specs.Prelude.{◌≡◌, ◌∷◌, [], length};
     ghost use Rattle.hp_locked.specs.Views.{frames_list};
-    ghost use Rattle.hp_shared.specs.Tables.{IsLockedTable, TableView, table_in, table_view};
+    ghost use Rattle.hp_shared.specs.Tables.{IsLockedTable, TableView, locked_table, table_in, table_view};
 
     ghost Value = { TableView };
 
-    ghost view = { λ t. record {
-      tasks = t.tasks;
-      run = table_in t.seat.views;
-      entries = T.entries t.trail;
-      left = T.left t.trail;
-      extra = T.extra t.trail;
-    } };
+    ghost view = { λ t. locked_table t.tasks (table_in t.seat.views) (T.entries t.trail)
+        (T.left t.trail) (T.extra t.trail) };
 
     ghost invariant = { λ t. (t.nodes ≡ length (frames_list N.frames))
         × (t.nodes ≡ N.shape.nodes)
@@ -73,13 +68,7 @@ impl<N: Naming + Places, T: Trail<TableEntry>> Table<N, T> {
         requires enough { most_tasks ≤ T.extra trail }
         requires named { seat.table_id ≡ N.history }
         requires first { seat.me ≡ (Tasks [] ∷ [], []) }
-        ensures { result ≡ record {
-          tasks = tasks;
-          run = [];
-          entries = T.entries trail;
-          left = T.left trail;
-          extra = T.extra trail;
-        } }
+        ensures { result ≡ locked_table tasks [] (T.entries trail) (T.left trail) (T.extra trail) }
     {
         Table {
             nodes,

@@ -8,8 +8,8 @@ ghost use Rattle.hp_model.specs.threads.Closing.{to_return};
 ghost use Rattle.hp_mount_door.specs.Door.{IsReady, with_less};
 ghost use Rattle.hp_subpool.specs.Subpool.{committed_of, fall};
 ghost use Rattle.hp_trail.specs.Keeping.{has_room, one_less, with_entry};
-ghost use Rattle.hp_history.specs.Sections.{IsEntered, pool_in, pool_next};
-ghost use Rattle.hp_locked.specs.Views.{IsFreeSeat, IsGiven, IsPlace, IsPoolSeat, IsSeat};
+ghost use Rattle.hp_history.specs.Sections.{IsEntered, IsFreeSeat, IsSeat, pool_in, pool_next};
+ghost use Rattle.hp_locked.specs.Views.{IsGiven, IsPlace, IsPoolSeat};
 
 use super::{Core, committed, granted};
 use crate::noting::note;

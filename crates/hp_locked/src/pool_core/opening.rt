@@ -4,8 +4,8 @@ ghost use Rattle.hp_model.specs.files.Options.{limits, wanted_of};
 ghost use Rattle.hp_mount_door.specs.Limits.{IsLimitedBy};
 ghost use Rattle.hp_trail.specs.Keeping.{has_room};
 ghost use Rattle.hp_mount_door.specs.Opened.{IsShareOf};
-ghost use Rattle.hp_history.specs.Sections.{IsEntered};
-ghost use Rattle.hp_locked.specs.Views.{IsFreeSeat, IsFull, IsSeat, IsSection};
+ghost use Rattle.hp_history.specs.Sections.{IsEntered, IsFreeSeat, IsSeat};
+ghost use Rattle.hp_locked.specs.Views.{IsFull, IsSection};
 
 use super::{Core, Full};
 use crate::noting::note;

@@ -7,8 +7,8 @@ ghost use Rattle.hp_mount_door.specs.Door.{IsReady, grant_for, grant_one, with_g
 ghost use Rattle.hp_mount_door.specs.Filling.{fill_for, with_filled};
 ghost use Rattle.hp_subpool.specs.Subpool.{is_full as ShareIsFull, rise, used};
 ghost use Rattle.hp_trail.specs.Keeping.{has_room};
-ghost use Rattle.hp_history.specs.Sections.{IsEntered};
-ghost use Rattle.hp_locked.specs.Views.{IsAnswered, IsFreeSeat, IsFull, IsSeat, IsSection, IsUnasked};
+ghost use Rattle.hp_history.specs.Sections.{IsEntered, IsFreeSeat, IsSeat};
+ghost use Rattle.hp_locked.specs.Views.{IsAnswered, IsFull, IsSection, IsUnasked};
 
 use super::{Core, Full, committed, granted, refused};
 use crate::noting::note;

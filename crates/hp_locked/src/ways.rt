@@ -1,7 +1,9 @@
 //! The ways from a slot to the pool.
 
+use crate::gate::Gate;
+use crate::nodes::NodeLocks;
+use crate::pool_core::Core;
 use hp_history::{History, Places};
-use hp_locked::{Core, Gate, NodeLocks};
 use hp_model::entry::PoolEntry;
 use hp_model::naming::Naming;
 use hp_trail::trace::Trace;
