@@ -3,11 +3,11 @@ use Rattle.std.proofs.lemmas.Grind.{common_steps}
 use Rattle.std.proofs.Common.{◌≡◌, ℕ, Bool, true, false, List, length, take, drop, None, Some, Ok, refl, sym, ap, arith, Result}
 use denote.Ref.{Bor}
 use Rattle.hp_model.proofs.Words.{Choice, Copy, Mount, Page, Spot, access, bytes_reply, cell_at, copy_of, file_in, has_page, is_live, is_shared, map_in, place_at, shared_access, value}
-use Rattle.hp_laws.proofs.Variants.{Cell, Done, Entered, Gone, Hole, Intent, Live, Place, PoolAnswer, Present, Read, Refusal, Section}
+use Rattle.hp_laws.proofs.Variants.{Cell, Entered, Gone, Hole, Intent, Live, Place, PoolAnswer, Present, Read, Refusal, Section}
 use Rattle.hp_model.specs.declared.event.SlotEvent.TheVariants.{Load}
 use Rattle.hp_lookup.specs.declared.map_place.MapPlace.{MapPlace}
 use Rattle.hp_mount_files.specs.Lent.{IsReadable}
-use Rattle.hp_mount_laws.specs.Done.{IsAccessed, IsDone}
+use Rattle.hp_mount_laws.specs.Done.{IsAccessed, IsDone, IsReached, done}
 use Rattle.hp_mount_laws.specs.Reach.{IsFileTouched, spot_at}
 use Rattle.hp_mount_laws.proofs.Private.{copy_read, page_read}
 use Rattle.hp_mount_laws.proofs.Shared.{shared_present}
@@ -28,10 +28,17 @@ module _ {X : Type 0} (took : X → Section → PoolAnswer → X → Type 0) (fu
   abbrev s : Spot
   s = spot_at m at.file at.map
 
+  -- a shared map at an index of its file that was reached
+  pub reached_shared : (intent : Intent) (result : Result (Unit {0}) Refusal) (n : Mount) (left : X) → is_shared s.map.sharing ≡ true
+      → IsReached took full size home at.file i m door result n left
+      → IsAccessed took full size home at i intent m door result n left
+  reached_shared intent result n left shared reached = tried_as took full (λ (x : Choice). shared_access x size m s home i (cell_at s.file i)) (λ (x : Choice). access x size m s home i intent)
+      (λ x. sym (shared_is x size m s home i intent shared)) (Some m) door (done result) (Some n) left (reached s refl refl)
+
   -- a shared map at a page that is there
   pub present_shared : (intent : Intent) (page : Page) → is_shared s.map.sharing ≡ true → cell_at s.file i ≡ Present page → IsAccessed took full size home at i intent m door (Ok tt) m door
-  present_shared intent page shared there = tried_as took full (λ (x : Choice). shared_access x size m s home i (cell_at s.file i)) (λ (x : Choice). access x size m s home i intent)
-      (λ x. sym (shared_is x size m s home i intent shared)) (Some m) door (Ok Done) (Some m) door (shared_present took full size m home at.file i s refl refl door page there)
+  present_shared intent page shared there =
+      reached_shared intent (Ok tt) m door shared (λ t file is. shared_present took full size m home at.file i t file is door page there)
 
   -- a reader who need not ask for a page
   pub found_read : is_live (place_at s.map i) ≡ true → IsReadable i s.file s.map → IsAccessed took full size home at i Read m door (Ok tt) m door

@@ -1,4 +1,4 @@
--- What an access asks before it begins.
+-- What an access asks before it begins, and where it goes.
 use Rattle.std.specs.Prelude.{◌<◌, ◌≤◌, ◌≡◌, ℕ, ◌+◌, Bool, true, Option, None, Some, List, length}
 use Rattle.hp_model.specs.declared.refusal.Refusal.{Refusal}
 use Rattle.hp_model.specs.declared.refusal.Refusal.TheVariants.{NoSuchMap}
@@ -31,6 +31,11 @@ Fits size (Bytes offset count) = (offset + count ≤ size) × (count ≤ most_by
 -- why it does not begin, if anything: there is no such map, or else the first of its tests that fails
 abbrev pub why_not : Mount → MapAccess → Asked → (size : ℕ) → Option Refusal
 why_not m a asked size = elim (spot_of a m) [ None ↦ Some NoSuchMap | Some s ↦ first_of (tests_of size a.index asked s) ]
+
+-- the file at the place has the index
+pub record HasIndex (m : Mount) (k i : ℕ) : Type 0 where
+  pub file : k < length m.files
+  pub below : i < length (file_in m k).cells
 
 -- the map of the access stands at the place, and the access begins
 pub record IsPlaced (m : Mount) (a : MapAccess) (asked : Asked) (size : ℕ) (at : MapPlace) : Type 0 where

@@ -16,7 +16,6 @@ ghost use Rattle.hp_mount_laws.specs.Kept.{mount_from};
 ghost use Rattle.hp_events.specs.Memory.{asks_memory};
 
 mod contents;
-mod events;
 mod filling;
 mod forking;
 mod giving;
@@ -33,7 +32,7 @@ use hp_model::naming::Naming;
 use hp_model::refusal::Refusal;
 use hp_model::told::Told;
 use hp_mount_door::PoolDoor;
-use hp_mount_files::Files;
+use hp_mount_files::{Files, MapRange};
 use hp_subpool::Subpool;
 pub use reach::MapAccess;
 use std::alloc::Global;
@@ -113,21 +112,21 @@ impl<N: Naming> Mount<N> {
         door: &mut D,
         page_bytes: u64,
         home: u64,
-        event: MountEvent<'_>,
+        event: &MountEvent<'_>,
         room: &'a mut [u8],
     ) -> Result<Told<'a>, Refusal>
         requires ready { D.is_ready door.old }
         requires page_bytes { page_bytes ≡ N.page_bytes }
-        requires room { shows_bytes event ≡ true → most_bytes ≤ length room.old }
+        requires room { shows_bytes event.now ≡ true → most_bytes ≤ length room.old }
         ensures done { (k : ℕ) → IsDone D.took D.is_full N.page_bytes k (Some self.old) door.old
-            (as_event home event.entry) (told_reply result) (Some self.new) door.new }
+            (as_event home event.now) (told_reply result) (Some self.new) door.new }
         ensures left { D.is_left door.new }
-        ensures memory { asks_memory (Some self.old) (as_event home event.entry) ≡ false
+        ensures memory { asks_memory (Some self.old) (as_event home event.now) ≡ false
             → told_reply result ≢ Err Refusal.OutOfMemory }
-        ensures limits { is_usage (as_event home event.entry) ≡ true
+        ensures limits { is_usage (as_event home event.now) ≡ true
             → IsWithinLimits (told_reply result) }
     {
-        match event {
+        match *event {
             MountEvent::Create { name } => Told::done(self.create(name)),
             MountEvent::Ls => self.ls(),
             MountEvent::Df => Ok(self.usage()),
@@ -151,16 +150,57 @@ impl<N: Naming> Mount<N> {
                 pages,
                 sharing,
                 reserving,
-            } => Told::map_no(self.new_map(
-                door, home, task, name, from, pages, sharing, reserving,
-            )),
+            } => {
+                let range = MapRange {
+                    task,
+                    start: from,
+                    pages,
+                    sharing,
+                    reserving,
+                };
+                Told::map_no(self.map(door, home, name, &range))
+            }
             MountEvent::Anon {
                 task,
                 pages,
                 sharing,
                 reserving,
             } => Told::map_no(self.anon(door, home, task, pages, sharing, reserving)),
-            _ => self.apply_to_map(door, page_bytes, home, event, room),
+            MountEvent::Unmap {
+                task,
+                map,
+                from,
+                to,
+            } => Told::done(self.unmap(door, task, map, from, to)),
+            MountEvent::Fault {
+                task,
+                map,
+                index,
+                intent,
+            } => {
+                let access = MapAccess { task, map, index };
+                Told::done(self.fault(door, home, &access, intent))
+            }
+            MountEvent::Load {
+                task,
+                map,
+                index,
+                offset,
+                count,
+            } => {
+                let access = MapAccess { task, map, index };
+                Told::bytes(self.load(door, page_bytes, home, &access, offset, count, room))
+            }
+            MountEvent::Store {
+                task,
+                map,
+                index,
+                offset,
+                bytes,
+            } => {
+                let access = MapAccess { task, map, index };
+                Told::done(self.store(door, page_bytes, home, &access, offset, bytes))
+            }
         }
     }
 

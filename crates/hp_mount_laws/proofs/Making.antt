@@ -13,7 +13,7 @@ use Rattle.hp_mount_laws.specs.Alone.{IsDoneAlone}
 use Rattle.hp_mount_laws.specs.Done.{Enters, Through, Tried}
 use Rattle.hp_mount_laws.specs.Reach.{first_of}
 use Rattle.hp_mount_laws.specs.Kept.{IsKept, mount_from}
-use Rattle.hp_mount_laws.specs.Making.{create_tests, map_tests}
+use Rattle.hp_mount_laws.specs.Making.{create_tests, file_tests, map_tests}
 use Rattle.hp_mount_laws.proofs.Trying.{tests_fail, tests_pass, tried_as}
 use Rattle.hp_mount_laws.proofs.Ways.{fresh_choice, is_fresh, refused_at}
 use Rattle.hp_subpool.specs.Subpool as share
@@ -208,3 +208,36 @@ module _ {X : Type 0} (took : X → Section → PoolAnswer → X → Type 0) (fu
   anon_went number pass number_is reply new left h =
       tried_as took full (λ c. anon_grants c number) anon_event (λ c. ap (anon_grants c) number_is
       ∙ sym (tests_pass (anon_tests m task n) (anon_grants c (next_number task m)) pass)) (Some m) door reply new left h
+
+-- the tests of a file without name with a map of all its n indices are those of the map, and of one file more
+module _ (m : Mount) (task n : ℕ) where
+  by_tests : (bad long many full without : Bool) → cond bad (Some r.OutOfRange) (cond (long || many) (Some r.TooMany) None) ≡ None
+      → cond bad (Some r.OutOfRange) (cond (long || many || full) (Some r.TooMany) (cond without (Some r.NoInodes) None)) ≡ cond full (Some r.TooMany) (cond without (Some r.NoInodes) None)
+  by_tests true long many full without e = cc
+  by_tests false true many full without e = cc
+  by_tests false false true full without e = cc
+  by_tests false false false full without e = refl
+
+  -- the map begins at index 0
+  from_start : {o : Option Refusal} → first_of (map_tests m task 0 n) ≡ o
+      → cond ((n == 0) || nat_lt most_file_pages n) (Some r.OutOfRange) (cond (nat_lt most_map_pages n || are_too_many_maps m task) (Some r.TooMany) None) ≡ o
+  from_start {o} h =
+      let zero : 0 + n ≡ n = omega arith in
+      subst (λ end. cond ((n == 0) || nat_lt most_file_pages end) (Some r.OutOfRange) (cond (nat_lt most_map_pages n || are_too_many_maps m task) (Some r.TooMany) None) ≡ o) zero h
+
+  pub anon_by_file : first_of (map_tests m task 0 n) ≡ None → first_of (anon_tests m task n) ≡ first_of (file_tests m)
+  anon_by_file pass =
+      by_tests ((n == 0) || nat_lt most_file_pages n) (nat_lt most_map_pages n) (are_too_many_maps m task) (nat_le most_files (length m.files))
+      (is_over m.limits.inodes (length m.files + 1)) (from_start pass)
+
+  by_map : (bad long many full without : Bool) (e : Refusal) → cond bad (Some r.OutOfRange) (cond (long || many) (Some r.TooMany) None) ≡ Some e
+      → cond bad (Some r.OutOfRange) (cond (long || many || full) (Some r.TooMany) (cond without (Some r.NoInodes) None)) ≡ Some e
+  by_map true long many full without e h = h
+  by_map false true many full without e h = h
+  by_map false false true full without e h = h
+  by_map false false false full without e h = cc
+
+  pub anon_by_map : (e : Refusal) → first_of (map_tests m task 0 n) ≡ Some e → first_of (anon_tests m task n) ≡ Some e
+  anon_by_map e h =
+      by_map ((n == 0) || nat_lt most_file_pages n) (nat_lt most_map_pages n) (are_too_many_maps m task) (nat_le most_files (length m.files))
+      (is_over m.limits.inodes (length m.files + 1)) e (from_start h)

@@ -3,4 +3,3 @@ pub mod Reach
 pub mod Done
 pub mod Alone
 pub mod Making
-pub mod Maps

@@ -11,14 +11,18 @@ use Rattle.hp_model.specs.files.MakeMap.{with_new}
 use Rattle.hp_model.specs.machine.Plan.{Answered, Choice, Plan, Reply, grant}
 use Rattle.hp_model.specs.Profile.{most_file_pages, most_files, most_map_pages}
 use Rattle.hp_model.specs.machine.Promises.{file_in}
-use Rattle.hp_model.specs.machine.SlotEvent.{anon_tests, are_too_many_maps, file_named, is_name}
+use Rattle.hp_model.specs.machine.SlotEvent.{are_too_many_maps, file_named, is_name}
 use Rattle.hp_lookup.specs.Asking.{wants, with_range}
 use Rattle.hp_lookup.specs.declared.next_map.MapRange.{MapRange}
 use Rattle.hp_mount_laws.specs.Reach.{first_of}
 
+-- what one file more is asked, whatever its name
+abbrev pub file_tests : Mount → List (Bool × Refusal)
+file_tests m = (nat_le most_files (length m.files), TooMany) ∷ (is_over m.limits.inodes (length m.files + 1), NoInodes) ∷ []
+
+-- what a new file of this name is asked
 abbrev pub create_tests : Mount → List ℕ → List (Bool × Refusal)
-create_tests m name =
-    (not (is_name name), BadName) ∷ (is_some (file_named m name), FileExists) ∷ (nat_le most_files (length m.files), TooMany) ∷ (is_over m.limits.inodes (length m.files + 1), NoInodes) ∷ []
+create_tests m name = (not (is_name name), BadName) ∷ (is_some (file_named m name), FileExists) ∷ file_tests m
 
 abbrev pub map_tests : Mount → (task a n : ℕ) → List (Bool × Refusal)
 map_tests m task a n = ((n == 0) || nat_lt most_file_pages (a + n), OutOfRange) ∷ (nat_lt most_map_pages n || are_too_many_maps m task, TooMany) ∷ []
@@ -36,10 +40,6 @@ map_plan m range number home file c =
 -- the event of a map
 abbrev pub map_event : (home : ℕ) → (name : List ℕ) → MapRange → SlotEvent
 map_event home name range = MapEvent range.task home name range.start range.pages range.sharing range.reserving
-
--- why a task may not make a file without name with a map of n, if anything
-abbrev pub why_no_anon : Mount → (task n : ℕ) → Option Refusal
-why_no_anon m task n = first_of (anon_tests m task n)
 
 -- the grant of its pages, and the file
 abbrev pub anon_plan : Mount → MapRange → (number home : ℕ) → Choice → Plan

@@ -172,7 +172,10 @@ impl<N: Naming, T: Trail<SlotEntry>> Slot<N, T> {
         if !may_note(trail, &work) {
             return (Err(Refusal::TraceFull), None);
         }
-        let told = ask(mount, *number, door, alloc, page_bytes, work, room);
+        let mut told = Ok(Told::Done);
+        ask(
+            mount, *number, door, alloc, page_bytes, work, room, &mut told,
+        );
         if is_full(&told) {
             return (told, None);
         }

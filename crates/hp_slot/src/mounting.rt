@@ -1,6 +1,6 @@
-//! Mount, remount and umount of a slot.
+//! Mount and umount of a slot.
 ghost use Rattle.std.specs.Prelude.{◌≢◌, ◌<◌, ℕ, Err};
-ghost use Rattle.hp_model.specs.declared.event.SlotEvent.TheVariants.{Mount as Mounting, Remount, Umount};
+ghost use Rattle.hp_model.specs.declared.event.SlotEvent.TheVariants.{Mount as Mounting, Umount};
 ghost use Rattle.hp_model.specs.declared.refusal.Refusal.TheVariants as Refusal;
 ghost use Rattle.hp_model.specs.beside.Accesses.{done_reply};
 ghost use Rattle.hp_mount_laws.specs.Done.{IsDone};
@@ -48,39 +48,6 @@ pub(crate) fn mount<N: Naming, D: PoolDoor<N>>(
                 None => Ok(()),
                 Some(_old) => unreachable!(),
             }
-        }
-    }
-}
-
-// Sets all three limits of a slot's mount anew by options: a section of the pool, at home node 0. Files and maps stay as they
-// are. It takes no memory, and a few words of work.
-//
-// Refused, and then nothing changes, by the first of these that holds (profile):
-// - NoSuchSlot: it is not mounted.
-// - SlotTaken: it is slot 0.
-// - BadOption, MinOverSize and NoPages, and TraceFull: see `Mount::remount`.
-#[inline(never)]
-pub(crate) fn remount<N: Naming, D: PoolDoor<N>>(
-    slot: &mut Option<Mount<N>>,
-    number: u64,
-    door: &mut D,
-    page_bytes: u64,
-    options: &[u8],
-) -> Result<(), Refusal>
-    requires ready { D.is_ready door.old }
-    requires bytes { 0 < page_bytes }
-    ensures done { IsDone D.took D.is_full page_bytes number slot.old door.old
-        (Remount options.now) (done_reply result) slot.new door.new }
-    ensures left { D.is_left door.new }
-    ensures memory { done_reply result ≢ Err Refusal.OutOfMemory }
-{
-    match slot {
-        None => Err(Refusal::NoSuchSlot),
-        Some(mount) => {
-            if number == 0 {
-                return Err(Refusal::SlotTaken);
-            }
-            mount.remount(door, page_bytes, options)
         }
     }
 }

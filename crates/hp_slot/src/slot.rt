@@ -13,7 +13,7 @@ ghost use Rattle.hp_events.specs.Memory.{asks_memory};
 ghost use Rattle.hp_events.specs.SlotWork.{IsAnother, asked_event, full_for, has_maps_for, is_exit, needs_room};
 ghost use Rattle.hp_mount_laws.specs.Done.{IsDone};
 
-use crate::mounting::{mount, remount, unmount};
+use crate::mounting::{mount, unmount};
 use hp_events::{MountEvent, SlotWork};
 use hp_model::naming::Naming;
 use hp_model::refusal::Refusal;
@@ -22,11 +22,12 @@ use hp_mount::Mount;
 use hp_mount_door::PoolDoor;
 use std::alloc::Global;
 
-/// Does what is asked of the slot of this number, in one section of the pool at most: its reply, with bytes in the front of
-/// the room. What goes by a task's maps is asked where it has some.
+/// Does what is asked of the slot of this number, in one section of the pool at most: its reply, which is put in its place, with
+/// bytes in the front of the room. What goes by a task's maps is asked where it has some.
 ///
 /// Refused as the definitions say, and then nothing changes; as TraceFull where the door has no room to note a section, but
-/// never where that gives back alone.
+/// never where that gives back alone. A remount is refused as NoSuchSlot where the slot is not mounted, as SlotTaken where it
+/// is slot 0, and else as `Mount::remount` is.
 #[inline(always)]
 pub fn ask<'a, N: Naming, D: PoolDoor<N>>(
     slot: &mut Option<Mount<N>>,
@@ -36,7 +37,8 @@ pub fn ask<'a, N: Naming, D: PoolDoor<N>>(
     page_bytes: u64,
     work: SlotWork<'_>,
     room: &'a mut [u8],
-) -> Result<Told<'a>, Refusal>
+    reply: &mut Result<Told<'a>, Refusal>,
+)
     requires ready { D.is_ready door.old }
     requires page_bytes { page_bytes ≡ N.page_bytes }
     requires bytes { 0 < page_bytes }
@@ -44,30 +46,35 @@ pub fn ask<'a, N: Naming, D: PoolDoor<N>>(
     requires another { IsAnother work }
     requires has { has_maps_for work slot.old ≡ true }
     ensures done { IsDone D.took (λ d. full_for (D.is_full d) work.entry) N.page_bytes number
-        slot.old door.old (asked_event work.entry) (told_reply result) slot.new door.new }
+        slot.old door.old (asked_event work.entry) (told_reply reply.new) slot.new door.new }
     ensures left { D.is_left door.new }
     ensures memory { asks_memory slot.old (asked_event work.entry) ≡ false
-        → told_reply result ≢ Err Refusal.OutOfMemory }
+        → told_reply reply.new ≢ Err Refusal.OutOfMemory }
     ensures limits { is_usage (asked_event work.entry) ≡ true
-        → IsWithinLimits (told_reply result) }
-    ensures exit { is_exit work.entry ≡ true → told_reply result ≡ Ok Done }
+        → IsWithinLimits (told_reply reply.new) }
+    ensures exit { is_exit work.entry ≡ true → told_reply reply.new ≡ Ok Done }
 {
     match work {
-        SlotWork::Mount { options } => Told::done(mount(slot, door, alloc, page_bytes, options)),
-        SlotWork::Remount { options } => {
-            Told::done(remount(slot, number, door, page_bytes, options))
+        SlotWork::Mount { options } => {
+            *reply = Told::done(mount(slot, door, alloc, page_bytes, options));
         }
-        SlotWork::Umount => Told::done(unmount(slot, number, door)),
-        SlotWork::Fork { parent, child } => Told::done(fork(slot, door, parent, child)),
+        SlotWork::Remount { options } => match slot {
+            None => *reply = Err(Refusal::NoSuchSlot),
+            Some(mount) => {
+                if number == 0 {
+                    *reply = Err(Refusal::SlotTaken);
+                } else {
+                    *reply = Told::done(mount.remount(door, page_bytes, options));
+                }
+            }
+        },
+        SlotWork::Umount => *reply = Told::done(unmount(slot, number, door)),
+        SlotWork::Fork { parent, child } => *reply = Told::done(fork(slot, door, parent, child)),
         SlotWork::Exit { task } => {
             leave(slot, door, task);
-            Ok(Told::Done)
+            *reply = Ok(Told::Done);
         }
-        SlotWork::OfMount { home, event } => {
-            let mut reply = Ok(Told::Done);
-            act(slot, door, page_bytes, home, &event, room, &mut reply);
-            reply
-        }
+        SlotWork::OfMount { home, event } => act(slot, door, page_bytes, home, &event, room, reply),
     }
 }
 
@@ -98,7 +105,7 @@ pub fn act<'a, N: Naming, D: PoolDoor<N>>(
         *reply = Err(Refusal::NoSuchSlot);
         return;
     };
-    *reply = mount.apply(door, page_bytes, home, *event, room);
+    *reply = mount.apply(door, page_bytes, home, event, room);
 }
 
 /// Whether a task has a map on the slot.

@@ -1,5 +1,5 @@
 -- A fork, slot after slot, and its undoing.
-use Rattle.std.proofs.Common.{◌≡◌, ℕ, zero, suc, ◌+◌, ◌<◌, ◌≤◌, Bool, true, false, cond, List, [], ◌∷◌, ◌++◌, Err, Ok, Some, None, length, refl, sym, ap, subst, ◌∙◌, arith, MatchBool, filter}
+use Rattle.std.proofs.Common.{◌≡◌, ℕ, zero, suc, ◌+◌, ◌<◌, ◌≤◌, Bool, true, false, cond, List, [], ◌∷◌, ◌++◌, Err, Ok, Some, None, length, refl, sym, ap, subst, ◌∙◌, arith, MatchBool, Result, filter}
 use Rattle.std.proofs.Common.{slice_index_or, slice_set}
 use Rattle.std.specs.List.{range_with_len}
 use Rattle.std.proofs.lemmas.List.{get_or-set_other, get_or-set_same}
@@ -7,7 +7,7 @@ use Rattle.std.proofs.lemmas.List.Elements.{filter-append}
 use Rattle.hp_laws.proofs.Variants.{Answer, Done, Fork, ForkMaps, Refusal, Slot as OnSlot, SlotEvent, Tasks}
 use Rattle.hp_model.specs.declared.event.TableEvent.TheVariants as table
 use Rattle.hp_model.proofs.Words.{Answered, Ask, Choice, Do, Finish, IsEvent, IsScript, IsSettledState, IsStep, Outcome, Plan, Refused, Reply, Script, Slot, State, fork_slots, fork_tests, forked}
-use Rattle.hp_model.proofs.Words.{gives, has_maps_of, or_undone, slot_at, slot_event, undone}
+use Rattle.hp_model.proofs.Words.{done_reply, gives, has_maps_of, or_undone, slot_at, slot_event, undone}
 use Rattle.hp_laws.specs.Balance.{Always, left_by}
 use Rattle.hp_laws.proofs.steps.Outcomes.{event_ends, reply_of}
 use Rattle.hp_laws.proofs.promises.Parents.{parent_stays}
@@ -90,7 +90,7 @@ module _ (parent child : ℕ) (apart : parent ≡ child → ⊥) where
   abbrev rest_at : State → (at n : ℕ) → Script
   rest_at s at n = fork_slots (range_with_len at n) (mapped_slots s at parent) parent child
 
-  pub next_slot : (s t : State) (at n : ℕ) → at < length s.slots → IsForkedOn s at parent child (Ok Done) t → (reply : Reply) (u : State)
+  pub next_slot : (s t : State) (at n : ℕ) → at < length s.slots → IsForkedOn s at parent child (Ok tt) t → (reply : Reply) (u : State)
       → IsScript t (rest_at t (at + 1) n) reply u → IsScript s (rest_at s at (suc n)) reply u
   next_slot s t at n within is reply u go = by_maps (has_maps_of parent (slot_at s at)) refl is
     where
@@ -136,9 +136,10 @@ module _ (parent child : ℕ) (apart : parent ≡ child → ⊥) where
           not_ok e = cc
 
 -- a slot that its event was done on
-pub slot_forked : (s t : State) (k parent child : ℕ) (reply : Reply) → has_maps_of parent (slot_at s k) ≡ true →
-    IsEvent s (OnSlot k (ForkMaps parent child)) reply t → IsForkedOn s k parent child reply t
-slot_forked s t k parent child reply some event = subst (λ b. MatchBool b (IsEvent s (OnSlot k (ForkMaps parent child)) reply t) (Stays reply s t)) (sym some) event
+pub slot_forked : (s t : State) (k parent child : ℕ) (result : Result (Unit {0}) Refusal) → has_maps_of parent (slot_at s k) ≡ true →
+    IsEvent s (OnSlot k (ForkMaps parent child)) (done_reply result) t → IsForkedOn s k parent child result t
+slot_forked s t k parent child result some event =
+    subst (λ b. MatchBool b (IsEvent s (OnSlot k (ForkMaps parent child)) (done_reply result) t) (Stays (done_reply result) s t)) (sym some) event
 
 -- ---- the step
 

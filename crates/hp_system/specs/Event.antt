@@ -11,6 +11,7 @@ use Rattle.hp_model.specs.declared.section.PoolAnswer.{PoolAnswer}
 use Rattle.hp_model.specs.declared.section.Section.{Section}
 use Rattle.hp_model.specs.declared.service.Access.{Access}
 use Rattle.hp_model.specs.declared.step.Intent.{Intent}
+use Rattle.hp_model.specs.beside.Accesses.{done_reply}
 use Rattle.hp_model.specs.files.File.{Mount}
 use Rattle.hp_model.specs.machine.Event.{IsEvent, IsFresh, has_maps_of}
 use Rattle.hp_model.specs.threads.LocalRun.{ThroughDoor}
@@ -47,9 +48,9 @@ abbrev pub mapped_slots : State → (n task : ℕ) → List ℕ
 mapped_slots s n task = filter (λ k. has_maps_of task (slot_at s k)) (range_with_len 0 n)
 
 -- the parent's maps on a slot, if it has any there, are the child's as well
-abbrev pub IsForkedOn : State → (k parent child : ℕ) → Reply → State → Type 0
-IsForkedOn s k parent child reply t =
-    MatchBool (has_maps_of parent (slot_at s k)) (IsEvent s (OnSlot k (ForkMaps parent child)) reply t) ((reply ≡ Ok Done) × (t ≡ s))
+abbrev pub IsForkedOn : State → (k parent child : ℕ) → Result (Unit {0}) Refusal → State → Type 0
+IsForkedOn s k parent child result t =
+    MatchBool (has_maps_of parent (slot_at s k)) (IsEvent s (OnSlot k (ForkMaps parent child)) (done_reply result) t) ((done_reply result ≡ Ok Done) × (t ≡ s))
 
 -- a fork on all slots; refused, the child's maps are gone again, and only the child is left to go
 abbrev pub AreForked : State → (parent child : ℕ) → Result (Unit {0}) Refusal → State → Type 0

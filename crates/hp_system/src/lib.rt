@@ -2,7 +2,6 @@
 #![tactic(auto)]
 
 mod script;
-mod service;
 mod system;
 
 pub use script::run_script;

@@ -11,7 +11,7 @@ ghost use Rattle.hp_system.specs.Event.{AllExit, AllGo};
 ghost use Rattle.hp_system.specs.Sized.{all_free};
 ghost use Rattle.hp_model.specs.machine.Ready.{IsReadyMachine, machine_of};
 
-mod accesses;
+mod service;
 mod slots;
 mod steps;
 
@@ -88,13 +88,6 @@ impl<N: Naming> System<N> {
                 })
             }
         }
-    }
-
-    /// The bytes of a page.
-    pub fn page_bytes(&self) -> u64
-        ensures { result ≡ self.now.state.page_size }
-    {
-        self.page_bytes as u64
     }
 
     /// Ends the machine with all that it has: maps, files, mounts and tasks. It answers the pool's numbers

@@ -1,12 +1,10 @@
 //! Indices of a file that are filled before they are reached.
-ghost use Rattle.std.specs.Prelude.{◌≡◌, ◌<◌, ◌≤◌, IfNone, Some, ℕ, length};
+ghost use Rattle.std.specs.Prelude.{◌≡◌, ◌<◌, ◌≤◌, IfNone, Some, ℕ};
 ghost use Rattle.hp_model.specs.declared.event.SlotEvent.TheVariants.{Preallocate};
-ghost use Rattle.hp_model.specs.files.Fill.{lacking};
 ghost use Rattle.hp_model.specs.beside.Accesses.{done_reply};
-ghost use Rattle.hp_model.specs.machine.Promises.{file_in};
-ghost use Rattle.hp_model.specs.machine.SlotEvent.{fill, preallocate_tests};
+ghost use Rattle.hp_model.specs.machine.SlotEvent.{preallocate_tests};
 ghost use Rattle.hp_model.specs.Profile.{most_file_pages};
-ghost use Rattle.hp_mount_laws.specs.Done.{IsDone, Tried};
+ghost use Rattle.hp_mount_laws.specs.Done.{IsDone};
 ghost use Rattle.hp_mount_laws.specs.Reach.{first_of};
 
 use super::Mount;
@@ -32,36 +30,6 @@ fn refused_range(start: u64, end: u64) -> Option<Refusal>
 }
 
 impl<N: Naming> Mount<N> {
-    // Fills the indices of a file that have no page, of which there are `count`.
-    fn fill<D: PoolDoor<N>>(
-        &mut self,
-        door: &mut D,
-        file: usize,
-        start: u64,
-        end: u64,
-        count: u64,
-    ) -> Result<(), Refusal>
-        requires ready { D.is_ready door.old }
-        requires file { file < length self.old.files }
-        requires order { start < end }
-        requires reach { end ≤ most_file_pages }
-        requires count { count ≡ lacking start end (file_in self.old file) }
-        ensures done { Tried D.took D.is_full
-            (λ c. fill c N.page_bytes self.old start end (file, file_in self.old file))
-            (Some self.old) door.old (done_reply result) (Some self.new) door.new }
-        ensures left { D.is_left door.new }
-    {
-        let k = self.files.file(file).missing(start, end);
-        if self.share.is_full(k) {
-            return Err(Refusal::MountFull);
-        }
-        let files = &mut self.files;
-        if let Err(refusal) = files.preallocate(door, &mut self.share, file, start, end, k, count) {
-            return Err(refusal);
-        }
-        Ok(())
-    }
-
     /// Gives each index of a file from `start` up to `end` that has no page a page of zeros; the file gets longer where it
     /// ends before. An index without an entry is granted, and one with an entry gets the page of its reservation: all in one
     /// section. Where each index has its page nothing is asked, and nothing changes.
@@ -94,6 +62,14 @@ impl<N: Naming> Mount<N> {
         if count == 0 {
             return Ok(());
         }
-        self.fill(door, file, start, end, count)
+        let k = self.files.file(file).missing(start, end);
+        if self.share.is_full(k) {
+            return Err(Refusal::MountFull);
+        }
+        let files = &mut self.files;
+        if let Err(refusal) = files.preallocate(door, &mut self.share, file, start, end, k, count) {
+            return Err(refusal);
+        }
+        Ok(())
     }
 }

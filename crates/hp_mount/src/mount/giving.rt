@@ -1,9 +1,8 @@
 //! Files that give back.
-ghost use Rattle.std.specs.Prelude.{◌≢◌, Err, ℕ, Some};
-ghost use Rattle.hp_model.specs.declared.refusal.Refusal.TheVariants as Refusal;
+ghost use Rattle.std.specs.Prelude.{ℕ, Some};
 ghost use Rattle.hp_model.specs.declared.event.SlotEvent.TheVariants.{Punch, Truncate, Unlink};
 ghost use Rattle.hp_model.specs.beside.Accesses.{done_reply};
-ghost use Rattle.hp_mount_laws.specs.Done.{IsDone};
+ghost use Rattle.hp_mount_laws.specs.Done.{IsDone, NeedsNoRoom};
 
 use super::Mount;
 use hp_model::naming::Naming;
@@ -22,8 +21,7 @@ impl<N: Naming> Mount<N> {
         ensures done { (size k : ℕ) → IsDone D.took D.is_full size k (Some self.old) door.old
             (Unlink name.now) (done_reply result) (Some self.new) door.new }
         ensures left { D.is_left door.new }
-        ensures memory { done_reply result ≢ Err Refusal.OutOfMemory }
-        ensures noted { done_reply result ≢ Err Refusal.TraceFull }
+        ensures free { NeedsNoRoom (done_reply result) }
     {
         let Some(file) = self.files.named(name) else {
             return Err(Refusal::NoSuchFile);
@@ -49,8 +47,7 @@ impl<N: Naming> Mount<N> {
         ensures done { (size k : ℕ) → IsDone D.took D.is_full size k (Some self.old) door.old
             (Truncate name.now pages) (done_reply result) (Some self.new) door.new }
         ensures left { D.is_left door.new }
-        ensures memory { done_reply result ≢ Err Refusal.OutOfMemory }
-        ensures noted { done_reply result ≢ Err Refusal.TraceFull }
+        ensures free { NeedsNoRoom (done_reply result) }
     {
         let Some(file) = self.files.named(name) else {
             return Err(Refusal::NoSuchFile);
@@ -80,8 +77,7 @@ impl<N: Naming> Mount<N> {
         ensures done { (size k : ℕ) → IsDone D.took D.is_full size k (Some self.old) door.old
             (Punch name.now start end) (done_reply result) (Some self.new) door.new }
         ensures left { D.is_left door.new }
-        ensures memory { done_reply result ≢ Err Refusal.OutOfMemory }
-        ensures noted { done_reply result ≢ Err Refusal.TraceFull }
+        ensures free { NeedsNoRoom (done_reply result) }
     {
         let Some(file) = self.files.named(name) else {
             return Err(Refusal::NoSuchFile);

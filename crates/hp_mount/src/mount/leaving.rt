@@ -1,14 +1,13 @@
 //! Maps that leave a mount.
-ghost use Rattle.std.specs.Prelude.{◌≡◌, ◌≢◌, Err, ℕ, Ok, Some, [], length, true, ◌<◌, IfNone, IfSome};
+ghost use Rattle.std.specs.Prelude.{◌≡◌, ℕ, Ok, Some, [], length, true, ◌<◌, IfNone, IfSome};
 ghost use Rattle.hp_model.specs.declared.answer.Answer.TheVariants.{Done};
 ghost use Rattle.hp_model.specs.declared.event.SlotEvent.TheVariants.{ExitMaps, Unmap};
-ghost use Rattle.hp_model.specs.declared.refusal.Refusal.TheVariants as Refusal;
 ghost use Rattle.hp_model.specs.files.File.{maps_of};
 ghost use Rattle.hp_model.specs.files.GiveBack.{without_task};
 ghost use Rattle.hp_model.specs.machine.Event.{has_maps_of};
 ghost use Rattle.hp_model.specs.beside.Accesses.{done_reply};
 ghost use Rattle.hp_lookup.specs.Places.{IsFirstTask};
-ghost use Rattle.hp_mount_laws.specs.Done.{IsDone};
+ghost use Rattle.hp_mount_laws.specs.Done.{IsDone, NeedsNoRoom};
 
 use super::Mount;
 use hp_model::naming::Naming;
@@ -71,8 +70,7 @@ impl<N: Naming> Mount<N> {
         ensures done { (size k : ℕ) → IsDone D.took D.is_full size k (Some self.old) door.old
             (Unmap task map start end) (done_reply result) (Some self.new) door.new }
         ensures left { D.is_left door.new }
-        ensures memory { done_reply result ≢ Err Refusal.OutOfMemory }
-        ensures noted { done_reply result ≢ Err Refusal.TraceFull }
+        ensures free { NeedsNoRoom (done_reply result) }
     {
         let Some(at) = self.files.find(task, map) else {
             return Err(Refusal::NoSuchMap);

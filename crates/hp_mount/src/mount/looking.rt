@@ -1,9 +1,7 @@
 //! What files are asked.
-ghost use Rattle.std.specs.Prelude.{◌≡◌, ◌≢◌, ℕ, ◌+◌, ◌≤◌, ◌<◌, length, take, drop, Err, IfNone, IfSome, Some};
+ghost use Rattle.std.specs.Prelude.{◌≡◌, ◌≢◌, ℕ, ◌+◌, ◌≤◌, ◌<◌, length, Err, IfNone, IfSome, Some};
 ghost use Rattle.hp_model.specs.declared.event.SlotEvent.TheVariants.{Ls, Read, Stat};
 ghost use Rattle.hp_model.specs.declared.refusal.Refusal.TheVariants as Refusal;
-ghost use Rattle.hp_model.specs.files.File.{cell_at};
-ghost use Rattle.hp_model.specs.files.Value.{shown};
 ghost use Rattle.hp_model.specs.machine.Promises.{file_in};
 ghost use Rattle.hp_model.specs.beside.Accesses.{bytes_reply};
 ghost use Rattle.hp_model.specs.machine.SlotEvent.{read_tests};
@@ -11,6 +9,7 @@ ghost use Rattle.hp_model.specs.beside.Told.{told_reply};
 ghost use Rattle.hp_model.specs.text.Writing.{IsWithinLimits};
 ghost use Rattle.hp_model.specs.Profile.{most_bytes};
 ghost use Rattle.hp_mount_laws.specs.Alone.{IsDoneAlone};
+ghost use Rattle.hp_mount_laws.specs.Done.{NeedsNoRoom};
 ghost use Rattle.hp_mount_laws.specs.Reach.{first_of};
 
 use super::Mount;
@@ -43,8 +42,7 @@ impl<N: Naming> Mount<N> {
             → IsDoneAlone size k (Some self.now) (Stat name.now) (told_reply result)
             (Some self.now) }
         ensures limits { IsWithinLimits (told_reply result) }
-        ensures memory { told_reply result ≢ Err Refusal.OutOfMemory }
-        ensures noted { told_reply result ≢ Err Refusal.TraceFull }
+        ensures free { NeedsNoRoom (told_reply result) }
     {
         let Some(at) = self.files.named(name) else {
             return Err(Refusal::NoSuchFile);
@@ -87,29 +85,6 @@ impl<N: Naming> Mount<N> {
         None
     }
 
-    // `count` bytes of a file at an index, in the front of the room.
-    fn file_bytes<'a>(
-        &self,
-        file: usize,
-        index: u64,
-        offset: usize,
-        count: usize,
-        room: &'a mut [u8],
-    ) -> &'a [u8]
-        requires file { file < length self.now.files }
-        requires within { offset + count ≤ N.page_bytes }
-        requires room { count ≤ length room.old }
-        ensures shown { result.now
-            ≡ take count (drop offset (shown N.page_bytes
-            (cell_at (file_in self.now file) index))) }
-        ensures all { length result.now ≡ count }
-    {
-        match self.files.bytes(file, index) {
-            Some(page) => bytes_of(page, offset, count, room),
-            None => zeros_of(count, room),
-        }
-    }
-
     /// Answers `count` bytes of a file at an index, from byte `offset` of the page on, in the front of the room; where
     /// there is no page, zeros.
     ///
@@ -131,15 +106,17 @@ impl<N: Naming> Mount<N> {
         requires room { most_bytes ≤ length room.old }
         ensures done { (k : ℕ) → IsDoneAlone N.page_bytes k (Some self.now)
             (Read name.now index offset count) (bytes_reply result) (Some self.now) }
-        ensures memory { bytes_reply result ≢ Err Refusal.OutOfMemory }
-        ensures noted { bytes_reply result ≢ Err Refusal.TraceFull }
+        ensures free { NeedsNoRoom (bytes_reply result) }
     {
         let Some(file) = self.files.named(name) else {
             return Err(Refusal::NoSuchFile);
         };
-        match self.refused_read(page_bytes, file, index, offset, count) {
-            Some(refusal) => Err(refusal),
-            None => Ok(self.file_bytes(file, index, offset as usize, count as usize, room)),
+        if let Some(refusal) = self.refused_read(page_bytes, file, index, offset, count) {
+            return Err(refusal);
+        }
+        match self.files.bytes(file, index) {
+            Some(page) => Ok(bytes_of(page, offset as usize, count as usize, room)),
+            None => Ok(zeros_of(count as usize, room)),
         }
     }
 }

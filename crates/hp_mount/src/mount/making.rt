@@ -1,7 +1,7 @@
 //! Files and maps that are made.
 ghost use Rattle.std.specs.Prelude.{◌≡◌, ◌≢◌, Err, IfNone, IfSome, IsTrue, ℕ, ◌+◌, ◌<◌, ◌≤◌, length, not, is_some, false, IfErr, IfOk, OnOk, Some, None};
 ghost use Rattle.hp_model.specs.declared.refusal.Refusal.TheVariants as Refusal;
-ghost use Rattle.hp_model.specs.declared.event.SlotEvent.TheVariants.{Anon, Create, Map};
+ghost use Rattle.hp_model.specs.declared.event.SlotEvent.TheVariants.{Anon, Create};
 ghost use Rattle.hp_model.specs.files.File.{maps_of};
 ghost use Rattle.hp_model.specs.pool.Grant.{is_over};
 ghost use Rattle.hp_model.specs.Lists.{is_among};
@@ -11,9 +11,9 @@ ghost use Rattle.hp_model.specs.beside.Accesses.{done_reply};
 ghost use Rattle.hp_model.specs.machine.SlotEvent.{file_named, is_name, is_name_byte};
 ghost use Rattle.hp_model.specs.beside.Told.{map_reply};
 ghost use Rattle.hp_mount_laws.specs.Alone.{IsDoneAlone};
-ghost use Rattle.hp_mount_laws.specs.Done.{Tried, IsDone};
+ghost use Rattle.hp_mount_laws.specs.Done.{IsDone};
 ghost use Rattle.hp_mount_laws.specs.Reach.{first_of};
-ghost use Rattle.hp_mount_laws.specs.Making.{anon_plan, create_tests, map_event, map_plan, made_reply, why_no_anon, why_no_map};
+ghost use Rattle.hp_mount_laws.specs.Making.{create_tests, file_tests, map_event, why_no_map};
 
 use super::Mount;
 use hp_model::naming::Naming;
@@ -78,6 +78,21 @@ impl<N: Naming> Mount<N> {
         self.files.named(name).is_some()
     }
 
+    // What one file more is refused, whatever its name, if anything.
+    fn refused_more(&self) -> Option<Refusal>
+        ensures first { result ≡ first_of (file_tests self.now) }
+        ensures noted { IfSome result (λ r. r ≢ Refusal.TraceFull) }
+        ensures few { IfNone result (length self.now.files < most_files) }
+    {
+        if self.files.count() >= MOST_FILES {
+            return Some(Refusal::TooMany);
+        }
+        if self.is_without_inodes() {
+            return Some(Refusal::NoInodes);
+        }
+        None
+    }
+
     // What a new file of this name is refused before memory, if anything.
     fn refused_file(&self, name: &[u8]) -> Option<Refusal>
         ensures first { result ≡ first_of (create_tests self.now name.now) }
@@ -91,13 +106,7 @@ impl<N: Naming> Mount<N> {
         if self.is_taken(name) {
             return Some(Refusal::FileExists);
         }
-        if self.files.count() >= MOST_FILES {
-            return Some(Refusal::TooMany);
-        }
-        if self.is_without_inodes() {
-            return Some(Refusal::NoInodes);
-        }
-        None
+        self.refused_more()
     }
 
     /// Makes a file of length 0. Refused as BadName, FileExists, TooMany, NoInodes or OutOfMemory, the first of these
@@ -141,36 +150,6 @@ impl<N: Naming> Mount<N> {
         Ok(next)
     }
 
-    // Adds the map to the file at a place, and reserves its pages through the door.
-    fn add_map<D: PoolDoor<N>>(
-        &mut self,
-        door: &mut D,
-        home: usize,
-        file: usize,
-        range: &MapRange,
-        next: NextMap,
-    ) -> Result<(), Refusal>
-        requires ready { D.is_ready door.old }
-        requires file { file < length self.old.files }
-        requires reach { range.now.start + range.now.pages ≤ most_file_pages }
-        requires few { length (maps_of self.old) < most_maps }
-        requires number { next.number ≡ next_number range.now.task self.old }
-        requires first { next.is_first ≡ not (is_among range.now.task (tasks_of self.old)) }
-        ensures done { Tried D.took D.is_full (map_plan self.old range.now next.number home file)
-            (Some self.old) door.old (made_reply next.number result) (Some self.new) door.new }
-        ensures left { D.is_left door.new }
-    {
-        let wanted = self.files.wanted(file, range);
-        if self.share.is_full(wanted) {
-            return Err(Refusal::MountFull);
-        }
-        let files = &mut self.files;
-        if let Err(refusal) = files.add_map(door, &mut self.share, home, file, range, next) {
-            return Err(refusal);
-        }
-        Ok(())
-    }
-
     /// Maps indices of a file for a task. Without reservations nothing is asked of the pool; with, a page for each index if
     /// the map is private, and for each without an entry if it is shared, whose indices are then entered.
     ///
@@ -195,93 +174,22 @@ impl<N: Naming> Mount<N> {
             Ok(next) => next,
             Err(refusal) => return Err(refusal),
         };
-        match self.add_map(door, home as usize, file, range, next) {
-            Ok(()) => Ok(next.number),
-            Err(refusal) => Err(refusal),
-        }
-    }
-
-    // The same by the range's parts.
-    #[inline(always)]
-    pub(super) fn new_map<D: PoolDoor<N>>(
-        &mut self,
-        door: &mut D,
-        home: u64,
-        task: u64,
-        name: &[u8],
-        start: u64,
-        pages: u64,
-        sharing: Sharing,
-        reserving: Reserving,
-    ) -> Result<u64, Refusal>
-        requires ready { D.is_ready door.old }
-        ensures done { (size k : ℕ) → IsDone D.took D.is_full size k (Some self.old) door.old
-            (Map task home name.now start pages sharing reserving) (map_reply result)
-            (Some self.new) door.new }
-        ensures left { D.is_left door.new }
-    {
-        let range = MapRange {
-            task,
-            start,
-            pages,
-            sharing,
-            reserving,
-        };
-        self.map(door, home, name, &range)
-    }
-
-    // The map that the task may make next of a new file without name, or why it may not.
-    fn next_anon(&self, range: &MapRange) -> Result<NextMap, Refusal>
-        requires { range.now.start ≡ 0 }
-        ensures number { IfOk result (λ next. next.number ≡ next_number range.now.task self.now) }
-        ensures first { IfOk result (λ next. next.is_first
-            ≡ not (is_among range.now.task (tasks_of self.now))) }
-        ensures pass { OnOk result (why_no_anon self.now range.now.task range.now.pages ≡ None) }
-        ensures few { OnOk result (length (maps_of self.now) < most_maps) }
-        ensures files { OnOk result (length self.now.files < most_files) }
-        ensures reach { OnOk result (range.now.start + range.now.pages ≤ most_file_pages) }
-        ensures err { IfErr result (λ e. why_no_anon self.now range.now.task range.now.pages
-            ≡ Some e) }
-    {
-        let next = match self.next_map(range) {
-            Ok(next) => next,
-            Err(refusal) => return Err(refusal),
-        };
-        if self.files.count() >= MOST_FILES {
-            return Err(Refusal::TooMany);
-        }
-        if self.is_without_inodes() {
-            return Err(Refusal::NoInodes);
-        }
-        Ok(next)
-    }
-
-    // Adds a file without name with the map, and reserves its pages through the door.
-    fn add_anon<D: PoolDoor<N>>(
-        &mut self,
-        door: &mut D,
-        home: usize,
-        range: &MapRange,
-        next: NextMap,
-    ) -> Result<(), Refusal>
-        requires ready { D.is_ready door.old }
-        requires reach { range.now.start + range.now.pages ≤ most_file_pages }
-        requires few { length (maps_of self.old) < most_maps }
-        requires files { length self.old.files < most_files }
-        requires number { next.number ≡ next_number range.now.task self.old }
-        requires first { next.is_first ≡ not (is_among range.now.task (tasks_of self.old)) }
-        ensures done { Tried D.took D.is_full (anon_plan self.old range.now next.number home)
-            (Some self.old) door.old (made_reply next.number result) (Some self.new) door.new }
-        ensures left { D.is_left door.new }
-    {
-        if self.share.is_full(range.wanted_alone()) {
+        let wanted = self.files.wanted(file, range);
+        if self.share.is_full(wanted) {
             return Err(Refusal::MountFull);
         }
         let files = &mut self.files;
-        if let Err(refusal) = files.add_anon(door, &mut self.share, home, range, next) {
+        if let Err(refusal) = files.add_map(
+            door,
+            &mut self.share,
+            home as usize,
+            file,
+            range,
+            next,
+        ) {
             return Err(refusal);
         }
-        Ok(())
+        Ok(next.number)
     }
 
     /// Maps all of a new file without name for a task: `pages` indices. Without reservations nothing is asked of the pool,
@@ -310,13 +218,20 @@ impl<N: Naming> Mount<N> {
             sharing,
             reserving,
         };
-        let next = match self.next_anon(&range) {
+        let next = match self.next_map(&range) {
             Ok(next) => next,
             Err(refusal) => return Err(refusal),
         };
-        match self.add_anon(door, home as usize, &range, next) {
-            Ok(()) => Ok(next.number),
-            Err(refusal) => Err(refusal),
+        if let Some(refusal) = self.refused_more() {
+            return Err(refusal);
         }
+        if self.share.is_full(range.wanted_alone()) {
+            return Err(Refusal::MountFull);
+        }
+        let files = &mut self.files;
+        if let Err(refusal) = files.add_anon(door, &mut self.share, home as usize, &range, next) {
+            return Err(refusal);
+        }
+        Ok(next.number)
     }
 }

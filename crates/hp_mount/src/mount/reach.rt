@@ -14,7 +14,7 @@ ghost use Rattle.hp_file.specs.States.{IsCopyState};
 ghost use Rattle.hp_mount_laws.specs.Done.{IsAccessed, IsDone, IsReached};
 ghost use Rattle.hp_mount_laws.specs.Reach.{IsFileTouched, spot_at};
 ghost use Rattle.hp_mount.specs.declared.mount.reach.Asked.TheVariants.{Bytes};
-ghost use Rattle.hp_mount.specs.Found.{IsPlaced, spot_of};
+ghost use Rattle.hp_mount.specs.Found.{HasIndex, IsPlaced, spot_of};
 
 use super::Mount;
 use super::contents::part_of;
@@ -51,8 +51,7 @@ impl<N: Naming> Mount<N> {
         index: u64,
     ) -> Result<(), Refusal>
         requires ready { D.is_ready door.old }
-        requires file { file < length self.old.files }
-        requires below { index < length (file_in self.old file).cells }
+        requires there { HasIndex self.old file index }
         requires entered { cell_at (file_in self.old file) index ≡ Entered }
         ensures done { IsReached D.took D.is_full N.page_bytes home file index
             self.old door.old result self.new door.new }
@@ -76,8 +75,7 @@ impl<N: Naming> Mount<N> {
         index: u64,
     ) -> Result<(), Refusal>
         requires ready { D.is_ready door.old }
-        requires file { file < length self.old.files }
-        requires below { index < length (file_in self.old file).cells }
+        requires there { HasIndex self.old file index }
         requires hole { cell_at (file_in self.old file) index ≡ Hole }
         ensures done { IsReached D.took D.is_full N.page_bytes home file index
             self.old door.old result self.new door.new }
@@ -115,8 +113,7 @@ impl<N: Naming> Mount<N> {
         index: u64,
     ) -> Result<(), Refusal>
         requires ready { D.is_ready door.old }
-        requires file { file < length self.old.files }
-        requires below { index < length (file_in self.old file).cells }
+        requires there { HasIndex self.old file index }
         ensures done { IsReached D.took D.is_full N.page_bytes home file index
             self.old door.old result self.new door.new }
         ensures left { D.is_left door.new }
@@ -252,7 +249,7 @@ impl<N: Naming> Mount<N> {
         if self.write(at.file, access.index, offset as usize, bytes) {
             return Ok(());
         }
-        if let Err(refusal) = self.reach(door, home as usize, at, access.index, Intent::Write) {
+        if let Err(refusal) = self.reach_shared(door, home as usize, at.file, access.index) {
             return Err(refusal);
         }
         let _there = self.write(at.file, access.index, offset as usize, bytes);

@@ -21,6 +21,7 @@ impl<N: Naming> Mount<N> {
     /// - NoPages: the pool can't commit what the minimum adds.
     ///
     /// As TraceFull where the door has no room to note the section. It takes a few words, whatever files there are.
+    #[inline(never)]
     pub fn remount<D: PoolDoor<N>>(
         &mut self,
         door: &mut D,

@@ -3,7 +3,6 @@ ghost use Rattle.std.specs.Prelude.{◌≡◌, ◌≢◌, ◌<◌, ◌≤◌, �
 ghost use Rattle.hp_model.specs.machine.Event.{has_maps_of};
 ghost use Rattle.std.specs.List.{range_with_len};
 ghost use Rattle.hp_model.specs.declared.refusal.Refusal.TheVariants as Refusal;
-ghost use Rattle.hp_model.specs.beside.Accesses.{done_reply};
 ghost use Rattle.hp_model.specs.machine.State.{slot_at};
 ghost use Rattle.hp_model.specs.beside.Told.{told_reply};
 ghost use Rattle.hp_model.specs.text.Writing.{IsWithinLimits};
@@ -11,7 +10,7 @@ ghost use Rattle.hp_model.specs.Profile.{most_bytes};
 ghost use Rattle.hp_events.specs.Event.{as_event, is_usage};
 ghost use Rattle.hp_events.specs.Memory.{asks_memory};
 ghost use Rattle.hp_events.specs.SlotWork.{asked_event, is_of_maps};
-ghost use Rattle.hp_system.specs.Event.{AreExited, AreForked, DoesOfTask, DoesOnSlot, IsForkedOn, mapped_slots};
+ghost use Rattle.hp_system.specs.Event.{AreExited, AreForked, DoesOnSlot, IsForkedOn, mapped_slots};
 ghost use Rattle.hp_model.specs.machine.Ready.{IsReadyMachine};
 
 use super::System;
@@ -20,6 +19,17 @@ use hp_model::naming::Naming;
 use hp_model::refusal::Refusal;
 use hp_model::told::Told;
 use hp_slot::{act, ask, fork, has_maps, leave};
+
+// The place of the slot of that number; or the refusal put in the reply's place where there is no such slot.
+macro_rules! within {
+    ($system:ident, $slot:ident, $at:ident, $reply:ident) => {
+        let $at = $slot as usize;
+        if $at >= $system.slots.len() {
+            *$reply = Err(Refusal::NoSuchSlot);
+            return;
+        }
+    };
+}
 
 impl<N: Naming> System<N> {
     // A mount, a remount or an umount of the slot of that number. Refused as NoSuchSlot where there is no such slot, and else
@@ -42,20 +52,16 @@ impl<N: Naming> System<N> {
         ensures size { self.new.state.page_size ≡ self.old.state.page_size }
         ensures ready { IsReadyMachine self.new }
     {
-        let page_bytes = self.page_bytes();
-        let at = slot as usize;
-        if at >= self.slots.len() {
-            *reply = Err(Refusal::NoSuchSlot);
-            return;
-        }
-        *reply = ask(
+        within!(self, slot, at, reply);
+        ask(
             &mut self.slots[at],
             slot,
             &mut self.pool,
             self.alloc,
-            page_bytes,
+            self.page_bytes as u64,
             work,
             room,
+            reply,
         );
     }
 
@@ -82,46 +88,16 @@ impl<N: Naming> System<N> {
         ensures size { self.new.state.page_size ≡ self.old.state.page_size }
         ensures ready { IsReadyMachine self.new }
     {
-        let page_bytes = self.page_bytes();
-        let at = slot as usize;
-        if at >= self.slots.len() {
-            *reply = Err(Refusal::NoSuchSlot);
-            return;
-        }
+        within!(self, slot, at, reply);
         act(
             &mut self.slots[at],
             &mut self.pool,
-            page_bytes,
+            self.page_bytes as u64,
             home,
             event,
             room,
             reply,
         );
-    }
-
-    // The same for a task. Refused as NoSuchTask where it is not there.
-    #[inline(always)]
-    pub(crate) fn of_task<'a>(
-        &mut self,
-        task: u64,
-        slot: u64,
-        event: &MountEvent<'_>,
-        room: &'a mut [u8],
-        reply: &mut Result<Told<'a>, Refusal>,
-    )
-        requires ready { IsReadyMachine self.old }
-        requires room { most_bytes ≤ length room.old }
-        ensures done { DoesOfTask self.old.state task slot (λ home. as_event home event.now)
-            (told_reply reply.new) self.new.state }
-        ensures memory { asks_memory (slot_at self.old.state slot) (as_event 0 event.now) ≡ false
-            → told_reply reply.new ≢ Err Refusal.OutOfMemory }
-        ensures size { self.new.state.page_size ≡ self.old.state.page_size }
-        ensures ready { IsReadyMachine self.new }
-    {
-        match self.table.home(task) {
-            Some(home) => self.on_slot(slot, home, event, room, reply),
-            None => *reply = Err(Refusal::NoSuchTask),
-        }
     }
 
     // A task's maps on a slot go, if it has any there.
@@ -167,8 +143,7 @@ impl<N: Naming> System<N> {
         requires ready { IsReadyMachine self.old }
         requires within { at < length self.old.state.slots }
         requires apart { parent ≢ child }
-        ensures done { IsForkedOn self.old.state at parent child (done_reply result)
-            self.new.state }
+        ensures done { IsForkedOn self.old.state at parent child result self.new.state }
         ensures slots { length self.new.state.slots ≡ length self.old.state.slots }
         ensures size { self.new.state.page_size ≡ self.old.state.page_size }
         ensures ready { IsReadyMachine self.new }

@@ -16,12 +16,13 @@ ghost use Rattle.hp_model.specs.Profile.{most_bytes};
 ghost use Rattle.hp_model.specs.machine.Ready.{IsReadyMachine};
 
 use super::System;
-use hp_events::{MountEvent, SlotWork, Work, work_of};
+use hp_events::{MountEvent, SlotWork, Work};
 use hp_model::answer::{Counts, NodeCount, Reply};
 use hp_model::event::PoolEvent;
 use hp_model::naming::Naming;
 use hp_model::profile::{MOST_BYTES, MOST_OVERCOMMIT};
 use hp_model::refusal::Refusal;
+use hp_model::service::Service;
 use hp_model::step::Step;
 use hp_model::told::{Told, into_reply};
 use std::alloc::{AllocError, Global};
@@ -202,46 +203,8 @@ impl<N: Naming> System<N> {
     {
         let mut room = [0u8; MOST_BYTES];
         let mut reply = Ok(Told::Done);
-        self.do_step(step, &mut room, &mut reply);
+        self.answer(step, &mut room, &mut reply);
         into_reply(reply)
-    }
-
-    // The reply of `Nodes`.
-    #[inline(always)]
-    #[tactic(auto, unfolding(hp_model::specs::machine::Step::IsStep))]
-    fn tell_nodes(&mut self, reply: &mut Result<Told<'_>, Refusal>)
-        requires ready { IsReadyMachine self.old }
-        ensures step { IsStep self.old.state Nodes (told_reply reply.new) self.new.state }
-        ensures memory { told_reply reply.new ≢ Err Refusal.OutOfMemory }
-        ensures size { self.new.state.page_size ≡ self.old.state.page_size }
-        ensures ready { IsReadyMachine self.new }
-    {
-        *reply = Ok(self.nodes());
-    }
-
-    // The reply of `Meminfo`.
-    #[inline(always)]
-    fn tell_meminfo(&mut self, reply: &mut Result<Told<'_>, Refusal>)
-        requires ready { IsReadyMachine self.old }
-        ensures step { IsStep self.old.state Meminfo (told_reply reply.new) self.new.state }
-        ensures memory { told_reply reply.new ≢ Err Refusal.OutOfMemory }
-        ensures size { self.new.state.page_size ≡ self.old.state.page_size }
-        ensures ready { IsReadyMachine self.new }
-    {
-        *reply = Ok(Told::Numbers(self.meminfo()));
-    }
-
-    // The reply of `Attach`.
-    #[inline(always)]
-    fn tell_home(&mut self, task: u64, reply: &mut Result<Told<'_>, Refusal>)
-        requires ready { IsReadyMachine self.old }
-        ensures step { IsStep self.old.state (Attach task) (told_reply reply.new) self.new.state }
-        ensures memory { told_reply reply.new ≢ Err Refusal.OutOfMemory }
-        ensures limits { IsWithinLimits (told_reply reply.new) }
-        ensures size { self.new.state.page_size ≡ self.old.state.page_size }
-        ensures ready { IsReadyMachine self.new }
-    {
-        *reply = self.attach(task);
     }
 
     // The reply of an event of the pool alone.
@@ -258,15 +221,15 @@ impl<N: Naming> System<N> {
         match event {
             PoolEvent::Nr { pages } => tell_number(self.set_nr(pages), reply),
             PoolEvent::Overcommit { pages } => tell_done(self.set_overcommit(pages), reply),
-            PoolEvent::Meminfo => self.tell_meminfo(reply),
-            PoolEvent::Nodes => self.tell_nodes(reply),
+            PoolEvent::Meminfo => *reply = Ok(Told::Numbers(self.meminfo())),
+            PoolEvent::Nodes => *reply = Ok(self.nodes()),
         }
     }
 
     // What a step asks of which part. The reply is put in its place, and bytes in the front of the room.
     #[inline(always)]
     #[tactic(auto, unfolding(hp_model::specs::machine::Step::IsStep))]
-    fn do_work<'a>(
+    pub(super) fn do_work<'a>(
         &mut self,
         work: Work<'_>,
         room: &'a mut [u8],
@@ -285,7 +248,7 @@ impl<N: Naming> System<N> {
     {
         match work {
             Work::Connect { task, home } => tell_done(self.connect(task, home), reply),
-            Work::Attach { task } => self.tell_home(task, reply),
+            Work::Attach { task } => *reply = self.attach(task),
             Work::Pool(event) => self.tell_pool(event, reply),
             Work::Fork { parent, child } => tell_done(self.fork(parent, child), reply),
             Work::Exit { task } => tell_done(self.exit(task), reply),
@@ -298,27 +261,11 @@ impl<N: Naming> System<N> {
             Work::Umount { slot } => self.ask_slot(slot, SlotWork::Umount, room, reply),
             Work::Ls { slot } => self.on_slot(slot, 0, &MountEvent::Ls, room, reply),
             Work::OnSlot { slot, event } => self.on_slot(slot, 0, &event, room, reply),
-            Work::OfTask { task, slot, event } => self.of_task(task, slot, &event, room, reply),
+            Work::OfTask { task, slot, event } => match self.table.home(task) {
+                Some(home) => self.on_slot(slot, home, &event, room, reply),
+                None => *reply = Err(Refusal::NoSuchTask),
+            },
         }
-    }
-
-    // The step's own function.
-    pub(crate) fn do_step<'a>(
-        &mut self,
-        step: &Step<'_>,
-        room: &'a mut [u8],
-        reply: &mut Result<Told<'a>, Refusal>,
-    )
-        requires ready { IsReadyMachine self.old }
-        requires room { most_bytes ≤ length room.old }
-        ensures step { IsStep self.old.state step.now (told_reply reply.new) self.new.state }
-        ensures usage { is_usage step.now ≡ true → IsWithinLimits (told_reply reply.new) }
-        ensures memory { takes_memory self.old.state step.now ≡ false
-            → told_reply reply.new ≢ Err Refusal.OutOfMemory }
-        ensures size { self.new.state.page_size ≡ self.old.state.page_size }
-        ensures ready { IsReadyMachine self.new }
-    {
-        self.do_work(work_of(step), room, reply);
     }
 
     /// Does steps one after another, and answers their replies, each as `apply` promises. Room for the

@@ -1,13 +1,36 @@
-use Rattle.std.proofs.Common.{Ok, refl}
-use Rattle.hp_model.proofs.Words.{told_reply}
+use Rattle.std.proofs.Common.{◌≡◌, ◌==◌, false, Err, Ok, Some, refl, sym, subst, arith}
+use Rattle.std.proofs.lemmas.Bool.Decides.{nat_tests}
+use Rattle.hp_model.proofs.Words.{Slot, done_reply, told_reply}
 use Rattle.hp_model.specs.declared.answer.Answer.TheVariants.{Done}
+use Rattle.hp_model.specs.declared.event.SlotEvent.TheVariants.{Remount}
+use Rattle.hp_model.specs.declared.refusal.Refusal.TheVariants.{NoSuchSlot, SlotTaken}
+use Rattle.hp_mount_laws.specs.Done.{IsDone}
 use Rattle.hp_slot.proofs.Asking.{asked_as}
+use Rattle.hp_slot.proofs.Mounts.{limits_first, limits_none}
 use Rattle.hp_slot.proofs.slot.ask.Goals as goal
 
 pub returns-in-Mount-clause-done : goal.returns-in-Mount-clause-done
 returns-in-Mount-clause-done g c =
     asked_as g.D.PoolDoor.took g.D.PoolDoor.is_full c.args.number c.args.slot.now c.mount.new.slot c.args.door.now c.mount.new.door
     c.in-Mount.is c.requires.page_bytes c.done.ensures (c.mount.ensures.done c.args.number)
+
+pub returns-in-None-clause-done : goal.returns-in-None-clause-done
+returns-in-None-clause-done g c =
+    let door = c.args.door.now in
+    asked_as g.D.PoolDoor.took g.D.PoolDoor.is_full c.args.number c.args.slot.now c.args.slot.now door door
+    {size = g.N.Naming.page_bytes} {reply = Err NoSuchSlot} c.in-Remount.is refl refl
+    (subst (λ (s : Slot). IsDone g.D.PoolDoor.took g.D.PoolDoor.is_full g.N.Naming.page_bytes c.args.number s door (Remount c.in-Remount.options.now) (Err NoSuchSlot) s door) (sym c.in-None.is)
+    (limits_none g.D.PoolDoor.took g.D.PoolDoor.is_full g.N.Naming.page_bytes c.args.number c.in-Remount.options.now door))
+
+pub returns-then-number-eq0-clause-done : goal.returns-then-number-eq0-clause-done
+returns-then-number-eq0-clause-done g c =
+    let door = c.args.door.now in
+    asked_as g.D.PoolDoor.took g.D.PoolDoor.is_full c.args.number c.args.slot.now (Some c.in-Some.mount) door door
+    {size = g.N.Naming.page_bytes} {reply = Err SlotTaken} c.in-Remount.is refl refl
+    (subst (λ (s : Slot). IsDone g.D.PoolDoor.took g.D.PoolDoor.is_full g.N.Naming.page_bytes c.args.number s door (Remount c.in-Remount.options.now) (Err SlotTaken) (Some c.in-Some.mount) door)
+    (sym c.in-Some.is)
+    (limits_first g.D.PoolDoor.took g.D.PoolDoor.is_full g.N.Naming.page_bytes c.args.number c.in-Remount.options.now c.in-Some.mount door
+    (let zero = c.if-number-eq0.true in grind (arith, nat_tests, zero))))
 
 pub returns-in-Umount-clause-done : goal.returns-in-Umount-clause-done
 returns-in-Umount-clause-done g c =
@@ -28,3 +51,13 @@ pub returns-in-OfMount-clause-done : goal.returns-in-OfMount-clause-done
 returns-in-OfMount-clause-done g c =
     asked_as g.D.PoolDoor.took g.D.PoolDoor.is_full c.args.number c.args.slot.now c.act.new.slot c.args.door.now c.act.new.door
     {size = g.N.Naming.page_bytes} {reply = told_reply c.act.new.reply} c.in-OfMount.is refl refl (c.act.ensures.done c.args.number)
+
+pub returns-else-number-eq0-clause-done : goal.returns-else-number-eq0-clause-done
+returns-else-number-eq0-clause-done g c =
+    let door = c.args.door.now in
+    let did = c.remount in
+    let other : (c.args.number == 0) ≡ false = grind (arith, nat_tests, c.if-number-eq0.false) in
+    asked_as g.D.PoolDoor.took g.D.PoolDoor.is_full c.args.number c.args.slot.now (Some did.new.self) door did.new.door c.in-Remount.is c.requires.page_bytes c.done-else-number-eq0.ensures
+    (subst (λ (s : Slot). IsDone g.D.PoolDoor.took g.D.PoolDoor.is_full c.args.page_bytes c.args.number s door (Remount c.in-Remount.options.now) (done_reply did.result)
+    (Some did.new.self) did.new.door)
+    (sym c.in-Some.is) (did.ensures.done c.args.number other))

@@ -1,12 +1,12 @@
 use Rattle.std.proofs.lemmas.Grind.{common_steps}
-use Rattle.std.proofs.Common.{◌≡◌, ℕ, Ok, Err, Some, refl, arith}
+use Rattle.std.proofs.Common.{◌≡◌, ℕ, Bool, true, false, not, Ok, Err, Some, refl, arith}
 use Rattle.hp_model.proofs.Words.{Choice, Reply, Slot, slot_event, told_reply}
 use Rattle.hp_laws.proofs.Variants.{PoolAnswer, Section, TraceFull}
 use Rattle.hp_events.specs.Event.{as_event}
 use Rattle.hp_events.specs.declared.event.MountEvent.{MountEvent}
 use Rattle.hp_mount_laws.specs.Alone.{IsDoneAlone}
 use Rattle.hp_mount_laws.specs.Done.{IsDone}
-use Rattle.hp_mount_laws.proofs.Replies.{told_as}
+use Rattle.hp_mount_laws.proofs.Replies.{bytes_not_memory, done_not_memory, told_as}
 use Rattle.hp_mount_laws.proofs.Ways.{alone_is_done}
 use Rattle.hp_mount.proofs.mount.Mount.apply.Goals as goal
 
@@ -34,3 +34,17 @@ returns-in-Stat-clause-done g c k = grind (arith, common_steps, alone)
 
 pub returns-in-Read-clause-done : goal.returns-in-Read-clause-done
 returns-in-Read-clause-done g c k = grind (arith, common_steps, alone)
+
+-- an access that is backed
+backed : (b : Bool) → not b ≡ false → b ≡ true
+backed true e = refl
+backed false e = cc
+
+pub returns-in-Fault-clause-memory : goal.returns-in-Fault-clause-memory
+returns-in-Fault-clause-memory g c asks = grind (arith, common_steps, done_not_memory, backed)
+
+pub returns-in-Load-clause-memory : goal.returns-in-Load-clause-memory
+returns-in-Load-clause-memory g c asks = grind (arith, common_steps, bytes_not_memory, backed)
+
+pub returns-in-Store-clause-memory : goal.returns-in-Store-clause-memory
+returns-in-Store-clause-memory g c asks = grind (arith, common_steps, done_not_memory, backed)

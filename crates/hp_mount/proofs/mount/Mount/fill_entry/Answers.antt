@@ -22,7 +22,7 @@ returns-clause-done g c s at file =
     shared_entered g.D.PoolDoor.took g.D.PoolDoor.is_full g.N.Naming.page_bytes m c.args.home k i s at file c.args.door.now c.take_page.new.self page _ c.requires.entered
     (subst (λ n. g.D.PoolDoor.took c.args.door.now (TakePage c.args.home) (granted_at n) c.take_page.new.self) node c.in_ok-page.ensures.ok)
     (ap (λ (p : Page). p.bytes) c.zero.ensures)
-    (entry_left o.share o.files o.inodes c.self.invariant k (subst (λ m. k < length m.files) (sym c.self.view_is) c.requires.file) i page c.take_page.new.share c.fill.new.self
+    (entry_left o.share o.files o.inodes c.self.invariant k (subst (λ m. k < length m.files) (sym c.self.view_is) c.requires.there.file) i page c.take_page.new.share c.fill.new.self
     c.in_ok-page.ensures.share c.fill.ensures
     ∙ ap (λ (x : Mount). with_file x k (with_cell (file_in x k) i (Present page))) c.self.view_is)
 

@@ -34,15 +34,15 @@ returns-in_default-clause-done g c s at file =
 
 pub invariant_of-self-in-Ok-get_page : goal.invariant_of-self-in-Ok-get_page
 invariant_of-self-in-Ok-get_page g c =
-    hole_kept c.self.inside.share c.self.inside.files c.self.inside.inodes c.self.invariant c.args.file (file_here c.self.view_is c.args.file c.requires.file)
+    hole_kept c.self.inside.share c.self.inside.files c.self.inside.inodes c.self.invariant c.args.file (file_here c.self.view_is c.args.file c.requires.there.file)
     c.args.index c.saturating_add-spare.result c.zero.new.self c.get_page.new.share c.fill.new.self
-    (below_here c.self.view_is c.args.file c.args.index c.requires.below) (cell_here c.self.view_is c.args.file c.args.index c.requires.hole)
+    (below_here c.self.view_is c.args.file c.args.index c.requires.there.below) (cell_here c.self.view_is c.args.file c.args.index c.requires.hole)
     (omega (arith, c.held.ensures, c.saturating_add-spare.ensures, c.in-Ok.ensures.few)) c.in-Ok-get_page.ensures.share
     (c.fill.ensures ∙ ap (filled_at c.args.file c.args.index c.zero.new.self) c.in-Ok.ensures.ok)
 
 pub invariant_of-self-in-Err : goal.invariant_of-self-in-Err
 invariant_of-self-in-Err g c =
-    hole_keeps c.self.inside.share c.self.inside.files c.self.inside.inodes c.self.invariant c.args.file (file_here c.self.view_is c.args.file c.requires.file)
+    hole_keeps c.self.inside.share c.self.inside.files c.self.inside.inodes c.self.invariant c.args.file (file_here c.self.view_is c.args.file c.requires.there.file)
     c.args.index c.saturating_add-spare.result c.get_page.new.share c.leave.new.self (cell_here c.self.view_is c.args.file c.args.index c.requires.hole) c.in-Err.ensures.unchanged
     (c.leave.ensures ∙ ap (with_cell_at c.args.file c.args.index Hole) c.in-Ok.ensures.ok)
 
@@ -53,7 +53,7 @@ returns-in-Ok-get_page-clause-done g c s at file =
     shared_granted g.D.PoolDoor.took g.D.PoolDoor.is_full g.N.Naming.page_bytes c.args.self.now c.args.home c.args.file c.args.index s at file c.args.door.now c.requires.hole
     c.get_page.new.self c.zero.new.self _ (full g asked c.if-is_full.false)
     (granted_as g.D.PoolDoor.took c.args.home c.args.door.now c.get_page.new.self (rise g asked) node c.in-Ok-get_page.ensures.ok) (ap (λ (p : Page). p.bytes) c.zero.ensures)
-    (granted_left c.self.inside.share c.self.inside.files c.self.inside.inodes c.self.invariant c.args.file (file_here c.self.view_is c.args.file c.requires.file)
+    (granted_left c.self.inside.share c.self.inside.files c.self.inside.inodes c.self.invariant c.args.file (file_here c.self.view_is c.args.file c.requires.there.file)
     c.args.index c.saturating_add-spare.result c.zero.new.self c.get_page.new.share c.fill.new.self c.in-Ok-get_page.ensures.share
     (c.fill.ensures ∙ ap (filled_at c.args.file c.args.index c.zero.new.self) c.in-Ok.ensures.ok)
     ∙ ap (λ (x : Mount). with_file x c.args.file (with_cell (file_in x c.args.file) c.args.index (Present c.zero.new.self))) c.self.view_is)
@@ -64,7 +64,7 @@ returns-in-Err-clause-done g c s at file =
     shared_denied g.D.PoolDoor.took g.D.PoolDoor.is_full g.N.Naming.page_bytes c.args.self.now c.args.home c.args.file c.args.index s at file c.args.door.now c.requires.hole
     c.get_page.new.self _ c.in-Err.refusal (full g asked c.if-is_full.false)
     (denied_as g.D.PoolDoor.took c.args.home c.args.door.now c.get_page.new.self (rise g asked) c.in-Err.refusal _ c.in-Err.ensures.err)
-    (hole_stays c.self.inside.share c.self.inside.files c.self.inside.inodes c.self.invariant c.args.file (file_here c.self.view_is c.args.file c.requires.file)
+    (hole_stays c.self.inside.share c.self.inside.files c.self.inside.inodes c.self.invariant c.args.file (file_here c.self.view_is c.args.file c.requires.there.file)
     c.args.index c.saturating_add-spare.result c.get_page.new.share c.leave.new.self (cell_here c.self.view_is c.args.file c.args.index c.requires.hole) c.in-Err.ensures.unchanged
     (c.leave.ensures ∙ ap (with_cell_at c.args.file c.args.index Hole) c.in-Ok.ensures.ok) ∙ c.self.view_is)
 

@@ -11,37 +11,37 @@ use Rattle.hp_shared.proofs.Acting.{acted_or, acted_plain, acted_small, event_en
 use Rattle.hp_shared.proofs.SlotsKept.{entry_asked, event_done, event_full, event_went, full_keeps, full_stays, may_fit, may_room, neither, slot_noted, was_full, work_event, work_removes}
 use Rattle.hp_shared.proofs.locked_slot.Slot.work.Given.{Over}
 use Rattle.hp_shared.proofs.locked_slot.Slot.work.Goals as goal
-use Rattle.hp_shared.proofs.locked_slot.Slot.work.Goals.{After-ask-told, After-note-receipt}
+use Rattle.hp_shared.proofs.locked_slot.Slot.work.Goals.{After-ask, After-note-receipt}
 
-module _ (g : Over) (c : After-ask-told g) where
+module _ (g : Over) (c : After-ask g) where
   -- the door had no room for the section of this work
   abbrev full : Type 0
-  full = full_for (g.D.PoolDoor.is_full c.ask-told.new.door) c.args.work
+  full = full_for (g.D.PoolDoor.is_full c.ask.new.door) c.args.work
 
-  acted : IsActedOr full g.N.Naming.page_bytes c.self.inside.number c.self.inside.mount (asked_event c.args.work) (told_reply c.ask-told.result)
-      (g.D.SessionDoor.asked c.ask-told.new.door) c.ask-told.new.slot
+  acted : IsActedOr full g.N.Naming.page_bytes c.self.inside.number c.self.inside.mount (asked_event c.args.work) (told_reply c.ask.new.reply)
+      (g.D.SessionDoor.asked c.ask.new.door) c.ask.new.slot
   acted =
       acted_or g.D.SessionDoor.keeps g.D.SessionDoor.asked g.D.SessionDoor.mine g.D.PoolDoor.took (λ d. full_for (g.D.PoolDoor.is_full d) c.args.work) g.met.D.SessionDoor.tells
-      g.N.Naming.page_bytes c.self.inside.number c.self.inside.mount c.args.door.now (asked_event c.args.work) (told_reply c.ask-told.result) c.ask-told.new.slot
-      c.ask-told.new.door (g.met.D.SessionDoor.begins c.args.door.now c.requires.ready) c.ask-told.ensures.done
+      g.N.Naming.page_bytes c.self.inside.number c.self.inside.mount c.args.door.now (asked_event c.args.work) (told_reply c.ask.new.reply) c.ask.new.slot
+      c.ask.new.door (g.met.D.SessionDoor.begins c.args.door.now c.requires.ready) c.ask.ensures.done
 
-  entered : IsEntered g.D.SessionDoor.keeps (g.D.SessionDoor.mine c.args.door.now) (g.D.SessionDoor.asked c.ask-told.new.door) (g.D.SessionDoor.mine c.ask-told.new.door)
+  entered : IsEntered g.D.SessionDoor.keeps (g.D.SessionDoor.mine c.args.door.now) (g.D.SessionDoor.asked c.ask.new.door) (g.D.SessionDoor.mine c.ask.new.door)
   entered =
       event_entered g.D.SessionDoor.keeps g.D.SessionDoor.asked g.D.SessionDoor.mine g.D.PoolDoor.took (λ d. full_for (g.D.PoolDoor.is_full d) c.args.work) g.met.D.SessionDoor.tells
-      g.N.Naming.page_bytes c.self.inside.number c.self.inside.mount c.args.door.now (asked_event c.args.work) (told_reply c.ask-told.result) c.ask-told.new.slot
-      c.ask-told.new.door (g.met.D.SessionDoor.begins c.args.door.now c.requires.ready) c.ask-told.ensures.done
+      g.N.Naming.page_bytes c.self.inside.number c.self.inside.mount c.args.door.now (asked_event c.args.work) (told_reply c.ask.new.reply) c.ask.new.slot
+      c.ask.new.door (g.met.D.SessionDoor.begins c.args.door.now c.requires.ready) c.ask.ensures.done
 
-  small : IsWithinLimits (told_reply c.ask-told.result)
+  small : IsWithinLimits (told_reply c.ask.new.reply)
   small =
-      acted_small full g.N.Naming.page_bytes c.self.inside.number c.self.inside.mount (asked_event c.args.work) (g.D.SessionDoor.asked c.ask-told.new.door) c.ask-told.new.slot
-      (told_reply c.ask-told.result) acted c.ask-told.ensures.limits
+      acted_small full g.N.Naming.page_bytes c.self.inside.number c.self.inside.mount (asked_event c.args.work) (g.D.SessionDoor.asked c.ask.new.door) c.ask.new.slot
+      (told_reply c.ask.new.reply) acted c.ask.ensures.limits
 
-  went : is_trace_full (told_reply c.ask-told.result) ≡ false → Went g.N.Naming.page_bytes c.self.inside.number c.self.inside.mount (asked_event c.args.work) (told_reply c.ask-told.result)
-      (g.D.SessionDoor.asked c.ask-told.new.door) c.ask-told.new.slot
+  went : is_trace_full (told_reply c.ask.new.reply) ≡ false → Went g.N.Naming.page_bytes c.self.inside.number c.self.inside.mount (asked_event c.args.work) (told_reply c.ask.new.reply)
+      (g.D.SessionDoor.asked c.ask.new.door) c.ask.new.slot
   went noted =
       let s = c.self.inside in
       event_went full g.N.Naming.page_bytes s.number (g.T.Trail.entries s.trail) (g.T.Trail.left s.trail) (g.T.Trail.extra s.trail) s.mount (asked_event c.args.work)
-      (told_reply c.ask-told.result) (g.D.SessionDoor.asked c.ask-told.new.door) c.ask-told.new.slot acted noted
+      (told_reply c.ask.new.reply) (g.D.SessionDoor.asked c.ask.new.door) c.ask.new.slot acted noted
 
   mapped : has_maps_for c.args.work c.self.inside.mount ≡ true
   mapped = ap (λ (v : SlotView). has_maps_for c.args.work v.mount) c.self.view_is ∙ c.requires.has
@@ -70,58 +70,58 @@ returns-then-not-may_note-clause-exit g c = λ exit.
 
 pub invariant_of-self-then-is_full : goal.invariant_of-self-then-is_full
 invariant_of-self-then-is_full g c =
-    let a = (goal.at.invariant_of-self-then-is_full g c).After-ask-told in
+    let a = (goal.at.invariant_of-self-then-is_full g c).After-ask in
     let s = c.self.inside in
     full_stays (full g a) g.N.Naming.page_bytes s.number (g.T.Trail.entries s.trail) (g.T.Trail.left s.trail)
-    (g.T.Trail.extra s.trail) s.mount (asked_event c.args.work) (told_reply c.ask-told.result)
-    (g.D.SessionDoor.asked c.ask-told.new.door) c.ask-told.new.slot (acted g a) (sym c.is_full.ensures ∙ c.if-is_full.true) c.self.invariant
+    (g.T.Trail.extra s.trail) s.mount (asked_event c.args.work) (told_reply c.ask.new.reply)
+    (g.D.SessionDoor.asked c.ask.new.door) c.ask.new.slot (acted g a) (sym c.is_full.ensures ∙ c.if-is_full.true) c.self.invariant
 
 pub returns-then-is_full-clause-keeps : goal.returns-then-is_full-clause-keeps
 returns-then-is_full-clause-keeps g c =
-    let a = (goal.at.returns-then-is_full-clause-keeps g c).After-ask-told in
+    let a = (goal.at.returns-then-is_full-clause-keeps g c).After-ask in
     let s = c.self.inside in
     λ was. inr (was_full (full g a) g.N.Naming.page_bytes s.number (g.T.Trail.entries s.trail) (g.T.Trail.left s.trail)
-    (g.T.Trail.extra s.trail) s.mount (asked_event c.args.work) (told_reply c.ask-told.result)
-    (g.D.SessionDoor.asked c.ask-told.new.door) c.ask-told.new.slot (acted g a) was)
+    (g.T.Trail.extra s.trail) s.mount (asked_event c.args.work) (told_reply c.ask.new.reply)
+    (g.D.SessionDoor.asked c.ask.new.door) c.ask.new.slot (acted g a) was)
 
 pub returns-then-is_full-clause-done : goal.returns-then-is_full-clause-done
 returns-then-is_full-clause-done g c =
-    let a = (goal.at.returns-then-is_full-clause-done g c).After-ask-told in
+    let a = (goal.at.returns-then-is_full-clause-done g c).After-ask in
     let s = c.self.inside in
     subst (λ (v : SlotView). IsSlotEvent (full g a) g.N.Naming.page_bytes v
     (record {
       number = s.number;
-      mount = c.ask-told.new.slot;
+      mount = c.ask.new.slot;
       entries = g.T.Trail.entries s.trail;
       left = g.T.Trail.left s.trail;
       extra = g.T.Trail.extra s.trail;
     })
-    (asked_event c.args.work) (told_reply c.ask-told.result) (g.D.SessionDoor.asked c.ask-told.new.door) None) c.self.view_is
+    (asked_event c.args.work) (told_reply c.ask.new.reply) (g.D.SessionDoor.asked c.ask.new.door) None) c.self.view_is
     (event_full (full g a) g.N.Naming.page_bytes s.number (g.T.Trail.entries s.trail) (g.T.Trail.left s.trail)
-    (g.T.Trail.extra s.trail) s.mount (asked_event c.args.work) (told_reply c.ask-told.result)
-    (g.D.SessionDoor.asked c.ask-told.new.door) c.ask-told.new.slot (acted g a) (sym c.is_full.ensures ∙ c.if-is_full.true))
+    (g.T.Trail.extra s.trail) s.mount (asked_event c.args.work) (told_reply c.ask.new.reply)
+    (g.D.SessionDoor.asked c.ask.new.door) c.ask.new.slot (acted g a) (sym c.is_full.ensures ∙ c.if-is_full.true))
 
 pub returns-then-is_full-clause-given : goal.returns-then-is_full-clause-given
 returns-then-is_full-clause-given g c = λ noted. absurd (false≢true (sym noted ∙ (sym c.is_full.ensures ∙ c.if-is_full.true)))
 
 pub returns-then-is_full-clause-exit : goal.returns-then-is_full-clause-exit
-returns-then-is_full-clause-exit g c = c.ask-told.ensures.exit
+returns-then-is_full-clause-exit g c = c.ask.ensures.exit
 
 pub returns-then-is_full-clause-entered : goal.returns-then-is_full-clause-entered
-returns-then-is_full-clause-entered g c = entered g (goal.at.returns-then-is_full-clause-entered g c).After-ask-told
+returns-then-is_full-clause-entered g c = entered g (goal.at.returns-then-is_full-clause-entered g c).After-ask
 
 pub returns-then-is_full-clause-limits : goal.returns-then-is_full-clause-limits
-returns-then-is_full-clause-limits g c = small g (goal.at.returns-then-is_full-clause-limits g c).After-ask-told
+returns-then-is_full-clause-limits g c = small g (goal.at.returns-then-is_full-clause-limits g c).After-ask
 
 pub note-receipt-requires-clause-small : goal.note-receipt-requires-clause-small
-note-receipt-requires-clause-small g c = small g (goal.at.note-receipt-requires-clause-small g c).After-ask-told
+note-receipt-requires-clause-small g c = small g (goal.at.note-receipt-requires-clause-small g c).After-ask
 
 pub note-receipt-requires-clause-plain : goal.note-receipt-requires-clause-plain
 note-receipt-requires-clause-plain g c =
-    let a = (goal.at.note-receipt-requires-clause-plain g c).After-ask-told in
+    let a = (goal.at.note-receipt-requires-clause-plain g c).After-ask in
     let s = c.self.inside in
-    acted_plain (full g a) g.N.Naming.page_bytes s.number s.mount (asked_event c.args.work) (g.D.SessionDoor.asked c.ask-told.new.door) c.ask-told.new.slot
-    (told_reply c.ask-told.result) (acted g a) c.requires.apart
+    acted_plain (full g a) g.N.Naming.page_bytes s.number s.mount (asked_event c.args.work) (g.D.SessionDoor.asked c.ask.new.door) c.ask.new.slot
+    (told_reply c.ask.new.reply) (acted g a) c.requires.apart
 
 pub note-receipt-requires-clause-copies : goal.note-receipt-requires-clause-copies
 note-receipt-requires-clause-copies g c = c.requires.copies
@@ -129,27 +129,27 @@ note-receipt-requires-clause-copies g c = c.requires.copies
 pub note-receipt-requires-clause-room : goal.note-receipt-requires-clause-room
 note-receipt-requires-clause-room g c =
     let s = c.self.inside in
-    let a = (goal.at.note-receipt-requires-clause-room g c).After-ask-told in
+    let a = (goal.at.note-receipt-requires-clause-room g c).After-ask in
     may_fit g.N.Naming.page_bytes s.number (g.T.Trail.entries s.trail) (g.T.Trail.left s.trail) (g.T.Trail.extra s.trail) s.mount (asked_event c.args.work)
-    (told_reply c.ask-told.result) (g.D.SessionDoor.asked c.ask-told.new.door) c.ask-told.new.slot c.self.invariant
+    (told_reply c.ask.new.reply) (g.D.SessionDoor.asked c.ask.new.door) c.ask.new.slot c.self.invariant
     (went g a (sym c.is_full.ensures ∙ c.if-is_full.false))
     (is_exit c.args.work) (work_removes s.mount c.args.work (mapped g a)) (sym c.may_note.ensures ∙ c.if-not-may_note.false)
 
 module _ (g : Over) (c : After-note-receipt g) where
   entries : g.T.Trail.entries c.note-receipt.new.trail ≡ with_entry (g.T.Trail.entries c.self.inside.trail)
-      (record { event = asked_event c.args.work; reply = told_reply c.ask-told.result; asked = g.D.SessionDoor.asked c.ask-told.new.door })
+      (record { event = asked_event c.args.work; reply = told_reply c.ask.new.reply; asked = g.D.SessionDoor.asked c.ask.new.door })
   entries = c.note-receipt.ensures.entries
-      ∙ entry_asked g.T.Trail.keeps (g.T.Trail.entries c.self.inside.trail) (asked_event c.args.work) (told_reply c.ask-told.result) c.asked.result
-      (g.D.SessionDoor.asked c.ask-told.new.door) (g.met.T.Trail.kept c.self.inside.trail) (λ kept. c.asked.ensures (c.requires.keeps kept))
+      ∙ entry_asked g.T.Trail.keeps (g.T.Trail.entries c.self.inside.trail) (asked_event c.args.work) (told_reply c.ask.new.reply) c.asked.result
+      (g.D.SessionDoor.asked c.ask.new.door) (g.met.T.Trail.kept c.self.inside.trail) (λ kept. c.asked.ensures (c.requires.keeps kept))
 
 pub invariant_of-self-2 : goal.invariant_of-self-2
 invariant_of-self-2 g c =
     let at = goal.at.invariant_of-self-2 g c in
-    let a = at.After-ask-told in
+    let a = at.After-ask in
     let has = mapped g a in
     let s = c.self.inside in
-    slot_noted g.N.Naming.page_bytes s.number (g.T.Trail.entries s.trail) (g.T.Trail.left s.trail) (g.T.Trail.extra s.trail) s.mount (asked_event c.args.work) (told_reply c.ask-told.result)
-    (g.D.SessionDoor.asked c.ask-told.new.door) c.ask-told.new.slot c.self.invariant (went g a (sym c.is_full.ensures ∙ c.if-is_full.false)) (g.T.Trail.entries c.note-receipt.new.trail)
+    slot_noted g.N.Naming.page_bytes s.number (g.T.Trail.entries s.trail) (g.T.Trail.left s.trail) (g.T.Trail.extra s.trail) s.mount (asked_event c.args.work) (told_reply c.ask.new.reply)
+    (g.D.SessionDoor.asked c.ask.new.door) c.ask.new.slot c.self.invariant (went g a (sym c.is_full.ensures ∙ c.if-is_full.false)) (g.T.Trail.entries c.note-receipt.new.trail)
     (g.T.Trail.left c.note-receipt.new.trail) (g.T.Trail.extra c.note-receipt.new.trail)
     (work_event s.mount c.args.work has) (entries g at.After-note-receipt) c.note-receipt.ensures.left c.note-receipt.ensures.none c.note-receipt.ensures.extra
     (may_room (is_exit c.args.work) _ (g.T.Trail.left s.trail) (g.T.Trail.extra s.trail) (work_removes s.mount c.args.work has) (sym c.may_note.ensures ∙ c.if-not-may_note.false))
@@ -157,28 +157,28 @@ invariant_of-self-2 g c =
 pub returns-clause-done : goal.returns-clause-done
 returns-clause-done g c =
     let at = goal.at.returns-clause-done g c in
-    let a = at.After-ask-told in
+    let a = at.After-ask in
     let s = c.self.inside in
     subst (λ (v : SlotView). IsSlotEvent (full g a) g.N.Naming.page_bytes v
     (record {
       number = s.number;
-      mount = c.ask-told.new.slot;
+      mount = c.ask.new.slot;
       entries = g.T.Trail.entries c.note-receipt.new.trail;
       left = g.T.Trail.left c.note-receipt.new.trail;
       extra = g.T.Trail.extra c.note-receipt.new.trail;
     })
-    (asked_event c.args.work) (told_reply c.ask-told.result) (g.D.SessionDoor.asked c.ask-told.new.door) c.note-receipt.result) c.self.view_is
+    (asked_event c.args.work) (told_reply c.ask.new.reply) (g.D.SessionDoor.asked c.ask.new.door) c.note-receipt.result) c.self.view_is
     (event_done (full g a) g.N.Naming.page_bytes s.number (g.T.Trail.entries s.trail) (g.T.Trail.left s.trail)
-    (g.T.Trail.extra s.trail) s.mount (asked_event c.args.work) (told_reply c.ask-told.result)
-    (g.D.SessionDoor.asked c.ask-told.new.door) c.ask-told.new.slot (acted g a) (sym c.is_full.ensures ∙ c.if-is_full.false)
+    (g.T.Trail.extra s.trail) s.mount (asked_event c.args.work) (told_reply c.ask.new.reply)
+    (g.D.SessionDoor.asked c.ask.new.door) c.ask.new.slot (acted g a) (sym c.is_full.ensures ∙ c.if-is_full.false)
     (g.T.Trail.entries c.note-receipt.new.trail) (g.T.Trail.left c.note-receipt.new.trail) (g.T.Trail.extra c.note-receipt.new.trail)
     c.note-receipt.result (entries g at.After-note-receipt) c.note-receipt.ensures.receipt)
 
 pub returns-clause-entered : goal.returns-clause-entered
-returns-clause-entered g c = entered g (goal.at.returns-clause-entered g c).After-ask-told
+returns-clause-entered g c = entered g (goal.at.returns-clause-entered g c).After-ask
 
 pub returns-clause-limits : goal.returns-clause-limits
-returns-clause-limits g c = small g (goal.at.returns-clause-limits g c).After-ask-told
+returns-clause-limits g c = small g (goal.at.returns-clause-limits g c).After-ask
 
 pub returns-clause-keeps : goal.returns-clause-keeps
 returns-clause-keeps g c = λ full. absurd (false≢true (sym (sym c.is_full.ensures ∙ c.if-is_full.false) ∙ full))
@@ -187,4 +187,4 @@ pub returns-clause-given : goal.returns-clause-given
 returns-clause-given g c = λ noted. c.note-receipt.ensures.given
 
 pub returns-clause-exit : goal.returns-clause-exit
-returns-clause-exit g c = c.ask-told.ensures.exit
+returns-clause-exit g c = c.ask.ensures.exit

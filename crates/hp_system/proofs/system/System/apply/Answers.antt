@@ -1,19 +1,15 @@
 use Rattle.std.proofs.Common.{sym, subst}
-use Rattle.hp_laws.proofs.promises.Promised.{promised}
-use Rattle.hp_laws.proofs.promises.SmallReplies.{within_limits}
-use Rattle.hp_model.proofs.Words.{IsPromised, IsWithinLimits, told_reply}
+use Rattle.hp_model.proofs.Words.{IsPromised, IsStep, IsWithinLimits}
 use Rattle.hp_system.proofs.system.System.apply.Goals as goal
 
 pub whole-requires : goal.whole-requires
-whole-requires g c =
-    within_limits c.args.self.now.state c.args.step.now (told_reply c.do_step.new.reply) c.do_step.new.self.state c.requires.ready.settled c.do_step.ensures.step c.do_step.ensures.usage
+whole-requires g c = c.answer.ensures.limits
+
+pub returns-clause-step : goal.returns-clause-step
+returns-clause-step g c = subst (λ r. IsStep c.args.self.now.state c.args.step.now r c.answer.new.self.state) (sym c.whole.ensures) c.answer.ensures.answered.0
 
 pub returns-clause-promised : goal.returns-clause-promised
-returns-clause-promised g c =
-    subst (λ r. IsPromised c.args.self.now.state c.args.step.now r c.do_step.new.self.state) (sym c.whole.ensures)
-    (promised c.args.self.now.state c.args.step.now (told_reply c.do_step.new.reply) c.do_step.new.self.state c.requires.ready.settled c.do_step.ensures.step)
+returns-clause-promised g c = subst (λ r. IsPromised c.args.self.now.state c.args.step.now r c.answer.new.self.state) (sym c.whole.ensures) c.answer.ensures.answered.1
 
 pub returns-clause-limits : goal.returns-clause-limits
-returns-clause-limits g c =
-    subst IsWithinLimits (sym c.whole.ensures)
-    (within_limits c.args.self.now.state c.args.step.now (told_reply c.do_step.new.reply) c.do_step.new.self.state c.requires.ready.settled c.do_step.ensures.step c.do_step.ensures.usage)
+returns-clause-limits g c = subst IsWithinLimits (sym c.whole.ensures) c.answer.ensures.limits

@@ -16,7 +16,7 @@ returns g c =
     let within : c.args.slot < length s.slots.items = omega (arith, c.if-at-len.false, c.len.ensures) in
     let x = c.index_mut.result.now in
     let e = asked_event c.args.work in
-    let did = done_on c.self.view_is c.args.slot within x c.index_mut.ensures.value c.self.invariant c.requires.ready c.ask.new.slot c.ask.new.door e (told_reply c.ask.result)
+    let did = done_on c.self.view_is c.args.slot within x c.index_mut.ensures.value c.self.invariant c.requires.ready c.ask.new.slot c.ask.new.door e (told_reply c.ask.new.reply)
     (work_happens c.args.work x c.requires.plain)
-    (never_full_at c.args.work (λ (y : Choice). slot_event g.N.Naming.page_bytes c.args.slot y x e) x c.ask.new.slot s.pool c.ask.new.door (told_reply c.ask.result) c.ask.ensures.done) in
+    (never_full_at c.args.work (λ (y : Choice). slot_event g.N.Naming.page_bytes c.args.slot y x e) x c.ask.new.slot s.pool c.ask.new.door (told_reply c.ask.new.reply) c.ask.ensures.done) in
     record { done = did.script; memory = grind (arith, common_steps); size = search rules; ready = did.ready }

@@ -22,4 +22,4 @@ returns g c =
     ap (has_maps_of c.args.parent) (slot_there c.self.view_is c.args.at within x read) ∙ sym c.has_maps.ensures ∙ c.if-not-has_maps.false in
     let did = done_on c.self.view_is c.args.at within x read c.self.invariant c.requires.ready c.fork.new.slot c.fork.new.door (ForkMaps c.args.parent c.args.child)
     (done_reply c.fork.result) refl (c.fork.ensures.done g.N.Naming.page_bytes c.args.at) in
-    record { done = slot_forked _ _ c.args.at c.args.parent c.args.child (done_reply c.fork.result) some did.event; slots = search rules; size = search rules; ready = did.ready }
+    record { done = slot_forked _ _ c.args.at c.args.parent c.args.child c.fork.result some did.event; slots = search rules; size = search rules; ready = did.ready }

@@ -1,5 +1,5 @@
-use Rattle.std.proofs.Common.{◌≡◌, ◌+◌, length, sym, subst, ap, ◌∙◌, arith}
-use Rattle.hp_model.proofs.Words.{IsReadyMachine, Machine, has_maps_of, slot_at}
+use Rattle.std.proofs.Common.{◌≡◌, sym, subst, ap, ◌∙◌, arith}
+use Rattle.hp_model.proofs.Words.{has_maps_of, slot_at}
 use Rattle.hp_system.specs.Event.{AreExited, mapped_slots}
 use Rattle.hp_system.proofs.Forking.{more_mapped, more_other}
 use Rattle.hp_system.proofs.MachineSteps.{exited_more}

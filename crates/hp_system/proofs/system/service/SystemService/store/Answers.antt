@@ -4,7 +4,7 @@ use Rattle.hp_mount.specs.declared.mount.reach.MapAccess.{MapAccess}
 use Rattle.hp_model.proofs.Words.{done_reply}
 use Rattle.hp_system.proofs.Accesses.{store_is, of_mount, of_none, of_no_slot, of_nobody}
 use Rattle.hp_system.proofs.Ready.{pool_ready}
-use Rattle.hp_system.proofs.system.System.store.Goals as goal
+use Rattle.hp_system.proofs.system.service.SystemService.store.Goals as goal
 
 pub store-requires-clause-ready : goal.store-requires-clause-ready
 store-requires-clause-ready g c = pool_ready c.self.view_is c.requires.ready
@@ -12,13 +12,13 @@ store-requires-clause-ready g c = pool_ready c.self.view_is c.requires.ready
 pub returns-in_default : goal.returns-in_default
 returns-in_default g c =
     let it = of_nobody c.self.invariant c.self.view_is c.requires.ready (store_is c.args.access.now c.args.bytes.now) (sym c.home.ensures ∙ c.in_default.is) in
-    record { step = it.step; promised = it.promised; memory = search rules; size = refl; ready = it.ready }
+    record { answered = (it.step, it.promised, search rules); ready = it.ready; same_page = refl }
 
 pub returns-then-at-len : goal.returns-then-at-len
 returns-then-at-len g c =
     let known = sym c.home.ensures ∙ c.in-Some.is in
     let it = of_no_slot c.self.invariant c.self.view_is c.requires.ready (store_is c.args.access.now c.args.bytes.now) c.in-Some.home known (omega (arith, c.if-at-len.true, c.len.ensures)) in
-    record { step = it.step; promised = it.promised; memory = search rules; size = refl; ready = it.ready }
+    record { answered = (it.step, it.promised, search rules); ready = it.ready; same_page = refl }
 
 pub returns-in_default-index_mut : goal.returns-in_default-index_mut
 returns-in_default-index_mut g c =
@@ -26,7 +26,7 @@ returns-in_default-index_mut g c =
     let within : c.args.access.now.slot < length c.self.inside.slots.items = omega (arith, c.if-at-len.false, c.len.ensures) in
     let it = of_none c.self.invariant c.self.view_is c.requires.ready (store_is c.args.access.now c.args.bytes.now) c.in-Some.home known within c.index_mut.result.now c.index_mut.ensures.value
     c.in_default-index_mut.is in
-    record { step = it.step; promised = it.promised; memory = search rules; size = search rules; ready = it.ready }
+    record { answered = (it.step, it.promised, search rules); ready = it.ready; same_page = search rules }
 
 pub returns : goal.returns
 returns g c =
@@ -35,4 +35,4 @@ returns g c =
     let it = of_mount c.self.invariant c.self.view_is c.requires.ready (store_is c.args.access.now c.args.bytes.now) c.in-Some.home known within c.index_mut.result.now c.index_mut.ensures.value
     (Some c.in-Some-index_mut.mount) (Some c.store.new.self) c.store.new.door (done_reply c.store.result) _ c.in-Some-index_mut.is
     (ap (λ (at : MapAccess). Store at.task c.in-Some.home at.map at.index c.args.access.now.offset c.args.bytes.now) c.place_of-place.ensures) (c.store.ensures.done c.args.access.now.slot) in
-    record { step = it.step; promised = it.promised; memory = search rules; size = search rules; ready = it.ready }
+    record { answered = (it.step, it.promised, search rules); ready = it.ready; same_page = search rules }

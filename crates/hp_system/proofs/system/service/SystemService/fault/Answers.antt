@@ -3,18 +3,18 @@ use Rattle.hp_model.specs.declared.event.SlotEvent.TheVariants.{Fault}
 use Rattle.hp_mount.specs.declared.mount.reach.MapAccess.{MapAccess}
 use Rattle.hp_model.proofs.Words.{done_reply}
 use Rattle.hp_system.proofs.Accesses.{fault_is, of_mount, of_none, of_no_slot, of_nobody}
-use Rattle.hp_system.proofs.system.System.fault.Goals as goal
+use Rattle.hp_system.proofs.system.service.SystemService.fault.Goals as goal
 
 pub returns-in_default : goal.returns-in_default
 returns-in_default g c =
     let it = of_nobody c.self.invariant c.self.view_is c.requires.ready (fault_is c.args.access.now c.args.intent) (sym c.home.ensures ∙ c.in_default.is) in
-    record { step = it.step; promised = it.promised; memory = search rules; size = refl; ready = it.ready }
+    record { answered = (it.step, it.promised, search rules); ready = it.ready; same_page = refl }
 
 pub returns-then-at-len : goal.returns-then-at-len
 returns-then-at-len g c =
     let known = sym c.home.ensures ∙ c.in-Some.is in
     let it = of_no_slot c.self.invariant c.self.view_is c.requires.ready (fault_is c.args.access.now c.args.intent) c.in-Some.home known (omega (arith, c.if-at-len.true, c.len.ensures)) in
-    record { step = it.step; promised = it.promised; memory = search rules; size = refl; ready = it.ready }
+    record { answered = (it.step, it.promised, search rules); ready = it.ready; same_page = refl }
 
 pub returns-in_default-index_mut : goal.returns-in_default-index_mut
 returns-in_default-index_mut g c =
@@ -22,7 +22,7 @@ returns-in_default-index_mut g c =
     let within : c.args.access.now.slot < length c.self.inside.slots.items = omega (arith, c.if-at-len.false, c.len.ensures) in
     let it = of_none c.self.invariant c.self.view_is c.requires.ready (fault_is c.args.access.now c.args.intent) c.in-Some.home known within c.index_mut.result.now c.index_mut.ensures.value
     c.in_default-index_mut.is in
-    record { step = it.step; promised = it.promised; memory = search rules; size = search rules; ready = it.ready }
+    record { answered = (it.step, it.promised, search rules); ready = it.ready; same_page = search rules }
 
 pub returns : goal.returns
 returns g c =
@@ -31,4 +31,4 @@ returns g c =
     let it = of_mount c.self.invariant c.self.view_is c.requires.ready (fault_is c.args.access.now c.args.intent) c.in-Some.home known within c.index_mut.result.now c.index_mut.ensures.value
     (Some c.in-Some-index_mut.mount) (Some c.fault.new.self) c.fault.new.door (done_reply c.fault.result) _ c.in-Some-index_mut.is
     (ap (λ (at : MapAccess). Fault at.task c.in-Some.home at.map at.index c.args.intent) c.place_of.ensures) (c.fault.ensures.done c.args.access.now.slot) in
-    record { step = it.step; promised = it.promised; memory = search rules; size = search rules; ready = it.ready }
+    record { answered = (it.step, it.promised, search rules); ready = it.ready; same_page = search rules }
