@@ -132,7 +132,7 @@ impl<N: Naming> Mount<N> {
             MountEvent::Df => Ok(self.usage()),
             MountEvent::Unlink { name } => Told::done(self.unlink(door, name)),
             MountEvent::Truncate { name, pages } => Told::done(self.truncate(door, name, pages)),
-            MountEvent::Punch { name, from, to } => { Told::done(self.punch(door, name, from, to)) }
+            MountEvent::Punch { name, from, to } => { Told::done(self.punch(door, name, from..to)) }
             MountEvent::Preallocate { name, from, to } => {
                 Told::done(self.preallocate(door, name, from, to))
             }
@@ -171,7 +171,7 @@ impl<N: Naming> Mount<N> {
                 map,
                 from,
                 to,
-            } => Told::done(self.unmap(door, task, map, from, to)),
+            } => Told::done(self.unmap(door, task, map, from..to)),
             MountEvent::Fault {
                 task,
                 map,

@@ -162,7 +162,7 @@ impl<N: Naming> Opened<N> {
     }
 
     pub fn unmap(&mut self, number: u64, from: u64, to: u64) -> Result<(), Refusal> {
-        self.mount.unmap(&mut self.pool, 7, number, from, to)
+        self.mount.unmap(&mut self.pool, 7, number, from..to)
     }
 
     pub fn fault(&mut self, access: &MapAccess, intent: Intent) -> Result<(), Refusal> {

@@ -10,6 +10,7 @@ use hp_model::profile::MOST_FILE_PAGES;
 use hp_model::refusal::Refusal;
 use hp_mount_door::PoolDoor;
 use hp_mount_files::Lookup;
+use std::ops::Range;
 
 impl<N: Naming> Mount<N> {
     /// Takes a file's name away. While maps of it are left it stays as it is. Without maps it goes, and its pages and the
@@ -70,15 +71,15 @@ impl<N: Naming> Mount<N> {
         &mut self,
         door: &mut D,
         name: &[u8],
-        start: u64,
-        end: u64,
+        range: Range<u64>,
     ) -> Result<(), Refusal>
         requires ready { D.is_ready door.old }
         ensures done { (size k : ℕ) → IsDone D.took D.is_full size k (Some self.old) door.old
-            (Punch name.now start end) (done_reply result) (Some self.new) door.new }
+            (Punch name.now range.start range.end) (done_reply result) (Some self.new) door.new }
         ensures left { D.is_left door.new }
         ensures free { NeedsNoRoom (done_reply result) }
     {
+        let Range { start, end } = range;
         let Some(file) = self.files.named(name) else {
             return Err(Refusal::NoSuchFile);
         };

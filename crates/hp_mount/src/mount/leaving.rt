@@ -15,6 +15,7 @@ use hp_model::profile::MOST_FILE_PAGES;
 use hp_model::refusal::Refusal;
 use hp_mount_door::PoolDoor;
 use hp_mount_files::Lookup;
+use std::ops::Range;
 
 impl<N: Naming> Mount<N> {
     /// The least number of a task that has a map, if there is a map. It takes a step for each file and map.
@@ -63,15 +64,15 @@ impl<N: Naming> Mount<N> {
         door: &mut D,
         task: u64,
         map: u64,
-        start: u64,
-        end: u64,
+        range: Range<u64>,
     ) -> Result<(), Refusal>
         requires ready { D.is_ready door.old }
         ensures done { (size k : ℕ) → IsDone D.took D.is_full size k (Some self.old) door.old
-            (Unmap task map start end) (done_reply result) (Some self.new) door.new }
+            (Unmap task map range.start range.end) (done_reply result) (Some self.new) door.new }
         ensures left { D.is_left door.new }
         ensures free { NeedsNoRoom (done_reply result) }
     {
+        let Range { start, end } = range;
         let Some(at) = self.files.find(task, map) else {
             return Err(Refusal::NoSuchMap);
         };
