@@ -1,5 +1,4 @@
 mod Accesses
-mod Asking
 mod Carries
 mod Ending
 mod MachineSteps
