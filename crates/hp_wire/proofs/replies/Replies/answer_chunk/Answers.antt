@@ -67,7 +67,8 @@ returns-in_err-take_line-in-Some-clause-cut g c =
     let off = one_off line next i.2.cut cut whole in
     rw (p.1, p.2) (
       part.0,
-      ran_part c.requires.none (part_longer (ended_lines next) (off.lines ∙ ap (λ (ls : List Line). ls ++ ended_lines next) (append_assoc done waiting (ended line ∷ []))) (part_later i.2.answered (rw i.2.page at part.1))),
+      ran_part c.requires.none (part_longer (ended_lines next) (off.lines ∙ ap (λ (ls : List Line). ls ++ ended_lines next) (append_assoc done waiting (ended line ∷ [])))
+          (part_later i.2.answered (rw i.2.page at part.1))),
     )
 
 pub returns-in_err-answer_queued-in-None-clause-cut : goal.returns-in_err-answer_queued-in-None-clause-cut
