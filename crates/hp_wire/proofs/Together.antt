@@ -127,3 +127,11 @@ all_together {rest} done waiting cut one first same read others =
 pub none_read : (lines : List Line) → AreRead lines [] → lines ≡ []
 none_read [] read = refl
 none_read (l ∷ ls) read = absurd read
+
+-- all lines that were cut off are answered where none waits
+pub all_alone : {S : Type 0} {m : S → Step → Reply → S → Type 0} {page : ℕ} {s u : S} {bytes rest line : List ℕ} {a b : Option (List ℕ)} {o p : List ℕ} (done waiting : List Line)
+    → CutOff bytes rest (done ++ waiting) → pieces rest ≡ line ∷ [] → Answered m page s done u a o b p → AreRead waiting [] → Answered m page s (ended_lines bytes) u a o b p
+all_alone {rest} done waiting cut one first read =
+    let none : ended_lines rest ≡ [] = ap ended_pieces one in
+    let same : (done ++ waiting) ++ ended_lines rest ≡ done = ap (λ ls. (done ++ waiting) ++ ls) none ∙ append-nil (done ++ waiting) ∙ ap (λ ls. done ++ ls) (none_read waiting read) ∙ append-nil done in
+    rw (cut.lines ∙ same) first

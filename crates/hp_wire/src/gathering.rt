@@ -1,5 +1,5 @@
 //! Answers to lines of which loads, stores and faults are done several at a time.
-ghost use Rattle.std.specs.Prelude.{◌≡◌, ◌<◌, ◌++◌, ◌∷◌, [], List, length, IfErr, IfOk, IsOk, OnOk};
+ghost use Rattle.std.specs.Prelude.{◌≡◌, ◌<◌, ◌++◌, ◌∷◌, [], List, length, IfErr, IfOk, OnOk, false};
 ghost use Rattle.hp_model.specs.text.Lines.{Line, ended, ended_lines};
 ghost use Rattle.hp_model.specs.text.Writing.{line_of};
 ghost use Rattle.hp_wire.specs.Answered.{AnswersAll, AnswersSome, RunsAll, RunsSome};
@@ -44,6 +44,7 @@ impl Replies {
         ensures ready { S.is_ready service.new }
     {
         // What waits in the queue waits for lines behind it, and nothing does at the end.
+        let several = service.takes_several();
         let mut room = [0u8; ROOM];
         let mut rest = chunk;
         let mut count = 0u64;
@@ -51,11 +52,15 @@ impl Replies {
             let (line, after) = first_long_piece(b'\n', rest);
             match after {
                 Some(after) => {
-                    self.take_line(line, queue, &mut room, service, writer)?;
+                    self.take_line(line, several, queue, &mut room, service, writer)?;
                     count += 1;
                     rest = after;
                 }
                 None => {
+                    if !several {
+                        self.send(writer)?;
+                        return Ok((rest.len(), count));
+                    }
                     self.answer_queued(queue, &mut room, service, writer)?;
                     self.send(writer)?;
                     return Ok((rest.len(), count));
@@ -65,11 +70,12 @@ impl Replies {
     }
 
     // Takes a line into the queue, and answers all that waits once that is full; a line that can't wait is answered behind
-    // those that do.
+    // those that do. Where not several are done at once none waits.
     #[inline(always)]
     fn take_line<W: Sink, S: Service>(
         &mut self,
         line: &[u8],
+        several: bool,
         queue: &mut Queue,
         room: &mut [u8; ROOM],
         service: &mut S,
@@ -77,6 +83,7 @@ impl Replies {
     ) -> Result<(), RunFault>
         requires ready { S.is_ready service.old }
         requires few { length queue.old < 16 }
+        requires alone { several ≡ false → queue.old ≡ [] }
         ensures taken { OnOk result ((waiting : List Line) → AreRead waiting queue.old
             → TakesLine S.may_answer W.contents (waiting ++ ended line.now ∷ [])
             service.old service.new writer.old writer.new self.old self.new queue.new) }
@@ -84,11 +91,15 @@ impl Replies {
             → AnswersSome S.may_answer W.contents (waiting ++ ended line.now ∷ [])
             service.old service.new writer.old writer.new self.old fault) }
         ensures few { OnOk result (length queue.new < 16) }
+        ensures alone { OnOk result (several ≡ false → queue.new ≡ []) }
         ensures page { self.new.page ≡ self.old.page }
         ensures writer { KeepsWriter W.is_sure W.lent writer.old writer.new result }
         ensures ready { S.is_ready service.new }
     {
-        if queue.take(line, room, service.takes_several()) {
+        if !several {
+            return self.answer_line(line, room, service, writer);
+        }
+        if queue.take(line, room) {
             if queue.is_full() {
                 return self.answer_queued(queue, room, service, writer);
             }
@@ -99,7 +110,7 @@ impl Replies {
     }
 
     // Does all that waits, and adds the replies.
-    #[inline(always)]
+    #[inline(never)]
     fn answer_queued<W: Sink, S: Service>(
         &mut self,
         queue: &mut Queue,
@@ -119,9 +130,6 @@ impl Replies {
         ensures writer { KeepsWriter W.is_sure W.lent writer.old writer.new result }
         ensures ready { S.is_ready service.new }
     {
-        if queue.is_empty() {
-            return Ok(());
-        }
         queue.do_all(service, room);
         self.add_queued(queue, writer)?;
         queue.clear();
@@ -129,7 +137,6 @@ impl Replies {
     }
 
     // Adds the replies of all that was done.
-    #[inline(never)]
     fn add_queued<W: Sink>(&mut self, queue: &Queue, writer: &mut W) -> Result<(), RunFault>
         ensures added { OnOk result (AddsText W.contents writer.old writer.new self.old self.new
             (queued_text self.old.page queue.now)) }

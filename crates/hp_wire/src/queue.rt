@@ -1,5 +1,5 @@
 //! Loads, stores and faults that were read and wait.
-ghost use Rattle.std.specs.Prelude.{◌≡◌, ◌≤◌, ◌<◌, [], ◌∷◌, ◌++◌, length, IsTrue, true, false};
+ghost use Rattle.std.specs.Prelude.{◌≡◌, ◌≤◌, ◌<◌, [], ◌∷◌, ◌++◌, length, true, false};
 ghost use Rattle.hp_model.specs.beside.Accesses.{store_step};
 ghost use Rattle.hp_model.specs.beside.Queue.{DoesAll, QueuedView, access_step};
 ghost use Rattle.hp_model.specs.Profile.{most_bytes};
@@ -46,14 +46,6 @@ impl Queue {
         }
     }
 
-    /// Whether nothing waits.
-    #[inline(always)]
-    pub fn is_empty(&self) -> bool
-        ensures { IsTrue result → self.now ≡ [] }
-    {
-        self.count == 0
-    }
-
     /// Whether as many wait as may.
     #[inline(always)]
     pub fn is_full(&self) -> bool
@@ -89,14 +81,14 @@ impl Queue {
         service.do_queued(&mut items[..*count], room);
     }
 
-    /// Takes a line that is a load, a store or a fault, and says whether it did. It takes none where not `several` are done at once.
+    /// Takes a line that is a load, a store or a fault, and says whether it is one.
     #[inline(always)]
-    pub fn take(&mut self, line: &[u8], room: &mut [u8; 512], several: bool) -> bool
+    pub fn take(&mut self, line: &[u8], room: &mut [u8; 512]) -> bool
         requires { length self.old < 16 }
         ensures taken { result ≡ true → IsLineTaken (ended line.now) self.old self.new }
         ensures left { result ≡ false → self.new ≡ self.old }
     {
-        if !several || line.len() > MOST_LINE_BYTES {
+        if line.len() > MOST_LINE_BYTES {
             return false;
         }
         match kind_of_line(line) {

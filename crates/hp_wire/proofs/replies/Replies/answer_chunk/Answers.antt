@@ -4,7 +4,7 @@ use Rattle.hp_model.proofs.Words.{Line, QueuedView, ended, ended_lines, pieces}
 use Rattle.hp_wire.specs.Queues.{AreRead}
 use Rattle.hp_wire.proofs.Known.{answered_none, answered_then, ran_part, ran_sent, ran_unsent}
 use Rattle.hp_wire.proofs.LineCuts.{none_off, one_off}
-use Rattle.hp_wire.proofs.Together.{all_together, part_later, part_longer}
+use Rattle.hp_wire.proofs.Together.{all_alone, all_together, part_later, part_longer}
 use Rattle.hp_wire.proofs.replies.Replies.answer_chunk.Goals as goal
 
 pub loop-after-init : goal.loop-after-init
@@ -18,6 +18,7 @@ loop-after-init g c = (
     count = refl;
     few = omega arith;
     places = (let none = ap length c.requires.no_queue in omega (arith, none));
+    alone = λ _. c.requires.no_queue;
     ready = c.requires.ready;
     page = refl;
     sure = λ s. s;
@@ -46,6 +47,7 @@ loop-after-preserved g c =
         count = (let one = length-append (done ++ waiting) (ended line ∷ []) in let before = i.2.count in let all = ap length same in omega (arith, one, before, all));
         few = omega (arith, i.2.few, ap length whole, length-append line (10 ∷ next));
         places = c.in_ok-take_line-in-Some.ensures.few;
+        alone = c.in_ok-take_line-in-Some.ensures.alone;
         ready = c.take_line.ensures.ready;
         page = c.take_line.ensures.page ∙ i.2.page;
         sure = λ s. c.take_line.ensures.writer.1 (i.2.sure s);
@@ -82,12 +84,28 @@ pub returns-in-None-clause-ran : goal.returns-in-None-clause-ran
 returns-in-None-clause-ran g c =
     let i = c.loop-after.invariant in
     let none : pieces c.loop-after.rest.now ≡ c.first_long_piece.result.0.now ∷ [] = rw c.in-None.is at c.first_long_piece.ensures.pieces in
-    ran_sent c.requires.none (all_together i.0 i.1 i.2.cut none i.2.answered i.2.page i.2.read c.in_ok-answer_queued-in-None.ensures.answered) c.in_ok-send-in-None.ensures.sent
+    ran_sent c.requires.none (all_together i.0 i.1 i.2.cut none i.2.answered i.2.page i.2.read c.in_ok-answer_queued-in-None.ensures.answered) c.in_ok-send-in-None-2.ensures.sent
+
+pub returns-in_err-send-in-None-2-clause-cut : goal.returns-in_err-send-in-None-2-clause-cut
+returns-in_err-send-in-None-2-clause-cut g c =
+    let p = err_from_is_err_and c.from_residual-in_err-send-in-None-2.result c.from_residual-in_err-send-in-None-2.ensures.1 in
+    let i = c.loop-after.invariant in
+    let none : pieces c.loop-after.rest.now ≡ c.first_long_piece.result.0.now ∷ [] = rw c.in-None.is at c.first_long_piece.ensures.pieces in
+    let cut = c.in_err-send-in-None-2.ensures.cut in
+    rw (p.1, p.2) (cut.0, ran_unsent c.requires.none (all_together i.0 i.1 i.2.cut none i.2.answered i.2.page i.2.read c.in_ok-answer_queued-in-None.ensures.answered) cut.1)
+
+pub returns-then-not-several-clause-ran : goal.returns-then-not-several-clause-ran
+returns-then-not-several-clause-ran g c =
+    let i = c.loop-after.invariant in
+    let one : pieces c.loop-after.rest.now ≡ c.first_long_piece.result.0.now ∷ [] = rw c.in-None.is at c.first_long_piece.ensures.pieces in
+    let queue = i.2.alone c.if-not-several.true in
+    ran_sent c.requires.none (all_alone i.0 i.1 i.2.cut one i.2.answered (rw queue at i.2.read)) c.in_ok-send-in-None.ensures.sent
 
 pub returns-in_err-send-in-None-clause-cut : goal.returns-in_err-send-in-None-clause-cut
 returns-in_err-send-in-None-clause-cut g c =
     let p = err_from_is_err_and c.from_residual-in_err-send-in-None.result c.from_residual-in_err-send-in-None.ensures.1 in
     let i = c.loop-after.invariant in
-    let none : pieces c.loop-after.rest.now ≡ c.first_long_piece.result.0.now ∷ [] = rw c.in-None.is at c.first_long_piece.ensures.pieces in
+    let one : pieces c.loop-after.rest.now ≡ c.first_long_piece.result.0.now ∷ [] = rw c.in-None.is at c.first_long_piece.ensures.pieces in
+    let queue = i.2.alone c.if-not-several.true in
     let cut = c.in_err-send-in-None.ensures.cut in
-    rw (p.1, p.2) (cut.0, ran_unsent c.requires.none (all_together i.0 i.1 i.2.cut none i.2.answered i.2.page i.2.read c.in_ok-answer_queued-in-None.ensures.answered) cut.1)
+    rw (p.1, p.2) (cut.0, ran_unsent c.requires.none (all_alone i.0 i.1 i.2.cut one i.2.answered (rw queue at i.2.read)) cut.1)

@@ -1,4 +1,4 @@
-use Rattle.std.proofs.Common.{◌≡◌, ◌+◌, ◌<◌, ◌≤◌, ◌++◌, length, List}
+use Rattle.std.proofs.Common.{◌≡◌, ◌+◌, ◌<◌, ◌≤◌, ◌++◌, [], length, List, false}
 use Rattle.hp_model.proofs.Words.{Line}
 use Rattle.hp_wire.specs.Answered.{Answered}
 use Rattle.hp_wire.specs.Queues.{AreRead}
@@ -13,6 +13,7 @@ invariant-loop-after g l = (done : List Line) × (waiting : List Line) × record
   count : l.count ≡ length (done ++ waiting);
   few : l.count + length l.rest ≤ length l.chunk;
   places : length l.queue < 16;
+  alone : l.several ≡ false → l.queue ≡ [];
   ready : g.S.Service.is_ready l.service;
   page : l.self.page ≡ l.fn.self.page;
   sure : g.W.Sink.is_sure l.fn.writer → g.W.Sink.is_sure l.writer;

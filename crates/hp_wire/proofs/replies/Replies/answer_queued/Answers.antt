@@ -1,9 +1,6 @@
-use Rattle.std.proofs.Common.{◌≡◌, [], subst, List}
 use Rattle.std.proofs.lemmas.Result.{err_from_is_err_and}
-use Rattle.hp_model.proofs.Words.{QueuedView}
-use Rattle.hp_wire.specs.Queues.{AreRead, queued_text}
-use Rattle.hp_wire.proofs.Known.{answered_none}
-use Rattle.hp_wire.proofs.Together.{none_read, part_whole, texts}
+use Rattle.hp_wire.specs.Queues.{queued_text}
+use Rattle.hp_wire.proofs.Together.{part_whole, texts}
 use Rattle.hp_wire.proofs.replies.Replies.answer_queued.Goals as goal
 
 pub returns-in_err-add_queued-clause-cut : goal.returns-in_err-add_queued-clause-cut
@@ -26,8 +23,3 @@ returns-clause-answered g c =
       replies = texts g.S.Service.may_answer page c.args.service.now c.do_all.new.service lines c.args.queue.now after read c.do_all.ensures.done;
       gained = c.in_ok-add_queued.ensures.added;
     }
-
-pub returns-then-is_empty-clause-answered : goal.returns-then-is_empty-clause-answered
-returns-then-is_empty-clause-answered g c = λ lines read.
-    let none : lines ≡ [] = none_read lines (subst (λ (qs : List QueuedView). AreRead lines qs) (c.is_empty.ensures c.if-is_empty.true) read) in
-    rw none answered_none

@@ -1,9 +1,9 @@
-use Rattle.std.proofs.Common.{[], ◌∷◌, ◌++◌, List, refl, sym, subst, append-nil}
+use Rattle.std.proofs.Common.{◌≡◌, [], ◌∷◌, ◌++◌, List, refl, sym, subst, append-nil}
 use Rattle.std.proofs.lemmas.Result.{err_from_is_err_and}
 use Rattle.hp_model.proofs.Words.{QueuedView, ended}
 use Rattle.hp_wire.specs.Queues.{AreRead}
 use Rattle.hp_wire.proofs.Known.{answered_cut, answered_none, answered_then}
-use Rattle.hp_wire.proofs.Together.{if_err, on_ok, part_longer, read_taken}
+use Rattle.hp_wire.proofs.Together.{if_err, none_read, on_ok, part_longer, read_taken}
 use Rattle.hp_wire.proofs.replies.Replies.take_line.Goals as goal
 
 pub returns-then-is_full-clause-taken : goal.returns-then-is_full-clause-taken
@@ -51,20 +51,40 @@ pub returns-clause-taken : goal.returns-clause-taken
 returns-clause-taken g c =
     let line = ended c.args.line.now in
     let left = c.take.ensures.left c.if-take.false in
-    on_ok c.answer_line.result (λ answered _ waiting read. record {
+    on_ok c.answer_line-2.result (λ answered _ waiting read. record {
       done = waiting ++ line ∷ [];
       others = [];
       all = sym (append-nil (waiting ++ line ∷ []));
       answered = answered_then (c.in_ok-answer_queued.ensures.answered waiting (subst (λ (qs : List QueuedView). AreRead waiting qs) (sym left) read))
           (rw c.in_ok-answer_queued.ensures.page at answered);
       read = subst (λ (qs : List QueuedView). AreRead [] qs) (sym c.in_ok-answer_queued.ensures.none) tt;
-    }) c.answer_line.ensures.answered c.answer_line.ensures.answered
+    }) c.answer_line-2.ensures.answered c.answer_line-2.ensures.answered
 
 pub returns-clause-cut : goal.returns-clause-cut
 returns-clause-cut g c =
     let line = ended c.args.line.now in
     let left = c.take.ensures.left c.if-take.false in
-    if_err c.answer_line.result (λ fault cut undone waiting read. (
+    if_err c.answer_line-2.result (λ fault cut undone waiting read. (
       cut.0,
       answered_cut (line ∷ []) (c.in_ok-answer_queued.ensures.answered waiting (subst (λ (qs : List QueuedView). AreRead waiting qs) (sym left) read)) refl undone cut.1,
-    )) c.answer_line.ensures.cut c.answer_line.ensures.undone
+    )) c.answer_line-2.ensures.cut c.answer_line-2.ensures.undone
+
+pub returns-then-not-several-clause-taken : goal.returns-then-not-several-clause-taken
+returns-then-not-several-clause-taken g c =
+    let line = ended c.args.line.now in
+    on_ok c.answer_line.result (λ answered _ waiting read.
+    let none : waiting ≡ [] = none_read waiting (subst (λ (qs : List QueuedView). AreRead waiting qs) (c.requires.alone c.if-not-several.true) read) in
+    rw none (record {
+      done = line ∷ [];
+      others = [];
+      all = refl;
+      answered = answered;
+      read = subst (λ (qs : List QueuedView). AreRead [] qs) (sym (c.requires.alone c.if-not-several.true)) tt;
+    })) c.answer_line.ensures.answered c.answer_line.ensures.answered
+
+pub returns-then-not-several-clause-cut : goal.returns-then-not-several-clause-cut
+returns-then-not-several-clause-cut g c =
+    let line = ended c.args.line.now in
+    if_err c.answer_line.result (λ fault cut undone waiting read.
+    let none : waiting ≡ [] = none_read waiting (subst (λ (qs : List QueuedView). AreRead waiting qs) (c.requires.alone c.if-not-several.true) read) in
+    rw none (cut.0, answered_cut (line ∷ []) answered_none refl undone cut.1)) c.answer_line.ensures.cut c.answer_line.ensures.undone
