@@ -133,5 +133,6 @@ pub all_alone : {S : Type 0} {m : S → Step → Reply → S → Type 0} {page :
     → CutOff bytes rest (done ++ waiting) → pieces rest ≡ line ∷ [] → Answered m page s done u a o b p → AreRead waiting [] → Answered m page s (ended_lines bytes) u a o b p
 all_alone {rest} done waiting cut one first read =
     let none : ended_lines rest ≡ [] = ap ended_pieces one in
-    let same : (done ++ waiting) ++ ended_lines rest ≡ done = ap (λ ls. (done ++ waiting) ++ ls) none ∙ append-nil (done ++ waiting) ∙ ap (λ ls. done ++ ls) (none_read waiting read) ∙ append-nil done in
+    let same : (done ++ waiting) ++ ended_lines rest ≡ done =
+    ap (λ ls. (done ++ waiting) ++ ls) none ∙ append-nil (done ++ waiting) ∙ ap (λ ls. done ++ ls) (none_read waiting read) ∙ append-nil done in
     rw (cut.lines ∙ same) first
