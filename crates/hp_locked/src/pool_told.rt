@@ -3,9 +3,9 @@ ghost use Rattle.std.specs.Prelude.{◌≡◌};
 ghost use Rattle.hp_model.specs.beside.Told.{told_reply};
 ghost use Rattle.hp_locked.specs.Told.{pool_reply};
 
-use hp_model::answer::{Counts, NodeCount, Reply};
+use hp_model::answer::{Answer, Counts, NodeCount, Reply};
 use hp_model::refusal::Refusal;
-use hp_model::told::{Told, into_reply};
+use hp_model::told::Told;
 
 /// An answer that can be told as often as it is wanted.
 #[derive(Clone, Copy, Debug, PartialEq, Eq)]
@@ -23,7 +23,13 @@ impl PoolTold {
     pub fn reply(&self) -> Reply
         ensures { result ≡ pool_reply self.now }
     {
-        into_reply(self.told())
+        match *self {
+            PoolTold::Done => Ok(Answer::Done),
+            PoolTold::TooMuch => Err(Refusal::OutOfRange),
+            PoolTold::Number(n) => Ok(Answer::Number(n)),
+            PoolTold::Numbers(counts) => Ok(Answer::Numbers(counts)),
+            PoolTold::PerNode { nodes, rows } => Ok(Answer::PerNode { nodes, rows }),
+        }
     }
 
     /// For the caller.
