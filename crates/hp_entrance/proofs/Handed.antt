@@ -8,33 +8,28 @@ use Rattle.hp_laws.proofs.Variants.{Done, Event, Find, Home, Receipt, Slot as On
 use Rattle.hp_model.proofs.Words.{Reply, has_place, table_event, when_known}
 use Rattle.hp_events.specs.Answered.{CanAnswer, IsHanded, IsToldOf}
 use Rattle.hp_events.specs.Replies.{is_trace_full}
-use Rattle.hp_events.specs.SlotWork.{asked_event, is_exit}
-use Rattle.hp_events.specs.declared.slot_work.SlotWork.{SlotWork}
-use Rattle.hp_events.specs.declared.slot_work.SlotWork.TheVariants as w
+use Rattle.hp_events.specs.Event.{is_exit}
+use Rattle.hp_model.specs.machine.SlotEvent.{SlotEvent}
+use Rattle.hp_model.specs.declared.event.SlotEvent.TheVariants.{ExitMaps}
 use Rattle.hp_shared.specs.Seated.{IsSeatedDone, IsSeatedEvent, SeatedView}
-use Rattle.hp_shared.proofs.SlotsKept.{mount_has_place}
 
 map_match : (b : Bool) (A B C D : Type 0) → (b ≡ true → A → C) → (b ≡ false → B → D) → MatchBool b A B → MatchBool b C D
 map_match true A B C D f g t = f refl t
 map_match false A B C D f g t = g refl t
 
 -- an exit, which alone has its place, is done
-work_place : (k : ℕ) (work : SlotWork) (reply : Reply) → (is_exit work ≡ true → reply ≡ Ok Done) → is_trace_full reply ≡ true → has_place (OnSlot k (asked_event work)) ≡ false
-work_place k (w.Mount options) reply exit full = refl
-work_place k (w.Remount options) reply exit full = refl
-work_place k w.Umount reply exit full = refl
-work_place k (w.Fork parent child) reply exit full = refl
-work_place k (w.Exit task) reply exit full = absurd (false≢true (sym (ap is_trace_full (exit refl)) ∙ full))
-work_place k (w.OfMount home e) reply exit full = mount_has_place k home e
+work_place : (k : ℕ) (e : SlotEvent) (reply : Reply) → (is_exit e ≡ true → reply ≡ Ok Done) → is_trace_full reply ≡ true → has_place (OnSlot k e) ≡ false
+work_place k (ExitMaps task) reply exit full = absurd (false≢true (sym (ap is_trace_full (exit refl)) ∙ full))
+work_place k other reply exit full = refl
 
 -- what is asked of a slot
-pub work_handed : (kept : Bool) (full : Type 0) (size : ℕ) (old new : SeatedView) (work : SlotWork) (reply : Reply) (v w : List Held) (receipt : Option Receipt) →
-    IsSeatedEvent full kept size old new (asked_event work) reply v w receipt → (is_trace_full reply ≡ true → kept ≡ true) → (is_exit work ≡ true → reply ≡ Ok Done) →
-    IsHanded kept size (OnSlot old.slot.number (asked_event work)) reply (receipts_in v) (receipts_in w)
-work_handed kept full size old new work reply v w receipt event keeps exit =
+pub work_handed : (kept : Bool) (full : Type 0) (size : ℕ) (old new : SeatedView) (e : SlotEvent) (reply : Reply) (v w : List Held) (receipt : Option Receipt) →
+    IsSeatedEvent full kept size old new e reply v w receipt → (is_trace_full reply ≡ true → kept ≡ true) → (is_exit e ≡ true → reply ≡ Ok Done) →
+    IsHanded kept size (OnSlot old.slot.number e) reply (receipts_in v) (receipts_in w)
+work_handed kept full size old new e reply v w receipt event keeps exit =
     map_match (is_trace_full reply) _ _ _ _
-    (λ is h. (keeps is, work_place old.slot.number work reply exit is, ap receipts_in h.1))
-    (λ is h. done old new (asked_event work) h) event
+    (λ is h. (keeps is, work_place old.slot.number e reply exit is, ap receipts_in h.1))
+    (λ is h. done old new e h) event
   where
     done : (old new : SeatedView) (e : _) → IsSeatedDone kept size old new e reply v w receipt →
         CanAnswer size (OnSlot old.slot.number e) reply × IsToldOf (OnSlot old.slot.number e) reply (receipts_in v) (receipts_in w)

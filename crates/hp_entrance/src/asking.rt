@@ -9,11 +9,11 @@ use crate::entrance::Entrance;
 use crate::holding::held_accesses;
 use crate::member::Member;
 use hp_events::copies::Copies;
-use hp_events::{Parts, SlotWork, TableTold};
+use hp_events::{LentEvent, Parts, TableTold, is_of_mount};
 use hp_history::Places;
 use hp_locked::{Core, Gate, hold};
 use hp_model::entry::{PoolEntry, SlotEntry, TableEntry};
-use hp_model::event::{PoolEvent, TableEvent};
+use hp_model::event::{PoolEvent, SlotEvent, TableEvent};
 use hp_model::names::Names;
 use hp_model::naming::Naming;
 use hp_model::queued::Queued;
@@ -159,7 +159,7 @@ impl<'a, N: Naming + Places, R: Wait, G: Gate, const K: usize> Parts for Entranc
     fn slot<'b>(
         &mut self,
         at: usize,
-        work: SlotWork<'_>,
+        event: &LentEvent<'_>,
         copies: Option<Copies>,
         room: &'b mut [u8],
     ) -> Result<Told<'b>, Refusal> {
@@ -168,17 +168,15 @@ impl<'a, N: Naming + Places, R: Wait, G: Gate, const K: usize> Parts for Entranc
         self.gate.enter(at as u64);
         let slot: &mut SeatedSlot<N, Trace<SlotEntry, K>> = &mut value;
         let ways = shared.ways(self.rt, self.gate);
-        if K != 1
-            && let SlotWork::OfMount { home, event } = work
-        {
+        if K != 1 && is_of_mount(event) {
             let (told, _entered) = self
                 .member
-                .unnoted(&ways, slot, shared.page_bytes(), home, event, room);
+                .unnoted(&ways, slot, shared.page_bytes(), event, room);
             return told;
         }
         let (alloc, page_bytes) = (shared.alloc(), shared.page_bytes());
         self.member
-            .slot(&ways, slot, alloc, page_bytes, work, copies, room)
+            .slot(&ways, slot, alloc, page_bytes, event, copies, room)
     }
 
     fn fork_maps(&mut self, at: usize, parent: u64, child: u64) -> Option<Result<(), Refusal>> {
@@ -191,10 +189,10 @@ impl<'a, N: Naming + Places, R: Wait, G: Gate, const K: usize> Parts for Entranc
         }
         let ways = shared.ways(self.rt, self.gate);
         let (alloc, page_bytes) = (shared.alloc(), shared.page_bytes());
-        let work = SlotWork::Fork { parent, child };
+        let event = SlotEvent::ForkMaps { parent, child };
         let told = self
             .member
-            .slot(&ways, slot, alloc, page_bytes, work, None, &mut []);
+            .slot(&ways, slot, alloc, page_bytes, &event, None, &mut []);
         match told {
             Ok(_done) => Some(Ok(())),
             Err(refusal) => Some(Err(refusal)),
@@ -211,10 +209,10 @@ impl<'a, N: Naming + Places, R: Wait, G: Gate, const K: usize> Parts for Entranc
         }
         let ways = shared.ways(self.rt, self.gate);
         let (alloc, page_bytes) = (shared.alloc(), shared.page_bytes());
-        let work = SlotWork::Exit { task };
+        let event = SlotEvent::ExitMaps { task };
         let _done = self
             .member
-            .slot(&ways, slot, alloc, page_bytes, work, None, &mut []);
+            .slot(&ways, slot, alloc, page_bytes, &event, None, &mut []);
         true
     }
 

@@ -1,15 +1,16 @@
 //! Loads, stores and faults that are done while their slot's lock is held, where no entries are kept.
 ghost use Rattle.std.specs.Prelude.{ℕ, ◌≡◌, ◌==◌, ◌≤◌, false, length, IfNone, IfSome, true};
 ghost use Rattle.hp_model.specs.Profile.{most_bytes};
-ghost use Rattle.hp_events.specs.Event.{as_event, shows_bytes};
 ghost use Rattle.hp_events.specs.Queues.{AreFirstHanded, IsAccessHanded};
 ghost use Rattle.hp_model.specs.declared.event.SlotEvent.TheVariants.{Fault as FaultThere, Load as LoadThere, Store as StoreThere};
 
 use crate::member::Member;
-use hp_events::{MountEvent, into_bytes, into_done};
+use hp_events::{LentEvent, into_bytes, into_done};
 use hp_history::Places;
 use hp_locked::Gate;
 use hp_model::entry::{PoolEntry, SlotEntry};
+use hp_model::event::SlotEvent;
+use hp_model::lent::Lent;
 use hp_model::naming::Naming;
 use hp_model::queued::{Doing, Queued};
 use hp_model::service::Access;
@@ -75,20 +76,20 @@ fn held_access<N: Naming + Places, R: Wait, G: Gate, const K: usize>(
     let page_bytes = shared.page_bytes();
     match queued.doing() {
         Doing::Load { count } => {
-            let event = load_of(&access, count);
-            let (told, entered) = member.unnoted(ways, slot, page_bytes, home, event, room);
+            let event = load_of(&access, home, count);
+            let (told, entered) = member.unnoted(ways, slot, page_bytes, &event, room);
             queued.answer_load(into_bytes(told));
             Some(entered)
         }
         Doing::Store { bytes } => {
-            let event = store_of(&access, bytes);
-            let (told, entered) = member.unnoted(ways, slot, page_bytes, home, event, &mut []);
+            let event = store_of(&access, home, bytes);
+            let (told, entered) = member.unnoted(ways, slot, page_bytes, &event, &mut []);
             queued.answer_done(into_done(told));
             Some(entered)
         }
         Doing::Fault { intent } => {
-            let event = fault_of(&access, intent);
-            let (told, entered) = member.unnoted(ways, slot, page_bytes, home, event, &mut []);
+            let event = fault_of(&access, home, intent);
+            let (told, entered) = member.unnoted(ways, slot, page_bytes, &event, &mut []);
             queued.answer_done(into_done(told));
             Some(entered)
         }
@@ -97,12 +98,13 @@ fn held_access<N: Naming + Places, R: Wait, G: Gate, const K: usize>(
 
 // The event of a load.
 #[inline(always)]
-fn load_of(access: &Access, count: u64) -> MountEvent<'static>
-    ensures { (home : ℕ) → as_event home result ≡ LoadThere access.now.task home
-        access.now.map access.now.index access.now.offset count }
+fn load_of(access: &Access, home: u64, count: u64) -> LentEvent<'static>
+    ensures { result ≡ LoadThere access.now.task home access.now.map access.now.index
+        access.now.offset count }
 {
-    MountEvent::Load {
+    SlotEvent::Load {
         task: access.task,
+        home,
         map: access.map,
         index: access.index,
         offset: access.offset,
@@ -112,29 +114,28 @@ fn load_of(access: &Access, count: u64) -> MountEvent<'static>
 
 // The event of a store.
 #[inline(always)]
-fn store_of<'q>(access: &Access, bytes: &'q [u8]) -> MountEvent<'q>
-    ensures event { (home : ℕ) → as_event home result ≡ StoreThere access.now.task home
-        access.now.map access.now.index access.now.offset bytes.now }
-    ensures silent { shows_bytes result ≡ false }
+fn store_of<'q>(access: &Access, home: u64, bytes: &'q [u8]) -> LentEvent<'q>
+    ensures { result ≡ StoreThere access.now.task home access.now.map access.now.index
+        access.now.offset bytes.now }
 {
-    MountEvent::Store {
+    SlotEvent::Store {
         task: access.task,
+        home,
         map: access.map,
         index: access.index,
         offset: access.offset,
-        bytes,
+        bytes: Lent::new(bytes),
     }
 }
 
 // The event of a fault.
 #[inline(always)]
-fn fault_of(access: &Access, intent: Intent) -> MountEvent<'static>
-    ensures event { (home : ℕ) → as_event home result ≡ FaultThere access.now.task home
-        access.now.map access.now.index intent }
-    ensures silent { shows_bytes result ≡ false }
+fn fault_of(access: &Access, home: u64, intent: Intent) -> LentEvent<'static>
+    ensures { result ≡ FaultThere access.now.task home access.now.map access.now.index intent }
 {
-    MountEvent::Fault {
+    SlotEvent::Fault {
         task: access.task,
+        home,
         map: access.map,
         index: access.index,
         intent,

@@ -1,7 +1,8 @@
 //! What a session has of the machine: its seat in the history, and its receipts where entries are kept.
 ghost use Rattle.std.specs.Prelude.{ℕ, ◌≡◌, ◌==◌, ◌+◌, ◌<◌, ◌≤◌, ◌∷◌, ◌++◌, [], length, true, false, if◌then◌else◌, Ok, None, Some, IfSome, IfNone, vec_len, vec_capacity};
 ghost use Rattle.hp_model.specs.threads.JointRun.{option_cons};
-ghost use Rattle.hp_events.specs.Event.{as_event, shows_bytes};
+ghost use Rattle.hp_events.specs.Copies.{AreCopiesFor};
+ghost use Rattle.hp_events.specs.Event.{IsAnother, has_maps_for, is_exit, is_of_mount, shows_bytes};
 ghost use Rattle.hp_history.specs.History.{IsSession, number_in, receipts_in};
 ghost use Rattle.hp_history.specs.Sections.{pool_receipt};
 ghost use Rattle.hp_laws.specs.Answers.{lists_names};
@@ -15,12 +16,11 @@ ghost use Rattle.hp_model.specs.Profile.{most_bytes};
 ghost use Rattle.hp_model.specs.text.Writing.{IsWithinLimits};
 ghost use Rattle.hp_events.specs.Answered.{HasPlace, IsHanded};
 ghost use Rattle.hp_events.specs.Replies.{names_reply, table_reply};
-ghost use Rattle.hp_events.specs.SlotWork.{AreCopiesFor, IsAnother, asked_event, has_maps_for, is_exit, needs_room};
 ghost use Rattle.hp_shared.specs.Ended.{IsCount};
 
 use atomic_table::Badge;
 use hp_events::copies::Copies;
-use hp_events::{MountEvent, SlotWork, TableTold};
+use hp_events::{LentEvent, TableTold};
 use hp_history::{History, Places, Token, View};
 use hp_locked::{Core, Gate, PoolTold};
 use hp_model::entry::{Part, PoolEntry, Receipt, SlotEntry, TableEntry};
@@ -219,29 +219,29 @@ impl<N: Naming + Places, const K: usize> Member<N, K> {
         slot: &mut SeatedSlot<N, Trace<SlotEntry, K>>,
         alloc: Global,
         page_bytes: u64,
-        work: SlotWork<'_>,
+        event: &LentEvent<'_>,
         copies: Option<Copies>,
         room: &'b mut [u8],
     ) -> Result<Told<'b>, Refusal>
         requires place { HasPlace (K == 1) self.old.receipts self.old.room }
         requires page_bytes { page_bytes ≡ N.page_bytes }
         requires bytes { 0 < page_bytes }
-        requires room { needs_room work ≡ true → most_bytes ≤ length room.old }
-        requires apart { lists_names (asked_event work) ≡ false }
-        requires another { IsAnother work }
-        requires has { has_maps_for work slot.old.slot.mount ≡ true }
-        requires copies { (K == 1) ≡ true → AreCopiesFor work copies }
+        requires room { shows_bytes event.now ≡ true → most_bytes ≤ length room.old }
+        requires apart { lists_names event.now ≡ false }
+        requires another { IsAnother event.now }
+        requires has { has_maps_for event.now slot.old.slot.mount ≡ true }
+        requires copies { (K == 1) ≡ true → AreCopiesFor event.now copies }
         ensures handed { IsHanded (K == 1) N.page_bytes
-            (OnSlot slot.old.slot.number (asked_event work.entry)) (told_reply result)
+            (OnSlot slot.old.slot.number event.now) (told_reply result)
             self.old.receipts self.new.receipts }
         ensures limits { IsWithinLimits (told_reply result) }
-        ensures exit { is_exit work.entry ≡ true → told_reply result ≡ Ok Done }
+        ensures exit { is_exit event.now ≡ true → told_reply result ≡ Ok Done }
         ensures number { self.new.number ≡ self.old.number }
         ensures room { self.new.room ≡ self.old.room }
     {
         let Member { seat, receipts, .. } = self;
         let mine = mem::replace(seat, Badge::blank()).into_seat();
-        let (mine, told, receipt) = slot.work(ways, mine, alloc, page_bytes, work, copies, room);
+        let (mine, told, receipt) = slot.work(ways, mine, alloc, page_bytes, event, copies, room);
         *seat = mine.into_badge();
         keep(receipts, receipt);
         told
@@ -255,16 +255,16 @@ impl<N: Naming + Places, const K: usize> Member<N, K> {
         ways: &Ways<'_, N, R, G, K>,
         slot: &mut SeatedSlot<N, Trace<SlotEntry, K>>,
         page_bytes: u64,
-        home: u64,
-        event: MountEvent<'_>,
+        event: &LentEvent<'_>,
         room: &'b mut [u8],
     ) -> (Result<Told<'b>, Refusal>, bool)
         requires unkept { (K == 1) ≡ false }
         requires page_bytes { page_bytes ≡ N.page_bytes }
-        requires room { shows_bytes event ≡ true → most_bytes ≤ length room.old }
-        requires apart { lists_names (as_event home event) ≡ false }
+        requires of_mount { is_of_mount event.now ≡ true }
+        requires room { shows_bytes event.now ≡ true → most_bytes ≤ length room.old }
+        requires apart { lists_names event.now ≡ false }
         ensures handed { IsHanded (K == 1) N.page_bytes
-            (OnSlot slot.old.slot.number (as_event home event.entry)) (told_reply result.0)
+            (OnSlot slot.old.slot.number event.now) (told_reply result.0)
             self.old.receipts self.new.receipts }
         ensures limits { IsWithinLimits (told_reply result.0) }
         ensures slot { slot.new.slot.number ≡ slot.old.slot.number }
@@ -273,7 +273,7 @@ impl<N: Naming + Places, const K: usize> Member<N, K> {
     {
         let Member { seat, .. } = self;
         let mine = mem::replace(seat, Badge::blank()).into_seat();
-        let (mine, told, entered) = slot.event_unnoted(ways, mine, page_bytes, home, event, room);
+        let (mine, told, entered) = slot.event_unnoted(ways, mine, page_bytes, event, room);
         *seat = mine.into_badge();
         (told, entered)
     }

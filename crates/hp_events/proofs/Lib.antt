@@ -1,2 +1,3 @@
 pub mod Came
 pub mod Fitting
+pub mod Homes

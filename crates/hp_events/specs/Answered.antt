@@ -5,7 +5,7 @@ use Rattle.hp_model.specs.declared.entry.Asked.{Asked}
 use Rattle.hp_model.specs.declared.entry.Receipt.{Receipt}
 use Rattle.hp_model.specs.declared.event.Event.{Event}
 use Rattle.hp_model.specs.declared.event.Event.TheVariants.{Tasks as OnTasks, Slot as OnSlot, Pool as OnPool}
-use Rattle.hp_model.specs.declared.event.SlotEvent.{SlotEvent}
+use Rattle.hp_model.specs.machine.SlotEvent.{SlotEvent}
 use Rattle.hp_model.specs.machine.Event.{IsFresh}
 use Rattle.hp_model.specs.machine.Plan.{Choice, Reply, Slot}
 use Rattle.hp_model.specs.machine.SlotEvent.{slot_event}

@@ -1,6 +1,7 @@
--- Copies of what an event of a mount carries, and events with bytes of their own.
-use Rattle.std.specs.Prelude.{◌≡◌, ℕ, Option, None, Some, List, []}
-use Rattle.hp_model.specs.declared.event.SlotEvent.{SlotEvent}
+-- Copies of what an event carries.
+use Rattle.std.specs.Prelude.{◌≡◌, ℕ, Bool, Option, None, Some, List, [], true, false}
+use Rattle.hp_model.specs.beside.Copying.{has_bytes}
+use Rattle.hp_model.specs.machine.SlotEvent.{SlotEvent}
 use Rattle.hp_model.specs.declared.event.SlotEvent.TheVariants as slot
 
 -- the name, the options or the bytes of an event
@@ -18,12 +19,11 @@ bytes_of_event (slot.Map task home name a pages sharing reserving) = name
 bytes_of_event (slot.Store task home number i offset bytes) = bytes
 bytes_of_event other = []
 
--- two copies of these
-abbrev pub AreCopies : List ℕ → Option (List ℕ × List ℕ) → Type 0
-AreCopies bytes None = ⊥
-AreCopies bytes (Some both) = (both.0 ≡ bytes) × (both.1 ≡ bytes)
+-- two copies of these bytes, where there are any
+abbrev pub AreCopies : (has : Bool) → List ℕ → Option (List ℕ × List ℕ) → Type 0
+AreCopies has bytes None = has ≡ false
+AreCopies has bytes (Some both) = (has ≡ true) × (both.0 ≡ bytes) × (both.1 ≡ bytes)
 
--- the event twice
-abbrev pub AreEvents : SlotEvent → Option (SlotEvent × SlotEvent) → Type 0
-AreEvents e None = ⊥
-AreEvents e (Some both) = (both.0 ≡ e) × (both.1 ≡ e)
+-- two copies of what it carries, if that is anything
+abbrev pub AreCopiesFor : SlotEvent → Option (List ℕ × List ℕ) → Type 0
+AreCopiesFor e copies = AreCopies (has_bytes e) (bytes_of_event e) copies

@@ -1,11 +1,7 @@
--- Kinds of steps and of events of a mount.
+-- Kinds of steps.
 use Rattle.std.specs.Prelude.{◌≡◌, ℕ, Bool, true, false}
 use Rattle.hp_model.specs.declared.step.Step.{Step}
 use Rattle.hp_model.specs.declared.step.Step.TheVariants as step
-use Rattle.hp_events.specs.declared.event.MountEvent.{MountEvent}
-use Rattle.hp_events.specs.declared.event.MountEvent.TheVariants.{Anon, Create, Fault, Map, Preallocate, Punch, Read, Stat, Truncate, Unlink, Unmap}
-
--- ---- steps
 
 -- the slot that a step is on; a map without name is made on slot 0
 abbrev pub slot_of : Step → ℕ
@@ -43,28 +39,3 @@ IsOfTask t (step.Fault task k number i intent) = t ≡ task
 IsOfTask t (step.Load task k number i offset count) = t ≡ task
 IsOfTask t (step.Store task k number i offset bytes) = t ≡ task
 IsOfTask t other = ⊥
-
--- ---- events
-
--- it makes a map
-abbrev pub makes_map : MountEvent → Bool
-makes_map (Map task name from pages sharing reserving) = true
-makes_map (Anon task pages sharing reserving) = true
-makes_map other = false
-
--- it takes indices from a map, or asks for a page at one
-abbrev pub is_of_indices : MountEvent → Bool
-is_of_indices (Unmap task map from to) = true
-is_of_indices (Fault task map index intent) = true
-is_of_indices other = false
-
--- it names a file, and makes no map
-abbrev pub is_of_file : MountEvent → Bool
-is_of_file (Create name) = true
-is_of_file (Unlink name) = true
-is_of_file (Truncate name pages) = true
-is_of_file (Punch name from to) = true
-is_of_file (Preallocate name from to) = true
-is_of_file (Stat name) = true
-is_of_file (Read name index offset count) = true
-is_of_file other = false

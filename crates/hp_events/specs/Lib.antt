@@ -3,7 +3,6 @@ pub mod Works
 pub mod Memory
 pub mod Copies
 pub mod Kinds
-pub mod SlotWork
 pub mod Replies
 pub mod Answered
 pub mod Queues

@@ -1,6 +1,6 @@
 -- What may be refused memory.
 use Rattle.std.specs.Prelude.{Bool, true, false, not}
-use Rattle.hp_model.specs.declared.event.SlotEvent.{SlotEvent}
+use Rattle.hp_model.specs.machine.SlotEvent.{SlotEvent}
 use Rattle.hp_model.specs.declared.event.SlotEvent.TheVariants.{Create, Ls, Preallocate, Map, Anon, Fault, ForkMaps, Load, Store}
 use Rattle.hp_model.specs.declared.step.Intent.TheVariants.{Read, Write}
 use Rattle.hp_model.specs.machine.Plan.{Slot}

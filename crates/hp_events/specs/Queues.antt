@@ -4,7 +4,7 @@ use Rattle.hp_model.specs.beside.Queue.{QueuedView}
 use Rattle.hp_model.specs.declared.answer.Answer.TheVariants.{Home}
 use Rattle.hp_model.specs.declared.entry.Receipt.{Receipt}
 use Rattle.hp_model.specs.declared.event.Event.TheVariants.{Tasks as OnTasks, Slot as OnSlot}
-use Rattle.hp_model.specs.declared.event.SlotEvent.{SlotEvent}
+use Rattle.hp_model.specs.machine.SlotEvent.{SlotEvent}
 use Rattle.hp_model.specs.declared.event.SlotEvent.TheVariants as slot
 use Rattle.hp_model.specs.declared.event.TableEvent.TheVariants.{Find}
 use Rattle.hp_model.specs.declared.step.Step.{Step}

@@ -1,246 +1,129 @@
 //! An event with bytes of its own, for an entry and for a receipt.
-ghost use Rattle.std.specs.Prelude.{◌≡◌, ◌<◌, ℕ, List, length, true, IfOk, OnErr, Some};
+ghost use Rattle.std.specs.Prelude.{◌≡◌, true, false, IfNone, IfOk, IfSome, OnErr};
 ghost use Rattle.hp_model.specs.beside.Copying.{has_bytes};
-ghost use Rattle.hp_model.specs.declared.event.SlotEvent.TheVariants.{Mount as Mounting, Remount as Remounting};
-ghost use Rattle.hp_events.specs.Event.{as_event};
-ghost use Rattle.hp_events.specs.Copies.{AreCopies, AreEvents, bytes_of_event};
-ghost use Rattle.hp_events.specs.Kinds.{is_of_file, is_of_indices, makes_map};
+ghost use Rattle.hp_events.specs.Copies.{AreCopiesFor, bytes_of_event};
 
-use crate::event::MountEvent;
+use crate::event::LentEvent;
 use hp_model::bytes::Bytes;
 use hp_model::event::SlotEvent;
 use std::alloc::{AllocError, Global};
 
+// The event of one of these variants, with bytes in the field that is named first.
+macro_rules! carrying {
+    ($event:ident, $bytes:ident; $($name:ident { $own:ident; $($field:ident),* }),*) => {
+        match *$event {
+            $(SlotEvent::$name { $($field,)* .. } => {
+                SlotEvent::$name { $own: $bytes, $($field),* }
+            })*
+            _ => unreachable!(),
+        }
+    };
+}
+
+// The event of one of these variants, which carry nothing.
+macro_rules! plain {
+    ($event:ident; $($name:ident { $($field:ident),* }),*) => {
+        match *$event {
+            $(SlotEvent::$name { $($field),* } => SlotEvent::$name { $($field),* },)*
+            _ => unreachable!(),
+        }
+    };
+}
+
 /// The same bytes twice.
 pub type Copies = (Bytes, Bytes);
 
-// The name or the bytes that an event has.
-fn carried<'x>(event: &MountEvent<'x>) -> &'x [u8]
-    ensures { result.now ≡ bytes_of_event (as_event 0 event.now) }
+// The options, the name or the bytes that an event has, if any.
+fn carried<'x>(event: &LentEvent<'x>) -> Option<&'x [u8]>
+    ensures some { IfSome result (λ bytes. bytes.now ≡ bytes_of_event event.now) }
+    ensures has { IfSome result (λ bytes. has_bytes event.now ≡ true) }
+    ensures none { IfNone result (has_bytes event.now ≡ false) }
 {
     match event {
-        MountEvent::Create { name }
-        | MountEvent::Unlink { name }
-        | MountEvent::Truncate { name, .. }
-        | MountEvent::Punch { name, .. }
-        | MountEvent::Preallocate { name, .. }
-        | MountEvent::Stat { name }
-        | MountEvent::Read { name, .. }
-        | MountEvent::Map { name, .. } => name,
-        MountEvent::Store { bytes, .. } => bytes,
-        MountEvent::Anon { .. }
-        | MountEvent::Unmap { .. }
-        | MountEvent::Fault { .. }
-        | MountEvent::Load { .. }
-        | MountEvent::Ls
-        | MountEvent::Df => &[],
+        SlotEvent::Mount { options } | SlotEvent::Remount { options } => Some(options.as_slice()),
+        SlotEvent::Create { name }
+        | SlotEvent::Unlink { name }
+        | SlotEvent::Truncate { name, .. }
+        | SlotEvent::Punch { name, .. }
+        | SlotEvent::Preallocate { name, .. }
+        | SlotEvent::Stat { name }
+        | SlotEvent::Read { name, .. }
+        | SlotEvent::Map { name, .. } => Some(name.as_slice()),
+        SlotEvent::Store { bytes, .. } => Some(bytes.as_slice()),
+        SlotEvent::Umount
+        | SlotEvent::Anon { .. }
+        | SlotEvent::Unmap { .. }
+        | SlotEvent::Fault { .. }
+        | SlotEvent::Load { .. }
+        | SlotEvent::Ls
+        | SlotEvent::Df
+        | SlotEvent::ForkMaps { .. }
+        | SlotEvent::ExitMaps { .. } => None,
     }
 }
 
-/// Two copies of bytes.
-pub fn twice(alloc: Global, bytes: &[u8]) -> Result<Copies, AllocError>
-    ensures copies { IfOk result (λ both. AreCopies bytes.now (Some both)) }
-    ensures memory { OnErr result (64 < length bytes.now) }
+/// Two copies of what an event carries, for an entry and a receipt. Memory is asked for where that is anything.
+pub fn copies(alloc: Global, event: &LentEvent<'_>) -> Result<Option<Copies>, AllocError>
+    ensures copies { IfOk result (λ copies. AreCopiesFor event.now copies) }
+    ensures memory { OnErr result (has_bytes event.now ≡ true) }
 {
+    let Some(bytes) = carried(event) else {
+        return Ok(None);
+    };
     let one = Bytes::copied(alloc, bytes)?;
     let two = Bytes::copied(alloc, bytes)?;
-    Ok((one, two))
+    Ok(Some((one, two)))
 }
 
-/// Two copies of what an event carries. Memory is asked for where that is anything.
-pub fn copies(alloc: Global, event: &MountEvent<'_>) -> Result<Copies, AllocError>
-    ensures copies { IfOk result
-        (λ both. AreCopies (bytes_of_event (as_event 0 event.now)) (Some both)) }
-    ensures memory { OnErr result (has_bytes (as_event 0 event.now) ≡ true) }
+/// The event twice, with these copies of what it carries.
+pub fn events(event: &LentEvent<'_>, copies: Option<Copies>) -> (SlotEvent<Bytes>, SlotEvent<Bytes>)
+    requires { AreCopiesFor event.now copies }
+    ensures one { result.0 ≡ event.now }
+    ensures two { result.1 ≡ event.now }
 {
-    twice(alloc, carried(event))
-}
-
-/// The event twice, with these copies.
-pub fn events(
-    event: &MountEvent<'_>,
-    home: u64,
-    copies: Option<Copies>,
-) -> Option<(SlotEvent, SlotEvent)>
-    requires { AreCopies (bytes_of_event (as_event 0 event.now)) copies }
-    ensures { AreEvents (as_event home event.now) result }
-{
-    let (one, two) = copies?;
-    Some((owned(event, home, one), owned(event, home, two)))
-}
-
-/// A mount's event twice, with copies of its options.
-pub fn mountings(copies: Option<Copies>) -> Option<(SlotEvent, SlotEvent)>
-    ensures { (options : List ℕ) → AreCopies options copies → AreEvents (Mounting options) result }
-{
-    let (one, two) = copies?;
-    Some((
-        SlotEvent::Mount { options: one },
-        SlotEvent::Mount { options: two },
-    ))
-}
-
-/// A remount's event twice, with copies of its options.
-pub fn remountings(copies: Option<Copies>) -> Option<(SlotEvent, SlotEvent)>
-    ensures { (options : List ℕ) → AreCopies options copies
-        → AreEvents (Remounting options) result }
-{
-    let (one, two) = copies?;
-    Some((
-        SlotEvent::Remount { options: one },
-        SlotEvent::Remount { options: two },
-    ))
-}
-
-// The event of a task with that home, with this name or these bytes.
-fn owned(event: &MountEvent<'_>, home: u64, bytes: Bytes) -> SlotEvent
-    requires { bytes ≡ bytes_of_event (as_event 0 event.now) }
-    ensures { result ≡ as_event home event.now }
-{
-    match *event {
-        MountEvent::Load {
-            task,
-            map,
-            index,
-            offset,
-            count,
-        } => SlotEvent::Load {
-            task,
-            home,
-            map,
-            index,
-            offset,
-            count,
-        },
-        MountEvent::Store {
-            task,
-            map,
-            index,
-            offset,
-            ..
-        } => SlotEvent::Store {
-            task,
-            home,
-            map,
-            index,
-            offset,
-            bytes,
-        },
-        MountEvent::Unmap { .. } | MountEvent::Fault { .. } => owned_indices(event, home),
-        MountEvent::Map { .. } | MountEvent::Anon { .. } => owned_map(event, home, bytes),
-        MountEvent::Ls => SlotEvent::Ls,
-        MountEvent::Df => SlotEvent::Df,
-        _ => owned_of_file(event, bytes),
+    match copies {
+        Some((one, two)) => (with_bytes(event, one), with_bytes(event, two)),
+        None => (bare(event), bare(event)),
     }
 }
 
-// The same of an event that names a file and makes no map. Out of line, so that loads and stores pass little code.
-#[inline(never)]
-fn owned_of_file(event: &MountEvent<'_>, bytes: Bytes) -> SlotEvent
-    requires of_kind { is_of_file event.now ≡ true }
-    requires bytes { bytes ≡ bytes_of_event (as_event 0 event.now) }
-    ensures { (home : ℕ) → result ≡ as_event home event.now }
+// The event with these bytes.
+fn with_bytes(event: &LentEvent<'_>, bytes: Bytes) -> SlotEvent<Bytes>
+    requires has { has_bytes event.now ≡ true }
+    requires bytes { bytes ≡ bytes_of_event event.now }
+    ensures { result ≡ event.now }
 {
-    match *event {
-        MountEvent::Create { .. } => SlotEvent::Create { name: bytes },
-        MountEvent::Unlink { .. } => SlotEvent::Unlink { name: bytes },
-        MountEvent::Truncate { pages, .. } => SlotEvent::Truncate { name: bytes, pages },
-        MountEvent::Punch { from, to, .. } => SlotEvent::Punch {
-            name: bytes,
-            from,
-            to,
-        },
-        MountEvent::Preallocate { from, to, .. } => SlotEvent::Preallocate {
-            name: bytes,
-            from,
-            to,
-        },
-        MountEvent::Stat { .. } => SlotEvent::Stat { name: bytes },
-        MountEvent::Read {
-            index,
-            offset,
-            count,
-            ..
-        } => SlotEvent::Read {
-            name: bytes,
-            index,
-            offset,
-            count,
-        },
-        _ => unreachable!(),
-    }
+    carrying!(
+        event, bytes;
+        Mount { options; },
+        Remount { options; },
+        Create { name; },
+        Unlink { name; },
+        Truncate { name; pages },
+        Punch { name; from, to },
+        Preallocate { name; from, to },
+        Stat { name; },
+        Read { name; index, offset, count },
+        Map { name; task, home, from, pages, sharing, reserving },
+        Store { bytes; task, home, map, index, offset }
+    )
 }
 
-// The same of an event that makes a map, out of line too.
-#[inline(never)]
-fn owned_map(event: &MountEvent<'_>, home: u64, bytes: Bytes) -> SlotEvent
-    requires of_kind { makes_map event.now ≡ true }
-    requires bytes { bytes ≡ bytes_of_event (as_event 0 event.now) }
-    ensures { result ≡ as_event home event.now }
+// The event, which carries nothing.
+fn bare(event: &LentEvent<'_>) -> SlotEvent<Bytes>
+    requires { has_bytes event.now ≡ false }
+    ensures { result ≡ event.now }
 {
-    match *event {
-        MountEvent::Map {
-            task,
-            from,
-            pages,
-            sharing,
-            reserving,
-            ..
-        } => SlotEvent::Map {
-            task,
-            home,
-            name: bytes,
-            from,
-            pages,
-            sharing,
-            reserving,
-        },
-        MountEvent::Anon {
-            task,
-            pages,
-            sharing,
-            reserving,
-        } => SlotEvent::Anon {
-            task,
-            home,
-            pages,
-            sharing,
-            reserving,
-        },
-        _ => unreachable!(),
-    }
-}
-
-// The same of an event that takes indices from a map, or asks for a page at one, out of line too.
-#[inline(never)]
-fn owned_indices(event: &MountEvent<'_>, home: u64) -> SlotEvent
-    requires { is_of_indices event.now ≡ true }
-    ensures { result ≡ as_event home event.now }
-{
-    match *event {
-        MountEvent::Unmap {
-            task,
-            map,
-            from,
-            to,
-        } => SlotEvent::Unmap {
-            task,
-            map,
-            from,
-            to,
-        },
-        MountEvent::Fault {
-            task,
-            map,
-            index,
-            intent,
-        } => SlotEvent::Fault {
-            task,
-            home,
-            map,
-            index,
-            intent,
-        },
-        _ => unreachable!(),
-    }
+    plain!(
+        event;
+        Umount {},
+        Ls {},
+        Df {},
+        Anon { task, home, pages, sharing, reserving },
+        Unmap { task, map, from, to },
+        Fault { task, home, map, index, intent },
+        Load { task, home, map, index, offset, count },
+        ForkMaps { parent, child },
+        ExitMaps { task }
+    )
 }

@@ -5,13 +5,11 @@ mod answers;
 pub mod copies;
 mod event;
 mod parts;
-mod slot_work;
 mod table_told;
 mod work;
 
 pub use answers::{into_bytes, into_done};
-pub use event::MountEvent;
+pub use event::{LentEvent, is_exit, is_of_mount, set_home};
 pub use parts::Parts;
-pub use slot_work::SlotWork;
 pub use table_told::TableTold;
 pub use work::{Work, most_receipts, work_of};

@@ -13,10 +13,11 @@ ghost use Rattle.hp_model.specs.Profile.{most_bytes, most_page_bytes, most_slots
 ghost use Rattle.hp_events.specs.Answered.{HasPlace, IsHanded};
 ghost use Rattle.hp_events.specs.Queues.{AreFirstHanded};
 ghost use Rattle.hp_events.specs.Replies.{names_reply, table_reply};
-ghost use Rattle.hp_events.specs.SlotWork.{AreCopiesFor, asked_event, is_of_maps, needs_room};
+ghost use Rattle.hp_events.specs.Copies.{AreCopiesFor};
+ghost use Rattle.hp_events.specs.Event.{is_of_maps, shows_bytes};
 
 use crate::copies::Copies;
-use crate::slot_work::SlotWork;
+use crate::event::LentEvent;
 use crate::table_told::TableTold;
 use hp_model::event::{PoolEvent, TableEvent};
 use hp_model::names::Names;
@@ -88,17 +89,17 @@ pub trait Parts: Drop {
     fn slot<'b>(
         &mut self,
         at: usize,
-        work: SlotWork<'_>,
+        event: &LentEvent<'_>,
         copies: Option<Copies>,
         room: &'b mut [u8],
     ) -> Result<Told<'b>, Refusal>
         requires within { at < slots self.old }
         requires place { HasPlace keeps (told self.old) (places self.old) }
-        requires room { needs_room work ≡ true → most_bytes ≤ length room.old }
-        requires apart { lists_names (asked_event work) ≡ false }
-        requires always { is_of_maps work ≡ false }
-        requires copies { keeps ≡ true → AreCopiesFor work copies }
-        ensures handed { IsHanded keeps page (OnSlot at (asked_event work.entry))
+        requires room { shows_bytes event.now ≡ true → most_bytes ≤ length room.old }
+        requires apart { lists_names event.now ≡ false }
+        requires always { is_of_maps event.now ≡ false }
+        requires copies { keeps ≡ true → AreCopiesFor event.now copies }
+        ensures handed { IsHanded keeps page (OnSlot at event.now)
             (told_reply result) (told self.old) (told self.new) }
         ensures limits { IsWithinLimits (told_reply result) }
         ensures slots { slots self.new ≡ slots self.old }

@@ -5,12 +5,13 @@ ghost use Rattle.hp_events.specs.declared.work.Work.TheVariants.{OfTask as OfATa
 ghost use Rattle.hp_events.specs.Kinds.{IsOfTask, names_file, slot_of};
 ghost use Rattle.hp_events.specs.Works.{IsWork, work_receipts};
 
-use crate::event::MountEvent;
-use hp_model::event::PoolEvent;
+use crate::event::LentEvent;
+use hp_model::event::{PoolEvent, SlotEvent};
+use hp_model::lent::Lent;
 use hp_model::step::Step;
 
 /// A step, by the part that it asks. Names, options and bytes are the step's own.
-#[derive(Clone, Copy, Drop)]
+#[derive(Drop)]
 pub enum Work<'x> {
     /// Adds a task whose home is a node.
     Connect {
@@ -32,34 +33,20 @@ pub enum Work<'x> {
     Exit {
         task: u64,
     },
-    /// Opens a slot with options.
-    Mount {
-        slot: u64,
-        options: &'x [u8],
-    },
-    /// Sets a mount's limits by options.
-    Remount {
-        slot: u64,
-        options: &'x [u8],
-    },
-    /// Closes a slot without maps, with its files.
-    Umount {
-        slot: u64,
-    },
     /// The names of a slot's files.
     Ls {
         slot: u64,
     },
-    /// An event of a mount.
+    /// An event of a slot, but for the list of its names.
     OnSlot {
         slot: u64,
-        event: MountEvent<'x>,
+        event: LentEvent<'x>,
     },
-    /// An event of a mount, for a task that is looked up first.
+    /// An event of a slot's mount, for a task that is looked up first, and whose home it is given then.
     OfTask {
         task: u64,
         slot: u64,
-        event: MountEvent<'x>,
+        event: LentEvent<'x>,
     },
 }
 
@@ -73,17 +60,17 @@ pub fn work_of<'x>(step: &Step<'x>) -> Work<'x>
         Step::Attach { task } => Work::Attach { task },
         Step::Fork { parent, child } => Work::Fork { parent, child },
         Step::Exit { task } => Work::Exit { task },
-        Step::Mount { slot, ref options } => Work::Mount {
-            slot,
-            options: options.as_slice(),
-        },
-        Step::Remount { slot, ref options } => Work::Remount {
-            slot,
-            options: options.as_slice(),
-        },
-        Step::Umount { slot } => Work::Umount { slot },
+        Step::Mount { slot, ref options } => {
+            let options = Lent::new(options.as_slice());
+            on_slot(slot, SlotEvent::Mount { options })
+        }
+        Step::Remount { slot, ref options } => {
+            let options = Lent::new(options.as_slice());
+            on_slot(slot, SlotEvent::Remount { options })
+        }
+        Step::Umount { slot } => on_slot(slot, SlotEvent::Umount),
         Step::Ls { slot } => Work::Ls { slot },
-        Step::Df { slot } => on_slot(slot, MountEvent::Df),
+        Step::Df { slot } => on_slot(slot, SlotEvent::Df),
         Step::Create { slot, .. }
         | Step::Unlink { slot, .. }
         | Step::Truncate { slot, .. }
@@ -105,14 +92,14 @@ pub fn work_of<'x>(step: &Step<'x>) -> Work<'x>
 }
 
 #[inline(always)]
-fn on_slot(slot: u64, event: MountEvent<'_>) -> Work<'_>
+fn on_slot(slot: u64, event: LentEvent<'_>) -> Work<'_>
     ensures { result ≡ OnASlot slot event.entry }
 {
     Work::OnSlot { slot, event }
 }
 
 #[inline(always)]
-fn of_task(task: u64, slot: u64, event: MountEvent<'_>) -> Work<'_>
+fn of_task(task: u64, slot: u64, event: LentEvent<'_>) -> Work<'_>
     ensures { result ≡ OfATask task slot event.entry }
 {
     Work::OfTask { task, slot, event }
@@ -120,28 +107,28 @@ fn of_task(task: u64, slot: u64, event: MountEvent<'_>) -> Work<'_>
 
 // What a step asks of a file that it names.
 #[inline(always)]
-fn file_event<'x>(step: &Step<'x>) -> MountEvent<'x>
+fn file_event<'x>(step: &Step<'x>) -> LentEvent<'x>
     requires { names_file step.now ≡ true }
     ensures { IsWork step.now (OnASlot (slot_of step.now) result) }
 {
     match step {
-        Step::Create { name, .. } => MountEvent::Create {
-            name: name.as_slice(),
+        Step::Create { name, .. } => SlotEvent::Create {
+            name: Lent::new(name.as_slice()),
         },
-        Step::Unlink { name, .. } => MountEvent::Unlink {
-            name: name.as_slice(),
+        Step::Unlink { name, .. } => SlotEvent::Unlink {
+            name: Lent::new(name.as_slice()),
         },
-        Step::Truncate { name, pages, .. } => MountEvent::Truncate {
-            name: name.as_slice(),
+        Step::Truncate { name, pages, .. } => SlotEvent::Truncate {
+            name: Lent::new(name.as_slice()),
             pages: *pages,
         },
-        Step::Punch { name, from, to, .. } => MountEvent::Punch {
-            name: name.as_slice(),
+        Step::Punch { name, from, to, .. } => SlotEvent::Punch {
+            name: Lent::new(name.as_slice()),
             from: *from,
             to: *to,
         },
-        Step::Preallocate { name, from, to, .. } => MountEvent::Preallocate {
-            name: name.as_slice(),
+        Step::Preallocate { name, from, to, .. } => SlotEvent::Preallocate {
+            name: Lent::new(name.as_slice()),
             from: *from,
             to: *to,
         },
@@ -151,14 +138,14 @@ fn file_event<'x>(step: &Step<'x>) -> MountEvent<'x>
             offset,
             count,
             ..
-        } => MountEvent::Read {
-            name: name.as_slice(),
+        } => SlotEvent::Read {
+            name: Lent::new(name.as_slice()),
             index: *index,
             offset: *offset,
             count: *count,
         },
-        Step::Stat { name, .. } => MountEvent::Stat {
-            name: name.as_slice(),
+        Step::Stat { name, .. } => SlotEvent::Stat {
+            name: Lent::new(name.as_slice()),
         },
         _ => unreachable!(),
     }
@@ -166,7 +153,7 @@ fn file_event<'x>(step: &Step<'x>) -> MountEvent<'x>
 
 // What a task's step asks for that makes a map, or acts on one.
 #[inline(always)]
-fn task_event<'x>(task: u64, step: &Step<'x>) -> MountEvent<'x>
+fn task_event<'x>(task: u64, step: &Step<'x>) -> LentEvent<'x>
     requires { IsOfTask task step.now }
     ensures { IsWork step.now (OfATask task (slot_of step.now) result) }
 {
@@ -178,9 +165,10 @@ fn task_event<'x>(task: u64, step: &Step<'x>) -> MountEvent<'x>
             sharing,
             reserving,
             ..
-        } => MountEvent::Map {
+        } => SlotEvent::Map {
             task,
-            name: name.as_slice(),
+            home: 0,
+            name: Lent::new(name.as_slice()),
             from,
             pages,
             sharing,
@@ -191,13 +179,14 @@ fn task_event<'x>(task: u64, step: &Step<'x>) -> MountEvent<'x>
             sharing,
             reserving,
             ..
-        } => MountEvent::Anon {
+        } => SlotEvent::Anon {
             task,
+            home: 0,
             pages,
             sharing,
             reserving,
         },
-        Step::Unmap { map, from, to, .. } => MountEvent::Unmap {
+        Step::Unmap { map, from, to, .. } => SlotEvent::Unmap {
             task,
             map,
             from,
@@ -208,8 +197,9 @@ fn task_event<'x>(task: u64, step: &Step<'x>) -> MountEvent<'x>
             index,
             intent,
             ..
-        } => MountEvent::Fault {
+        } => SlotEvent::Fault {
             task,
+            home: 0,
             map,
             index,
             intent,
@@ -220,8 +210,9 @@ fn task_event<'x>(task: u64, step: &Step<'x>) -> MountEvent<'x>
             offset,
             count,
             ..
-        } => MountEvent::Load {
+        } => SlotEvent::Load {
             task,
+            home: 0,
             map,
             index,
             offset,
@@ -233,12 +224,13 @@ fn task_event<'x>(task: u64, step: &Step<'x>) -> MountEvent<'x>
             offset,
             ref bytes,
             ..
-        } => MountEvent::Store {
+        } => SlotEvent::Store {
             task,
+            home: 0,
             map,
             index,
             offset,
-            bytes: bytes.as_slice(),
+            bytes: Lent::new(bytes.as_slice()),
         },
         _ => unreachable!(),
     }
@@ -256,9 +248,6 @@ pub fn most_receipts(slots: usize, work: &Work<'_>) -> usize
         Work::Connect { .. }
         | Work::Attach { .. }
         | Work::Pool(_)
-        | Work::Mount { .. }
-        | Work::Remount { .. }
-        | Work::Umount { .. }
         | Work::Ls { .. }
         | Work::OnSlot { .. } => 1,
     }

@@ -96,11 +96,15 @@ impl FileList {
         self.order[at].tag()
     }
 
-    /// Whether the file with the tag stands at a place. The file itself is not looked at.
-    pub fn is_tagged(&self, at: usize, tag: u64) -> bool {
+    /// The file at a place, if it has the tag. One with another tag is not looked at.
+    pub fn tagged_at(&self, at: usize, tag: u64) -> Option<&File>
+        ensures within { IfSome result (λ file. at < length self.now.files) }
+        ensures value { IfSome result (λ file. file.now
+            ≡ slice_index_or self.now.files at file.now) }
+    {
         match self.order.get(at) {
-            Some(spot) => spot.tag() == tag,
-            None => false,
+            Some(spot) if spot.tag() == tag => Some(&self.files[spot.number() as usize]),
+            _ => None,
         }
     }
 

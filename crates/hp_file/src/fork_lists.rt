@@ -34,7 +34,7 @@ fn hinted_at(task: u64, number: u64, files: &FileList, hints: &Hints) -> usize {
     };
     let tag = hint.get();
     let at = tag.place().file;
-    if files.is_tagged(at, tag.file()) {
+    if files.tagged_at(at, tag.file()).is_some() {
         return at;
     }
     files.tagged_near(at, tag.file())

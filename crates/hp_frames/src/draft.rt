@@ -1,7 +1,6 @@
 //! A frame that was taken and may not be written yet.
 ghost use Rattle.std.specs.Prelude.{◌≡◌, ◌≤◌};
 ghost use Rattle.hp_frames.specs.Drafts.{made};
-ghost use Rattle.hp_model.specs.files.Page.{zeros};
 
 use crate::frame::Frame;
 use linked_list_allocator::Block;
@@ -42,22 +41,6 @@ impl Fresh {
             page_bytes,
         }
     }
-
-    fn into_frame(self) -> Frame
-        ensures { result ≡ record {
-          node = self.node;
-          memory = self.memory;
-          bytes = zeros self.page_bytes;
-        } }
-    {
-        let Fresh {
-            block,
-            number,
-            node,
-            page_bytes,
-        } = self;
-        Frame::new(block, number, node, page_bytes)
-    }
 }
 
 /// What was taken from a stock: a frame with what its last holder left in it, or one that is still to be filled with zeros.
@@ -73,7 +56,15 @@ impl Draft {
     {
         match self {
             Draft::Used(frame) => frame,
-            Draft::Fresh(fresh) => fresh.into_frame(),
+            Draft::Fresh(fresh) => {
+                let Fresh {
+                    block,
+                    number,
+                    node,
+                    page_bytes,
+                } = fresh;
+                Frame::new(block, number, node, page_bytes)
+            }
         }
     }
 }

@@ -16,7 +16,7 @@ pub use Rattle.hp_model.specs.declared.entry.TableEntry.{TableEntry}
 pub use Rattle.hp_model.specs.declared.event.Event.{Event}
 pub use Rattle.hp_model.specs.declared.event.Event.TheVariants.{Pool, Slot, Tasks}
 pub use Rattle.hp_model.specs.declared.event.PoolEvent.{PoolEvent}
-pub use Rattle.hp_model.specs.declared.event.SlotEvent.{SlotEvent}
+pub use Rattle.hp_model.specs.machine.SlotEvent.{SlotEvent}
 pub use Rattle.hp_model.specs.declared.event.SlotEvent.TheVariants.{ExitMaps, ForkMaps}
 pub use Rattle.hp_model.specs.declared.event.TableEvent.{TableEvent}
 pub use Rattle.hp_model.specs.declared.event.TableEvent.TheVariants.{Add, Find, FindAndAdd, Remove}

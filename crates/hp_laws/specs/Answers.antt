@@ -1,6 +1,6 @@
 -- Which events answer lists of names.
 use Rattle.std.specs.Prelude.{◌≡◌, ℕ, Bool, true, false}
-use Rattle.hp_model.specs.declared.event.SlotEvent.{SlotEvent}
+use Rattle.hp_model.specs.machine.SlotEvent.{SlotEvent}
 use Rattle.hp_model.specs.declared.event.SlotEvent.TheVariants.{Ls}
 use Rattle.hp_model.specs.beside.Copying.{has_names}
 use Rattle.hp_model.specs.machine.Plan.{Answered, Choice, Outcome, Refused, Slot}

@@ -1,6 +1,7 @@
 //! What trails keep, and what sessions are told.
 
 use crate::answer::Reply;
+use crate::bytes::Bytes;
 use crate::event::{Event, PoolEvent, SlotEvent, TableEvent};
 use crate::section::{PoolAnswer, Section};
 
@@ -22,7 +23,7 @@ pub struct Asked {
 /// An event of a slot with its reply, and its section where it entered one.
 #[derive(Drop, PartialEq, Eq)]
 pub struct SlotEntry {
-    pub event: SlotEvent,
+    pub event: SlotEvent<Bytes>,
     pub reply: Reply,
     pub asked: Option<Asked>,
 }

@@ -16,47 +16,48 @@ pub enum TableEvent {
     Remove { task: u64 },
 }
 
-/// An event of one slot. What a task does carries the task's number and home.
+/// An event of one slot, over what has its names, options and bytes: `Bytes` in a trail, `Lent` where it is asked for. What a
+/// task does carries the task's number and home.
 #[derive(Drop, PartialEq, Eq)]
-pub enum SlotEvent {
+pub enum SlotEvent<B> {
     /// The slot's part of `Step::Mount`.
     Mount {
-        options: Bytes,
+        options: B,
     },
     /// The slot's part of `Step::Remount`.
     Remount {
-        options: Bytes,
+        options: B,
     },
     /// The slot's part of `Step::Umount`.
     Umount,
     /// The slot's part of `Step::Create`.
     Create {
-        name: Bytes,
+        name: B,
     },
     /// The slot's part of `Step::Unlink`.
     Unlink {
-        name: Bytes,
+        name: B,
     },
     /// The slot's part of `Step::Truncate`.
     Truncate {
-        name: Bytes,
+        name: B,
         pages: u64,
     },
     /// The slot's part of `Step::Punch`.
     Punch {
-        name: Bytes,
+        name: B,
         from: u64,
         to: u64,
     },
     /// The slot's part of `Step::Preallocate`.
     Preallocate {
-        name: Bytes,
+        name: B,
         from: u64,
         to: u64,
     },
     /// The slot's part of `Step::Read`.
     Read {
-        name: Bytes,
+        name: B,
         index: u64,
         offset: u64,
         count: u64,
@@ -65,7 +66,7 @@ pub enum SlotEvent {
     Ls,
     /// The slot's part of `Step::Stat`.
     Stat {
-        name: Bytes,
+        name: B,
     },
     /// The slot's part of `Step::Df`.
     Df,
@@ -73,7 +74,7 @@ pub enum SlotEvent {
     Map {
         task: u64,
         home: u64,
-        name: Bytes,
+        name: B,
         from: u64,
         pages: u64,
         sharing: Sharing,
@@ -118,7 +119,7 @@ pub enum SlotEvent {
         map: u64,
         index: u64,
         offset: u64,
-        bytes: Bytes,
+        bytes: B,
     },
     /// Copies the maps of a task for its child.
     ForkMaps {
@@ -150,7 +151,7 @@ pub enum Event {
     /// Of the task table.
     Tasks(TableEvent),
     /// Of the slot of this number.
-    Slot { slot: u64, event: SlotEvent },
+    Slot { slot: u64, event: SlotEvent<Bytes> },
     /// Of the pool.
     Pool(PoolEvent),
 }

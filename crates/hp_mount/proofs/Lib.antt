@@ -3,4 +3,5 @@ mod Copying
 mod Filling
 mod Here
 pub mod Loading
+mod Refusing
 mod Storing

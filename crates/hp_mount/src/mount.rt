@@ -11,7 +11,7 @@ ghost use Rattle.hp_model.specs.text.Writing.{IsSmallLimit, IsWithinLimits};
 ghost use Rattle.hp_model.specs.Profile.{most_bytes};
 ghost use Rattle.hp_mount_laws.specs.Alone.{IsDoneAlone};
 ghost use Rattle.hp_mount_laws.specs.Done.{IsDone};
-ghost use Rattle.hp_events.specs.Event.{as_event, is_usage, shows_bytes};
+ghost use Rattle.hp_events.specs.Event.{is_of_mount, is_usage, shows_bytes};
 ghost use Rattle.hp_mount_laws.specs.Kept.{mount_from};
 ghost use Rattle.hp_events.specs.Memory.{asks_memory};
 
@@ -27,7 +27,8 @@ mod private;
 mod reach;
 mod remounting;
 
-use hp_events::MountEvent;
+use hp_events::LentEvent;
+use hp_model::event::SlotEvent;
 use hp_model::naming::Naming;
 use hp_model::refusal::Refusal;
 use hp_model::told::Told;
@@ -101,7 +102,7 @@ impl<N: Naming> Mount<N> {
         }
     }
 
-    /// What a step asks of the mount, for a task with that home node. It is done in one section of the pool at most.
+    /// What a step asks of the mount. It is done in one section of the pool at most.
     ///
     /// Refused as the definitions say, and then nothing changes; as TraceFull where the door has no room to note a section.
     /// An access asks for no memory where its index is reserved to its map, or where it makes neither a page nor a copy.
@@ -111,40 +112,47 @@ impl<N: Naming> Mount<N> {
         &mut self,
         door: &mut D,
         page_bytes: u64,
-        home: u64,
-        event: &MountEvent<'_>,
+        event: &LentEvent<'_>,
         room: &'a mut [u8],
     ) -> Result<Told<'a>, Refusal>
         requires ready { D.is_ready door.old }
         requires page_bytes { page_bytes ≡ N.page_bytes }
+        requires of_mount { is_of_mount event.now ≡ true }
         requires room { shows_bytes event.now ≡ true → most_bytes ≤ length room.old }
         ensures done { (k : ℕ) → IsDone D.took D.is_full N.page_bytes k (Some self.old) door.old
-            (as_event home event.now) (told_reply result) (Some self.new) door.new }
+            event.now (told_reply result) (Some self.new) door.new }
         ensures left { D.is_left door.new }
-        ensures memory { asks_memory (Some self.old) (as_event home event.now) ≡ false
+        ensures memory { asks_memory (Some self.old) event.now ≡ false
             → told_reply result ≢ Err Refusal.OutOfMemory }
-        ensures limits { is_usage (as_event home event.now) ≡ true
-            → IsWithinLimits (told_reply result) }
+        ensures limits { is_usage event.now ≡ true → IsWithinLimits (told_reply result) }
     {
-        match *event {
-            MountEvent::Create { name } => Told::done(self.create(name)),
-            MountEvent::Ls => self.ls(),
-            MountEvent::Df => Ok(self.usage()),
-            MountEvent::Unlink { name } => Told::done(self.unlink(door, name)),
-            MountEvent::Truncate { name, pages } => Told::done(self.truncate(door, name, pages)),
-            MountEvent::Punch { name, from, to } => { Told::done(self.punch(door, name, from..to)) }
-            MountEvent::Preallocate { name, from, to } => {
-                Told::done(self.preallocate(door, name, from, to))
+        match event {
+            SlotEvent::Create { name } => Told::done(self.create(name.as_slice())),
+            SlotEvent::Ls => self.ls(),
+            SlotEvent::Df => Ok(self.usage()),
+            SlotEvent::Unlink { name } => Told::done(self.unlink(door, name.as_slice())),
+            SlotEvent::Truncate { name, pages } => {
+                Told::done(self.truncate(door, name.as_slice(), *pages))
             }
-            MountEvent::Stat { name } => self.stat(name),
-            MountEvent::Read {
+            SlotEvent::Punch { name, from, to } => {
+                Told::done(self.punch(door, name.as_slice(), *from..*to))
+            }
+            SlotEvent::Preallocate { name, from, to } => {
+                Told::done(self.preallocate(door, name.as_slice(), *from, *to))
+            }
+            SlotEvent::Stat { name } => self.stat(name.as_slice()),
+            SlotEvent::Read {
                 name,
                 index,
                 offset,
                 count,
-            } => Told::bytes(self.read(page_bytes, name, index, offset, count, room)),
-            MountEvent::Map {
+            } => {
+                let name = name.as_slice();
+                Told::bytes(self.read(page_bytes, name, *index, *offset, *count, room))
+            }
+            SlotEvent::Map {
                 task,
+                home,
                 name,
                 from,
                 pages,
@@ -152,55 +160,73 @@ impl<N: Naming> Mount<N> {
                 reserving,
             } => {
                 let range = MapRange {
-                    task,
-                    start: from,
-                    pages,
-                    sharing,
-                    reserving,
+                    task: *task,
+                    start: *from,
+                    pages: *pages,
+                    sharing: *sharing,
+                    reserving: *reserving,
                 };
-                Told::map_no(self.map(door, home, name, &range))
+                Told::map_no(self.map(door, *home, name.as_slice(), &range))
             }
-            MountEvent::Anon {
+            SlotEvent::Anon {
                 task,
+                home,
                 pages,
                 sharing,
                 reserving,
-            } => Told::map_no(self.anon(door, home, task, pages, sharing, reserving)),
-            MountEvent::Unmap {
+            } => Told::map_no(self.anon(door, *home, *task, *pages, *sharing, *reserving)),
+            SlotEvent::Unmap {
                 task,
                 map,
                 from,
                 to,
-            } => Told::done(self.unmap(door, task, map, from..to)),
-            MountEvent::Fault {
+            } => Told::done(self.unmap(door, *task, *map, *from..*to)),
+            SlotEvent::Fault {
                 task,
+                home,
                 map,
                 index,
                 intent,
             } => {
-                let access = MapAccess { task, map, index };
-                Told::done(self.fault(door, home, &access, intent))
+                let access = MapAccess {
+                    task: *task,
+                    map: *map,
+                    index: *index,
+                };
+                Told::done(self.fault(door, *home, &access, *intent))
             }
-            MountEvent::Load {
+            SlotEvent::Load {
                 task,
+                home,
                 map,
                 index,
                 offset,
                 count,
             } => {
-                let access = MapAccess { task, map, index };
-                Told::bytes(self.load(door, page_bytes, home, &access, offset, count, room))
+                let access = MapAccess {
+                    task: *task,
+                    map: *map,
+                    index: *index,
+                };
+                Told::bytes(self.load(door, page_bytes, *home, &access, *offset, *count, room))
             }
-            MountEvent::Store {
+            SlotEvent::Store {
                 task,
+                home,
                 map,
                 index,
                 offset,
                 bytes,
             } => {
-                let access = MapAccess { task, map, index };
-                Told::done(self.store(door, page_bytes, home, &access, offset, bytes))
+                let access = MapAccess {
+                    task: *task,
+                    map: *map,
+                    index: *index,
+                };
+                let bytes = bytes.as_slice();
+                Told::done(self.store(door, page_bytes, *home, &access, *offset, bytes))
             }
+            _ => unreachable!(),
         }
     }
 

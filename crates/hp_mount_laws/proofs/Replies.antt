@@ -1,18 +1,16 @@
 use Rattle.std.proofs.lemmas.Grind.{common_steps}
 -- Short replies, as those that they stand for.
 use Rattle.std.proofs.Common.{◌≡◌, ℕ, List, Ok, Err, ap, arith, Result}
-use Rattle.hp_laws.proofs.Variants.{PoolAnswer, Refusal, Section}
+use Rattle.hp_laws.proofs.Variants.{PoolAnswer, Refusal, Section, SlotEvent}
 use Rattle.hp_model.specs.declared.refusal.Refusal.TheVariants as r
 use Rattle.hp_model.proofs.Words.{Reply, Slot, bytes_reply, done_reply}
-use Rattle.hp_events.specs.declared.event.MountEvent.{MountEvent}
 use Rattle.hp_mount_laws.specs.Done.{IsDone}
-use Rattle.hp_events.specs.Event.{as_event}
 use denote.Ref.{Bor}
 
 -- an event with its reply, by other words for both
-pub told_as : {X : Type 0} (took : X → Section → PoolAnswer → X → Type 0) (full : X → Type 0) (size k home : ℕ) (old new : Slot) (door left : X) {e f : MountEvent} {a b : Reply} → e ≡ f → a ≡ b
-    → IsDone took full size k old door (as_event home f) b new left → IsDone took full size k old door (as_event home e) a new left
-told_as took full size k home old new door left {e} {f} {a} {b} event reply h = grind (arith, common_steps)
+pub told_as : {X : Type 0} (took : X → Section → PoolAnswer → X → Type 0) (full : X → Type 0) (size k : ℕ) (old new : Slot) (door left : X) {e f : SlotEvent} {a b : Reply} → e ≡ f → a ≡ b
+    → IsDone took full size k old door f b new left → IsDone took full size k old door e a new left
+told_as took full size k old new door left {e} {f} {a} {b} event reply h = grind (arith, common_steps)
 
 refusal_is : {A B : Type 0} {e x : Refusal} → ◌≡◌ {A = Result A Refusal} (Err e) (Err x) → ◌≡◌ {A = Result B Refusal} (Err e) (Err x)
 refusal_is {B} {e} {x} h = ap Err err_is

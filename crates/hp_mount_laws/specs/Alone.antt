@@ -1,6 +1,6 @@
 -- An event that asks nothing of the pool.
 use Rattle.std.specs.Prelude.{◌≡◌, ℕ}
-use Rattle.hp_model.specs.declared.event.SlotEvent.{SlotEvent}
+use Rattle.hp_model.specs.machine.SlotEvent.{SlotEvent}
 use Rattle.hp_model.specs.machine.Event.{IsFresh}
 use Rattle.hp_model.specs.threads.LocalRun.{Gives}
 use Rattle.hp_model.specs.machine.Plan.{Choice, Finish, Outcome, Plan, Reply, Slot}

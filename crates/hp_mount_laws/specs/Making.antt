@@ -1,7 +1,7 @@
 -- What making a file or a map asks first.
 use Rattle.std.specs.Prelude.{ℕ, ◌+◌, ◌||◌, ◌==◌, Bool, not, is_some, Option, None, Some, List, [], ◌∷◌, length, nat_le, nat_lt, Ok, Err, Result}
 use Rattle.hp_model.specs.declared.answer.Answer.TheVariants.{MapNo}
-use Rattle.hp_model.specs.declared.event.SlotEvent.{SlotEvent}
+use Rattle.hp_model.specs.machine.SlotEvent.{SlotEvent}
 use Rattle.hp_model.specs.declared.event.SlotEvent.TheVariants.{Map as MapEvent}
 use Rattle.hp_model.specs.declared.refusal.Refusal.{Refusal}
 use Rattle.hp_model.specs.declared.refusal.Refusal.TheVariants.{BadName, FileExists, NoInodes, OutOfRange, TooMany}

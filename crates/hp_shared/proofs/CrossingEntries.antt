@@ -44,7 +44,7 @@ asked_send = search (sendable) depth 40
 table_event_send : IsSend TableEvent.the_row
 table_event_send = search (sendable) depth 40
 
-slot_event_send : IsSend SlotEvent.the_row
+slot_event_send : IsSend (SlotEvent.the_row Bytes.the_row)
 slot_event_send = search (sendable, bytes_send) depth 60 fits 5000
 
 pub pool_entry_send : IsSend PoolEntry.the_row

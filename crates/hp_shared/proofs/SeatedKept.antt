@@ -13,9 +13,8 @@ use Rattle.hp_mount_laws.specs.Done.{MayEnter}
 use Rattle.hp_events.specs.Answered.{Went}
 use Rattle.hp_events.specs.Replies.{is_trace_full}
 use Rattle.hp_shared.specs.Seated.{IsSeatedDone, IsSeatedEvent, IsSeatedSlot, SeatedView, first_of, run_in, session_left, slot_left, slot_receipt, slot_view}
-use Rattle.hp_events.specs.declared.slot_work.SlotWork.{SlotWork}
-use Rattle.hp_events.specs.declared.slot_work.SlotWork.TheVariants as w
-use Rattle.hp_events.specs.SlotWork.{full_for}
+use Rattle.hp_events.specs.Event.{full_for}
+use Rattle.hp_model.specs.declared.event.SlotEvent.TheVariants as slot
 use Rattle.hp_shared.specs.Slots.{IsSlotEvent, IsSlotEventDone, SlotView, slot_start}
 use Rattle.hp_shared.proofs.SlotsKept.{done_in, done_put, full_in, full_put, slot_push}
 use Rattle.hp_shared.proofs.Kept.{kept_more}
@@ -247,10 +246,8 @@ full_as A B f size s t e r asked receipt does = by (is_trace_full r) refl
         done_put (is_trace_full r) (Fulls B size s t e asked receipt) (IsSlotEventDone size s t e r asked receipt) b
         (done_in (is_trace_full r) (Fulls A size s t e asked receipt) (IsSlotEventDone size s t e r asked receipt) b does)
 
-pub work_full_as : (A B : Type 0) → (A → B) → (work : SlotWork) → full_for A work → full_for B work
-work_full_as A B f (w.Mount options) x = f x
-work_full_as A B f (w.Remount options) x = f x
-work_full_as A B f w.Umount x = x
-work_full_as A B f (w.Fork parent child) x = x
-work_full_as A B f (w.Exit task) x = x
-work_full_as A B f (w.OfMount home e) x = f x
+pub work_full_as : (A B : Type 0) → (A → B) → (e : SlotEvent) → full_for A e → full_for B e
+work_full_as A B f slot.Umount full = full
+work_full_as A B f (slot.ForkMaps parent child) full = full
+work_full_as A B f (slot.ExitMaps task) full = full
+work_full_as A B f other full = f full

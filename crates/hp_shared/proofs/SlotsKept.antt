@@ -9,15 +9,10 @@ use Rattle.hp_events.specs.Answered.{Went}
 use Rattle.hp_events.specs.Replies.{is_trace_full}
 use Rattle.hp_shared.specs.Slots.{IsActedOr, IsLockedSlot, IsSlotEvent, IsSlotEventDone, IsSlotTrail, SlotView, slot_start}
 use Rattle.hp_locked.specs.Told.{IsReceipt}
-use Rattle.hp_events.specs.declared.event.MountEvent.{MountEvent}
-use Rattle.hp_events.specs.declared.event.MountEvent.TheVariants as m
 use Rattle.hp_model.specs.declared.refusal.Refusal.TheVariants as r
 use Rattle.hp_mount_laws.specs.Done.{MayEnter}
-use Rattle.hp_events.specs.Event.{as_event}
+use Rattle.hp_events.specs.Event.{has_maps_for, is_exit, is_of_mount}
 use Rattle.hp_shared.proofs.Acting.{always_goes}
-use Rattle.hp_events.specs.declared.slot_work.SlotWork.{SlotWork}
-use Rattle.hp_events.specs.declared.slot_work.SlotWork.TheVariants as w
-use Rattle.hp_events.specs.SlotWork.{asked_event, has_maps_for, is_exit}
 use Rattle.hp_shared.proofs.Places.{has_closing, places_after, room_closing}
 
 pub slot_push : (size k : ℕ) (s : Slot) (es : List SlotEntry) (m : Slot) (e : SlotEntry) (q : Slot) → IsLocalRun size k s es m → IsLocalStep size k m e q → IsLocalRun size k s (es ++ e ∷ []) q
@@ -111,33 +106,16 @@ done_put true A B e t = cc
 done_put false A B e t = t
 
 -- an event of a mount has no place of its own in a trail
-pub mount_has_place : (k home : ℕ) (e : MountEvent) → has_place (OnSlot k (as_event home e)) ≡ false
-mount_has_place k home (m.Create name) = refl
-mount_has_place k home (m.Unlink name) = refl
-mount_has_place k home (m.Truncate name pages) = refl
-mount_has_place k home (m.Punch name start end) = refl
-mount_has_place k home (m.Preallocate name start end) = refl
-mount_has_place k home (m.Stat name) = refl
-mount_has_place k home (m.Read name index offset count) = refl
-mount_has_place k home (m.Map task name start pages sharing reserving) = refl
-mount_has_place k home (m.Anon task pages sharing reserving) = refl
-mount_has_place k home (m.Unmap task map start end) = refl
-mount_has_place k home (m.Fault task map index intent) = refl
-mount_has_place k home (m.Load task map index offset count) = refl
-mount_has_place k home (m.Store task map index offset bytes) = refl
-mount_has_place k home m.Ls = refl
-mount_has_place k home m.Df = refl
+pub mount_has_place : (k : ℕ) (e : SlotEvent) → is_of_mount e ≡ true → has_place (OnSlot k e) ≡ false
+mount_has_place k (ExitMaps task) m = cc
+mount_has_place k other m = refl
 
 may_happen : (s : Slot) (e : SlotEvent) → has_place (OnSlot 0 e) ≡ false → IsTrue (is_slot_event s e)
 may_happen s (ExitMaps task) other = cc
 may_happen s e other = refl
 
-removes_none : (s : Slot) (e : SlotEvent) → has_place (OnSlot 0 e) ≡ false → removes_maps s e ≡ false
-removes_none s (ExitMaps task) other = cc
-removes_none s e other = refl
-
-pub mount_event : (s : Slot) (home : ℕ) (e : MountEvent) → IsTrue (is_slot_event s (as_event home e))
-mount_event s home e = may_happen s (as_event home e) (mount_has_place 0 home e)
+pub mount_event : (s : Slot) (e : SlotEvent) → is_of_mount e ≡ true → IsTrue (is_slot_event s e)
+mount_event s e m = may_happen s e (mount_has_place 0 e m)
 
 -- an entry, where entries are kept, by the section that is told there
 pub entry_asked : (k : Bool) (entries : Option (List SlotEntry)) (e : SlotEvent) (reply : Reply) (a b : Option Asked) → is_some entries ≡ k → (k ≡ true → a ≡ b)
@@ -146,22 +124,14 @@ entry_asked k None e reply a b kept same = refl
 entry_asked k (Some es) e reply a b kept same = ap (λ (t : Option Asked). with_entry (Some es) (record { event = e; reply = reply; asked = t })) (same (sym kept))
 
 -- what is asked where the maps are that it goes by
-pub work_event : (s : Slot) (work : SlotWork) → has_maps_for work s ≡ true → IsTrue (is_slot_event s (asked_event work))
-work_event s (w.Mount options) has = refl
-work_event s (w.Remount options) has = refl
-work_event s w.Umount has = refl
-work_event s (w.Fork parent child) has = refl
-work_event s (w.Exit task) has = has
-work_event s (w.OfMount home e) has = mount_event s home e
+pub work_event : (s : Slot) (e : SlotEvent) → has_maps_for e s ≡ true → IsTrue (is_slot_event s e)
+work_event s (ExitMaps task) has = has
+work_event s other has = refl
 
 -- an exit alone removes a task's maps
-pub work_removes : (s : Slot) (work : SlotWork) → has_maps_for work s ≡ true → removes_maps s (asked_event work) ≡ is_exit work
-work_removes s (w.Mount options) has = refl
-work_removes s (w.Remount options) has = refl
-work_removes s w.Umount has = refl
-work_removes s (w.Fork parent child) has = refl
-work_removes s (w.Exit task) has = has
-work_removes s (w.OfMount home e) has = removes_none s (as_event home e) (mount_has_place 0 home e)
+pub work_removes : (s : Slot) (e : SlotEvent) → has_maps_for e s ≡ true → removes_maps s e ≡ is_exit e
+work_removes s (ExitMaps task) has = has
+work_removes s other has = refl
 
 module _ (full : Type 0) (size k : ℕ) (entries : Option (List SlotEntry)) (left : Option ℕ) (extra : ℕ) (old : Slot) (e : SlotEvent) (reply : Reply)
     (asked : Option Asked) (new : Slot) (acted : IsActedOr full size k old e reply asked new) where

@@ -6,7 +6,7 @@ use Rattle.hp_model.specs.declared.entry.Part.TheVariants.{Slot as AtSlot}
 use Rattle.hp_model.specs.declared.entry.Receipt.{Receipt}
 use Rattle.hp_model.specs.declared.entry.SlotEntry.{SlotEntry}
 use Rattle.hp_model.specs.declared.event.Event.TheVariants.{Slot as OnSlot}
-use Rattle.hp_model.specs.declared.event.SlotEvent.{SlotEvent}
+use Rattle.hp_model.specs.machine.SlotEvent.{SlotEvent}
 use Rattle.hp_model.specs.machine.Machine.{open_mount}
 use Rattle.hp_model.specs.machine.Plan.{Reply, Slot}
 use Rattle.hp_model.specs.machine.SlotEvent.{slot_event}

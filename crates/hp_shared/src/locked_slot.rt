@@ -12,17 +12,17 @@ ghost use Rattle.hp_model.specs.text.Writing.{IsWithinLimits};
 ghost use Rattle.hp_laws.specs.Answers.{lists_names};
 ghost use Rattle.hp_locked.specs.Told.{IsReceipt};
 ghost use Rattle.hp_locked.specs.Views.{IsNewTrail};
-ghost use Rattle.hp_events.specs.Event.{as_event, shows_bytes};
+ghost use Rattle.hp_events.specs.Copies.{AreCopiesFor};
+ghost use Rattle.hp_events.specs.Event.{IsAnother, full_for, has_maps_for, is_exit, is_of_mount, shows_bytes};
 ghost use Rattle.hp_events.specs.Replies.{is_trace_full};
-ghost use Rattle.hp_events.specs.SlotWork.{AreCopiesFor, IsAnother, asked_event, full_for, has_maps_for, is_exit, needs_room};
 ghost use Rattle.hp_shared.specs.Slots.{IsSlotEvent, IsSlotTrail, slot_start};
 ghost use Rattle.hp_trail.specs.Keeping.{has_room, one_less, with_entry};
 
 mod listing;
 
 use crate::told::{copied, is_full};
-use hp_events::copies::Copies;
-use hp_events::{MountEvent, SlotWork};
+use hp_events::copies::{Copies, events};
+use hp_events::{LentEvent, is_exit};
 use hp_locked::SessionDoor;
 use hp_model::entry::{Asked, Part, Receipt, SlotEntry};
 use hp_model::event::Event;
@@ -124,10 +124,10 @@ impl<N: Naming, T: Trail<SlotEntry>> Slot<N, T> {
     }
 
     /// Whether the slot has the maps that this goes by, if it goes by a task's maps.
-    pub fn has_maps_for(&self, work: &SlotWork<'_>) -> bool
-        ensures { result ≡ has_maps_for work.now self.now.mount }
+    pub fn has_maps_for(&self, event: &LentEvent<'_>) -> bool
+        ensures { result ≡ has_maps_for event.now self.now.mount }
     {
-        hp_slot::has_maps_for(&self.mount, work)
+        hp_slot::has_maps_for(&self.mount, event)
     }
 
     /// Does what is asked: its reply, with bytes in the front of the room, and its receipt where entries are kept. For these
@@ -139,47 +139,47 @@ impl<N: Naming, T: Trail<SlotEntry>> Slot<N, T> {
         door: &mut D,
         alloc: Global,
         page_bytes: u64,
-        work: SlotWork<'_>,
+        event: &LentEvent<'_>,
         copies: Option<Copies>,
         room: &'a mut [u8],
     ) -> (Result<Told<'a>, Refusal>, Option<Receipt>)
         requires ready { D.is_ready door.old }
         requires page_bytes { page_bytes ≡ N.page_bytes }
         requires bytes { 0 < page_bytes }
-        requires room { needs_room work ≡ true → most_bytes ≤ length room.old }
-        requires apart { lists_names (asked_event work) ≡ false }
-        requires another { IsAnother work }
-        requires has { has_maps_for work self.old.mount ≡ true }
-        requires copies { T.keeps ≡ true → AreCopiesFor work copies }
+        requires room { shows_bytes event.now ≡ true → most_bytes ≤ length room.old }
+        requires apart { lists_names event.now ≡ false }
+        requires another { IsAnother event.now }
+        requires has { has_maps_for event.now self.old.mount ≡ true }
+        requires copies { T.keeps ≡ true → AreCopiesFor event.now copies }
         requires keeps { T.keeps ≡ true → D.keeps ≡ true }
-        ensures done { IsSlotEvent (full_for (D.is_full door.new) work.entry) N.page_bytes
-            self.old self.new (asked_event work.entry)
+        ensures done { IsSlotEvent (full_for (D.is_full door.new) event.now) N.page_bytes
+            self.old self.new event.now
             (told_reply result.0) (D.asked door.new) result.1 }
         ensures entered { IsEntered D.keeps (D.mine door.old) (D.asked door.new) (D.mine door.new) }
         ensures number { self.new.number ≡ self.old.number }
         ensures keeps { is_trace_full (told_reply result.0) ≡ true
-            → (T.keeps ≡ true) ⊎ full_for (D.is_full door.new) work.entry }
+            → (T.keeps ≡ true) ⊎ full_for (D.is_full door.new) event.now }
         ensures given { is_trace_full (told_reply result.0) ≡ false
             → is_some result.1 ≡ T.keeps }
         ensures limits { IsWithinLimits (told_reply result.0) }
-        ensures exit { is_exit work.entry ≡ true → told_reply result.0 ≡ Ok Done }
+        ensures exit { is_exit event.now ≡ true → told_reply result.0 ≡ Ok Done }
     {
         let Slot {
             number,
             mount,
             trail,
         } = self;
-        if !may_note(trail, &work) {
+        if !may_note(trail, event) {
             return (Err(Refusal::TraceFull), None);
         }
         let mut told = Ok(Told::Done);
         ask(
-            mount, *number, door, alloc, page_bytes, work, room, &mut told,
+            mount, *number, door, alloc, page_bytes, event, room, &mut told,
         );
         if is_full(&told) {
             return (told, None);
         }
-        let receipt = note(trail, *number, &work, copies, door.asked(), &told);
+        let receipt = note(trail, *number, event, copies, door.asked(), &told);
         (told, receipt)
     }
 
@@ -188,19 +188,19 @@ impl<N: Naming, T: Trail<SlotEntry>> Slot<N, T> {
     #[inline(always)]
     pub fn event_unnoted<'a, D: SessionDoor<N>>(
         &mut self,
+        event: &LentEvent<'_>,
         door: &mut D,
         page_bytes: u64,
-        home: u64,
-        event: MountEvent<'_>,
         room: &'a mut [u8],
     ) -> Result<Told<'a>, Refusal>
+        requires unkept { T.keeps ≡ false }
         requires ready { D.is_ready door.old }
         requires page_bytes { page_bytes ≡ N.page_bytes }
-        requires room { shows_bytes event ≡ true → most_bytes ≤ length room.old }
-        requires apart { lists_names (as_event home event) ≡ false }
-        requires unkept { T.keeps ≡ false }
+        requires of_mount { is_of_mount event.now ≡ true }
+        requires apart { lists_names event.now ≡ false }
+        requires room { shows_bytes event.now ≡ true → most_bytes ≤ length room.old }
         ensures done { IsSlotEvent (D.is_full door.new) N.page_bytes self.old self.new
-            (as_event home event.entry)
+            event.now
             (told_reply result) (D.asked door.new) None }
         ensures entered { IsEntered D.keeps (D.mine door.old) (D.asked door.new) (D.mine door.new) }
         ensures number { self.new.number ≡ self.old.number }
@@ -213,45 +213,46 @@ impl<N: Naming, T: Trail<SlotEntry>> Slot<N, T> {
             trail: _,
         } = self;
         let mut reply = Ok(Told::Done);
-        act(mount, door, page_bytes, home, &event, room, &mut reply);
+        act(mount, door, page_bytes, event, room, &mut reply);
         reply
     }
 }
 
 // Whether there is a place for this in the trail: an exit has one of its own.
-fn may_note<T: Trail<SlotEntry>>(trail: &T, work: &SlotWork<'_>) -> bool
-    ensures { result ≡ (is_exit work.now || has_room false (T.left trail.now) (T.extra trail.now)) }
+fn may_note<T: Trail<SlotEntry>>(trail: &T, event: &LentEvent<'_>) -> bool
+    ensures { result
+        ≡ (is_exit event.now || has_room false (T.left trail.now) (T.extra trail.now)) }
 {
-    work.is_exit() || trail.has_room(false)
+    is_exit(event) || trail.has_room(false)
 }
 
 // Notes what was asked with its reply and the section that it entered, where entries are kept, and makes its receipt.
 fn note<T: Trail<SlotEntry>>(
     trail: &mut T,
     slot: u64,
-    work: &SlotWork<'_>,
+    asked_for: &LentEvent<'_>,
     copies: Option<Copies>,
     asked: Option<Asked>,
     told: &Result<Told<'_>, Refusal>,
 ) -> Option<Receipt>
     requires room { has_room true (T.left trail.old) (T.extra trail.old) ≡ true }
-    requires copies { T.keeps ≡ true → AreCopiesFor work.now copies }
+    requires copies { T.keeps ≡ true → AreCopiesFor asked_for.now copies }
     requires small { IsWithinLimits (told_reply told.now) }
     requires plain { reply_has_names (told_reply told.now) ≡ false }
     ensures entries { T.entries trail.new ≡ with_entry (T.entries trail.old)
-        (record { event = asked_event work.now; reply = told_reply told.now; asked = asked }) }
+        (record { event = asked_for.now; reply = told_reply told.now; asked = asked }) }
     ensures left { is_some (T.entries trail.old) ≡ true →
         T.left trail.new ≡ one_less (T.left trail.old) }
     ensures none { T.entries trail.old ≡ None → T.left trail.new ≡ T.left trail.old }
     ensures extra { T.extra trail.new ≡ T.extra trail.old }
     ensures given { is_some result ≡ T.keeps }
     ensures receipt { IsReceipt (T.entries trail.old) (AtSlot slot)
-        (OnSlot slot (asked_event work.now)) (told_reply told.now) result }
+        (OnSlot slot asked_for.now) (told_reply told.now) result }
 {
     if !trail.is_kept() {
         return None;
     }
-    let (event, again) = work.events(copies)?;
+    let (event, again) = events(asked_for, copies);
     let receipt = Receipt {
         part: Part::Slot(slot),
         place: trail.place(),

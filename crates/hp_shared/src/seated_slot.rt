@@ -8,21 +8,21 @@ ghost use Rattle.hp_model.specs.Profile.{most_bytes, most_tasks};
 ghost use Rattle.hp_model.specs.text.Writing.{IsWithinLimits};
 ghost use Rattle.hp_model.specs.threads.LocalRun.{IsLocalRun};
 ghost use Rattle.hp_laws.specs.Answers.{lists_names};
-ghost use Rattle.hp_events.specs.Event.{as_event, shows_bytes};
+ghost use Rattle.hp_events.specs.Copies.{AreCopiesFor};
+ghost use Rattle.hp_events.specs.Event.{IsAnother, full_for, has_maps_for, is_exit, is_of_mount, shows_bytes};
 ghost use Rattle.hp_history.specs.declared.held.Held.TheVariants.{Slot as SlotPart};
 ghost use Rattle.hp_history.specs.History.{IsSession};
 ghost use Rattle.hp_history.specs.Sections.{IsFree, IsHeld, free_slot, session_view};
 ghost use Rattle.hp_locked.specs.Views.{IsNewTrail, IsTrailOf};
 ghost use Rattle.hp_events.specs.Replies.{is_trace_full, names_reply};
-ghost use Rattle.hp_events.specs.SlotWork.{AreCopiesFor, IsAnother, asked_event, full_for, has_maps_for, is_exit, needs_room};
 ghost use Rattle.hp_shared.specs.Seated.{IsSeatedDone, IsSeatedEvent, first_of, run_in, session_left, slot_left, slot_view};
 ghost use Rattle.hp_shared.specs.Slots.{IsSlotTrail, slot_start};
 
 use crate::locked_slot::Slot;
 use crate::seats::{join, leave, leave_names};
 use atomic_table::Badge;
+use hp_events::LentEvent;
 use hp_events::copies::Copies;
-use hp_events::{MountEvent, SlotWork};
 use hp_history::{History, Places, Token, View};
 use hp_locked::{Door, Entered, Gate, Noted, Ways};
 use hp_model::entry::{Receipt, SlotEntry};
@@ -109,10 +109,10 @@ impl<N: Naming + Places, T: Trail<SlotEntry>> SeatedSlot<N, T> {
     }
 
     /// Whether the slot has the maps that this goes by, if it goes by a task's maps.
-    pub fn has_maps_for(&self, work: &SlotWork<'_>) -> bool
-        ensures { result ≡ has_maps_for work.now self.now.slot.mount }
+    pub fn has_maps_for(&self, event: &LentEvent<'_>) -> bool
+        ensures { result ≡ has_maps_for event.now self.now.slot.mount }
     {
-        self.slot.has_maps_for(work)
+        self.slot.has_maps_for(event)
     }
 
     /// Does what a session asks: the session's seat, the reply, with bytes in the front of the room, and the receipt where
@@ -125,7 +125,7 @@ impl<N: Naming + Places, T: Trail<SlotEntry>> SeatedSlot<N, T> {
         mine: Token,
         alloc: Global,
         page_bytes: u64,
-        work: SlotWork<'_>,
+        event: &LentEvent<'_>,
         copies: Option<Copies>,
         room: &'a mut [u8],
     ) -> (Token, Result<Told<'a>, Refusal>, Option<Receipt>)
@@ -135,28 +135,28 @@ impl<N: Naming + Places, T: Trail<SlotEntry>> SeatedSlot<N, T> {
         requires keeps { (K == 1) ≡ T.keeps }
         requires page_bytes { page_bytes ≡ N.page_bytes }
         requires bytes { 0 < page_bytes }
-        requires room { needs_room work ≡ true → most_bytes ≤ length room.old }
-        requires apart { lists_names (asked_event work) ≡ false }
-        requires another { IsAnother work }
-        requires has { has_maps_for work self.old.slot.mount ≡ true }
-        requires copies { T.keeps ≡ true → AreCopiesFor work copies }
+        requires room { shows_bytes event.now ≡ true → most_bytes ≤ length room.old }
+        requires apart { lists_names event.now ≡ false }
+        requires another { IsAnother event.now }
+        requires has { has_maps_for event.now self.old.slot.mount ≡ true }
+        requires copies { T.keeps ≡ true → AreCopiesFor event.now copies }
         ensures named { result.0.table_id ≡ N.history }
         ensures alone { result.0.me.1 ≡ [] }
-        ensures done { IsSeatedEvent (full_for (T.keeps ≡ true) work.entry) T.keeps N.page_bytes
-            self.old self.new (asked_event work.entry) (told_reply result.1) mine.me.0
+        ensures done { IsSeatedEvent (full_for (T.keeps ≡ true) event.now) T.keeps N.page_bytes
+            self.old self.new event.now (told_reply result.1) mine.me.0
             result.0.me.0 result.2 }
         ensures number { self.new.slot.number ≡ self.old.slot.number }
         ensures keeps { is_trace_full (told_reply result.1) ≡ true → T.keeps ≡ true }
         ensures limits { IsWithinLimits (told_reply result.1) }
-        ensures exit { is_exit work.entry ≡ true → told_reply result.1 ≡ Ok Done }
+        ensures exit { is_exit event.now ≡ true → told_reply result.1 ≡ Ok Done }
     {
         let SeatedSlot { slot, seat } = self;
         let mut mine = mine;
         join(ways.history, seat, &mut mine);
         let mut door: Door<'_, N, R, G, Noted, K> = Door::new(ways, mine);
-        let (told, receipt) = slot.work(&mut door, alloc, page_bytes, work, copies, room);
+        let (told, receipt) = slot.work(&mut door, alloc, page_bytes, event, copies, room);
         let mut mine = door.into_mine();
-        *seat = leave(ways.history, &mut mine, work, &told);
+        *seat = leave(ways.history, &mut mine, event, &told);
         (mine, told, receipt)
     }
 
@@ -168,8 +168,7 @@ impl<N: Naming + Places, T: Trail<SlotEntry>> SeatedSlot<N, T> {
         ways: &Ways<'_, N, R, G, K>,
         mine: Token,
         page_bytes: u64,
-        home: u64,
-        event: MountEvent<'_>,
+        event: &LentEvent<'_>,
         room: &'a mut [u8],
     ) -> (Token, Result<Told<'a>, Refusal>, bool)
         requires named { mine.table_id ≡ N.history }
@@ -178,12 +177,13 @@ impl<N: Naming + Places, T: Trail<SlotEntry>> SeatedSlot<N, T> {
         requires keeps { (K == 1) ≡ T.keeps }
         requires unkept { T.keeps ≡ false }
         requires page_bytes { page_bytes ≡ N.page_bytes }
-        requires room { shows_bytes event ≡ true → most_bytes ≤ length room.old }
-        requires apart { lists_names (as_event home event) ≡ false }
+        requires of_mount { is_of_mount event.now ≡ true }
+        requires room { shows_bytes event.now ≡ true → most_bytes ≤ length room.old }
+        requires apart { lists_names event.now ≡ false }
         ensures named { result.0.table_id ≡ N.history }
         ensures alone { result.0.me.1 ≡ [] }
         ensures done { IsSeatedDone T.keeps N.page_bytes self.old self.new
-            (as_event home event.entry) (told_reply result.1) mine.me.0 result.0.me.0 None }
+            event.now (told_reply result.1) mine.me.0 result.0.me.0 None }
         ensures number { self.new.slot.number ≡ self.old.slot.number }
         ensures keeps { is_trace_full (told_reply result.1) ≡ false }
         ensures limits { IsWithinLimits (told_reply result.1) }
@@ -192,12 +192,10 @@ impl<N: Naming + Places, T: Trail<SlotEntry>> SeatedSlot<N, T> {
         let mut mine = mine;
         join(ways.history, seat, &mut mine);
         let mut door: Door<'_, N, R, G, Entered, K> = Door::new(ways, mine);
-        let told = slot.event_unnoted(&mut door, page_bytes, home, event, room);
+        let told = slot.event_unnoted(event, &mut door, page_bytes, room);
         let entered = door.is_entered();
         let mut mine = door.into_mine();
-        *seat = ways
-            .history
-            .leave::<Brand, _>(&mut mine, (home, event, &told));
+        *seat = ways.history.leave::<Brand, _>(&mut mine, (event, &told));
         (mine, told, entered)
     }
 

@@ -5,12 +5,11 @@ ghost use Rattle.hp_model.specs.beside.Told.{told_reply};
 ghost use Rattle.hp_history.specs.History.{IsSession};
 ghost use Rattle.hp_history.specs.Sections.{IsFree, IsHeld, free_slot, session_view};
 ghost use Rattle.hp_events.specs.Replies.{is_trace_full, names_reply};
-ghost use Rattle.hp_events.specs.SlotWork.{asked_event};
 ghost use Rattle.hp_shared.specs.Seated.{first_of, session_left, slot_left};
 
 use crate::told::is_full;
 use atomic_table::Badge;
-use hp_events::SlotWork;
+use hp_events::LentEvent;
 use hp_history::{History, Places, Token, View};
 use hp_model::names::Names;
 use hp_model::refusal::Refusal;
@@ -38,7 +37,7 @@ pub(crate) fn join<N: Places>(history: &History<N>, slot: &mut Badge<View>, mine
 pub(crate) fn leave<'a, N: Places>(
     history: &History<N>,
     mine: &mut Token,
-    work: SlotWork<'_>,
+    event: &LentEvent<'_>,
     told: &Result<Told<'a>, Refusal>,
 ) -> Badge<View>
     requires named { mine.old.table_id ≡ N.history }
@@ -47,10 +46,10 @@ pub(crate) fn leave<'a, N: Places>(
     requires full { is_trace_full (told_reply told.now) ≡ true → IsFree mine.old.me.0 }
     ensures slot { result.table_id ≡ N.history }
     ensures trail { result.views
-        ≡ (slot_left (asked_event work.entry) (told_reply told.now) mine.old.me.0 ∷ []) ∷ [] }
+        ≡ (slot_left event.now (told_reply told.now) mine.old.me.0 ∷ []) ∷ [] }
     ensures named { mine.new.table_id ≡ N.history }
     ensures told { mine.new.me ≡ (
-      session_left (asked_event work.entry) (told_reply told.now)
+      session_left event.now (told_reply told.now)
           mine.old.me.0 ∷ [],
       [],
     ) }
@@ -58,7 +57,7 @@ pub(crate) fn leave<'a, N: Places>(
     if is_full(told) {
         return history.give_away(mine).into_badge();
     }
-    history.leave::<Brand, _>(mine, (work, told))
+    history.leave::<Brand, _>(mine, (event, told))
 }
 
 // The same, of a list of names.

@@ -8,13 +8,13 @@ ghost use Rattle.hp_model.specs.beside.Told.{told_reply};
 ghost use Rattle.hp_model.specs.machine.Event.{has_maps_of};
 ghost use Rattle.hp_model.specs.text.Writing.{IsWithinLimits};
 ghost use Rattle.hp_model.specs.Profile.{most_bytes};
-ghost use Rattle.hp_events.specs.Event.{as_event, is_usage, shows_bytes};
+ghost use Rattle.hp_events.specs.Event.{IsAnother, full_for, has_maps_for, is_exit, is_of_mount, is_usage, shows_bytes};
 ghost use Rattle.hp_events.specs.Memory.{asks_memory};
-ghost use Rattle.hp_events.specs.SlotWork.{IsAnother, asked_event, full_for, has_maps_for, is_exit, needs_room};
 ghost use Rattle.hp_mount_laws.specs.Done.{IsDone};
 
 use crate::mounting::{mount, unmount};
-use hp_events::{MountEvent, SlotWork};
+use hp_events::{LentEvent, is_of_mount};
+use hp_model::event::SlotEvent;
 use hp_model::naming::Naming;
 use hp_model::refusal::Refusal;
 use hp_model::told::Told;
@@ -35,77 +35,79 @@ pub fn ask<'a, N: Naming, D: PoolDoor<N>>(
     door: &mut D,
     alloc: Global,
     page_bytes: u64,
-    work: SlotWork<'_>,
+    event: &LentEvent<'_>,
     room: &'a mut [u8],
     reply: &mut Result<Told<'a>, Refusal>,
 )
     requires ready { D.is_ready door.old }
     requires page_bytes { page_bytes ≡ N.page_bytes }
     requires bytes { 0 < page_bytes }
-    requires room { needs_room work ≡ true → most_bytes ≤ length room.old }
-    requires another { IsAnother work }
-    requires has { has_maps_for work slot.old ≡ true }
-    ensures done { IsDone D.took (λ d. full_for (D.is_full d) work.entry) N.page_bytes number
-        slot.old door.old (asked_event work.entry) (told_reply reply.new) slot.new door.new }
+    requires room { shows_bytes event.now ≡ true → most_bytes ≤ length room.old }
+    requires another { IsAnother event.now }
+    requires has { has_maps_for event.now slot.old ≡ true }
+    ensures done { IsDone D.took (λ d. full_for (D.is_full d) event.now) N.page_bytes number
+        slot.old door.old event.now (told_reply reply.new) slot.new door.new }
     ensures left { D.is_left door.new }
-    ensures memory { asks_memory slot.old (asked_event work.entry) ≡ false
+    ensures memory { asks_memory slot.old event.now ≡ false
         → told_reply reply.new ≢ Err Refusal.OutOfMemory }
-    ensures limits { is_usage (asked_event work.entry) ≡ true
-        → IsWithinLimits (told_reply reply.new) }
-    ensures exit { is_exit work.entry ≡ true → told_reply reply.new ≡ Ok Done }
+    ensures limits { is_usage event.now ≡ true → IsWithinLimits (told_reply reply.new) }
+    ensures exit { is_exit event.now ≡ true → told_reply reply.new ≡ Ok Done }
 {
-    match work {
-        SlotWork::Mount { options } => {
-            *reply = Told::done(mount(slot, door, alloc, page_bytes, options));
+    if is_of_mount(event) {
+        return act(slot, door, page_bytes, event, room, reply);
+    }
+    match event {
+        SlotEvent::Mount { options } => {
+            *reply = Told::done(mount(slot, door, alloc, page_bytes, options.as_slice()));
         }
-        SlotWork::Remount { options } => match slot {
+        SlotEvent::Remount { options } => match slot {
             None => *reply = Err(Refusal::NoSuchSlot),
             Some(mount) => {
                 if number == 0 {
                     *reply = Err(Refusal::SlotTaken);
                 } else {
-                    *reply = Told::done(mount.remount(door, page_bytes, options));
+                    *reply = Told::done(mount.remount(door, page_bytes, options.as_slice()));
                 }
             }
         },
-        SlotWork::Umount => *reply = Told::done(unmount(slot, number, door)),
-        SlotWork::Fork { parent, child } => *reply = Told::done(fork(slot, door, parent, child)),
-        SlotWork::Exit { task } => {
-            leave(slot, door, task);
+        SlotEvent::Umount => *reply = Told::done(unmount(slot, number, door)),
+        SlotEvent::ForkMaps { parent, child } => {
+            *reply = Told::done(fork(slot, door, *parent, *child));
+        }
+        SlotEvent::ExitMaps { task } => {
+            leave(slot, door, *task);
             *reply = Ok(Told::Done);
         }
-        SlotWork::OfMount { home, event } => act(slot, door, page_bytes, home, &event, room, reply),
+        _ => unreachable!(),
     }
 }
 
-/// What an event asks of the slot's mount, for a task with that home node. Refused as NoSuchSlot where the slot is not mounted,
-/// and else as the mount refuses it. The reply is put in its place: handed back, it would be copied once more.
+/// What an event asks of the slot's mount. Refused as NoSuchSlot where the slot is not mounted, and else as the mount refuses it. The reply is put in its place: handed back, it would be copied once more.
 #[inline(always)]
 pub fn act<'a, N: Naming, D: PoolDoor<N>>(
     slot: &mut Option<Mount<N>>,
     door: &mut D,
     page_bytes: u64,
-    home: u64,
-    event: &MountEvent<'_>,
+    event: &LentEvent<'_>,
     room: &'a mut [u8],
     reply: &mut Result<Told<'a>, Refusal>,
 )
+    requires of_mount { is_of_mount event.now ≡ true }
     requires ready { D.is_ready door.old }
     requires page_bytes { page_bytes ≡ N.page_bytes }
     requires room { shows_bytes event.now ≡ true → most_bytes ≤ length room.old }
     ensures done { (k : ℕ) → IsDone D.took D.is_full N.page_bytes k slot.old door.old
-        (as_event home event.now) (told_reply reply.new) slot.new door.new }
+        event.now (told_reply reply.new) slot.new door.new }
     ensures left { D.is_left door.new }
-    ensures memory { asks_memory slot.old (as_event home event.now) ≡ false
+    ensures memory { asks_memory slot.old event.now ≡ false
         → told_reply reply.new ≢ Err Refusal.OutOfMemory }
-    ensures limits { is_usage (as_event home event.now) ≡ true
-        → IsWithinLimits (told_reply reply.new) }
+    ensures limits { is_usage event.now ≡ true → IsWithinLimits (told_reply reply.new) }
 {
     let Some(mount) = slot else {
         *reply = Err(Refusal::NoSuchSlot);
         return;
     };
-    *reply = mount.apply(door, page_bytes, home, event, room);
+    *reply = mount.apply(door, page_bytes, event, room);
 }
 
 /// Whether a task has a map on the slot.
@@ -119,12 +121,12 @@ pub fn has_maps<N: Naming>(slot: &Option<Mount<N>>, task: u64) -> bool
 }
 
 /// Whether the slot has the maps that this goes by, if it goes by a task's maps.
-pub fn has_maps_for<N: Naming>(slot: &Option<Mount<N>>, work: &SlotWork<'_>) -> bool
-    ensures { result ≡ has_maps_for work.now slot.now }
+pub fn has_maps_for<N: Naming>(slot: &Option<Mount<N>>, event: &LentEvent<'_>) -> bool
+    ensures { result ≡ has_maps_for event.now slot.now }
 {
-    match *work {
-        SlotWork::Fork { parent, .. } => has_maps(slot, parent),
-        SlotWork::Exit { task } => has_maps(slot, task),
+    match *event {
+        SlotEvent::ForkMaps { parent, .. } => has_maps(slot, parent),
+        SlotEvent::ExitMaps { task } => has_maps(slot, task),
         _ => true,
     }
 }

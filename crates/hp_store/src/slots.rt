@@ -2,7 +2,7 @@
 ghost use Rattle.std.specs.Prelude.{◌≡◌, ℕ, ◌+◌, ◌-◌, ◌<◌, ◌≤◌, ◌^◌, ◌==◌, not, false, IsTrue, [], length, min, slice_index_or, slice_set, None, Some, IsSome, OnOk, OnErr};
 ghost use Rattle.std.specs.Option.{option_map};
 ghost use Rattle.hp_nodes.specs.Ledgers.{all_frames};
-ghost use Rattle.hp_store.specs.Store.{holders_of, first_held, held_once_more, held_once_less, held_page, written_in, held_count, at_slot, Lengthens};
+ghost use Rattle.hp_store.specs.Store.{holders_of, first_held, held_once_more, held_once_less, held_page, held_count, at_slot, Lengthens};
 
 use crate::holdings::Holdings;
 use crate::widening::{is_much, widen};
@@ -18,7 +18,8 @@ const NUMBERS: usize = 1 << 32;
 /// A slot for each number. Contracts see what each has. Only those up to the last one that was ever used are written: of
 /// these the free ones are listed, and those behind are free.
 pub(crate) struct Slots<N: Naming> {
-    used: Holdings<N>,
+    // the store itself writes over bytes of their pages
+    pub(crate) used: Holdings<N>,
     free: Vec<PageNo>,
 }
 
@@ -183,15 +184,6 @@ impl<N: Naming> Slots<N> {
         ensures held { held_count self.new ≡ held_count self.old }
     {
         self.used.drop_shared(at.number() as usize)
-    }
-
-    pub(crate) fn write(&mut self, at: PageNo, offset: usize, bytes: &[u8])
-        requires held { IsSome (slice_index_or self.old at None) }
-        requires fits { offset + length bytes.now ≤ N.page_bytes }
-        ensures written { self.new ≡ at_slot (written_in offset bytes.now) at self.old }
-        ensures held { held_count self.new ≡ held_count self.old }
-    {
-        self.used.write(at.number() as usize, offset, bytes);
     }
 
     #[inline(always)]

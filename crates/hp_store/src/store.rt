@@ -177,7 +177,8 @@ impl<N: Naming> PageStore<N> {
         requires fits { offset + length bytes.now ≤ N.page_bytes }
         ensures { self.new ≡ overwritten number offset bytes.now self.old }
     {
-        self.slots.write(number, offset, bytes);
+        let at = number.number() as usize;
+        self.slots.used.write(at, offset, bytes);
     }
 
     /// The next page of those that go, to be put back.

@@ -9,13 +9,9 @@ use Rattle.hp_model.proofs.Words.{ThroughDoor, after, asked_pool, is_slot_event,
 use Rattle.hp_laws.specs.Laws.{pool_after}
 use Rattle.hp_laws.proofs.settled.StaysSettled.{pool_is_tied, event_settled}
 use Rattle.hp_laws.proofs.steps.Tells.{Tells, slot_event_tells}
-use Rattle.hp_events.specs.declared.event.MountEvent.{MountEvent}
-use Rattle.hp_events.specs.declared.event.MountEvent.TheVariants as event
 use Rattle.hp_mount_laws.specs.Done.{Tried}
-use Rattle.hp_events.specs.Event.{as_event}
-use Rattle.hp_events.specs.declared.slot_work.SlotWork.{SlotWork}
-use Rattle.hp_events.specs.declared.slot_work.SlotWork.TheVariants as work
-use Rattle.hp_events.specs.SlotWork.{asked_event, full_for, is_of_maps}
+use Rattle.hp_events.specs.Event.{full_for, is_of_maps}
+use Rattle.hp_model.specs.declared.event.SlotEvent.TheVariants as slot
 use Rattle.hp_mount_door.specs.Door.{IsReady as IsReadyPool}
 use Rattle.hp_system.specs.Event.{IsCarried, took}
 use Rattle.hp_system.specs.Sized.{IsSized}
@@ -50,20 +46,18 @@ never_full plan old new p q (Ok a) h = h
 never_full plan old new p q (Err refusal.TraceFull) h = absurd h.1.1
 never_full plan old new p q (Err other) h = h
 
-never_full_for : (w : SlotWork) → full_for ⊥ w → ⊥
-never_full_for work.Umount full = full
-never_full_for (work.Fork parent child) full = full
-never_full_for (work.Exit task) full = full
-never_full_for (work.Mount options) full = full
-never_full_for (work.Remount options) full = full
-never_full_for (work.OfMount home e) full = full
+never_full_for : (e : SlotEvent) → full_for ⊥ e → ⊥
+never_full_for slot.Umount full = full
+never_full_for (slot.ForkMaps parent child) full = full
+never_full_for (slot.ExitMaps task) full = full
+never_full_for other full = full
 
--- nor has it none for any work
-pub never_full_at : (w : SlotWork) (plan : Choice → Plan) (old new : Slot) (p q : Pool) (reply : Reply)
-    → Tried took (λ d. full_for ⊥ w) plan old p reply new q → Tried took (λ d. ⊥) plan old p reply new q
-never_full_at w plan old new p q (Ok a) h = h
-never_full_at w plan old new p q (Err refusal.TraceFull) h = absurd (never_full_for w h.1.1)
-never_full_at w plan old new p q (Err other) h = h
+-- nor has it none for any event
+pub never_full_at : (e : SlotEvent) (plan : Choice → Plan) (old new : Slot) (p q : Pool) (reply : Reply)
+    → Tried took (λ d. full_for ⊥ e) plan old p reply new q → Tried took (λ d. ⊥) plan old p reply new q
+never_full_at e plan old new p q (Ok a) h = h
+never_full_at e plan old new p q (Err refusal.TraceFull) h = absurd (never_full_for e h.1.1)
+never_full_at e plan old new p q (Err other) h = h
 
 module _ (size : ℕ) (t : Table) (xs : List Slot) (k : ℕ) (p : Pool) (tied : pool_of (state_of size t xs p) ≡ p) (old new : Slot) (here : slot_in xs k ≡ old) where
   abbrev before : State
@@ -141,31 +135,10 @@ module _ (size bytes : ℕ) (t : Table) where
   pub ready : (xs : List Slot) (p : Pool) → IsKept size bytes t xs p → IsReadyPool p
   ready xs p kept = ready_pool (machine_of size t xs p) (ready_by kept)
 
--- ---- what a step asks of a mount
+-- ---- what a step asks of a slot
 
--- it is an event of any slot
-pub happens : (home : ℕ) (e : MountEvent) (slot : Slot) → IsTrue (is_slot_event slot (as_event home e))
-happens home (event.Create name) slot = refl
-happens home (event.Unlink name) slot = refl
-happens home (event.Truncate name pages) slot = refl
-happens home (event.Punch name start end) slot = refl
-happens home (event.Preallocate name start end) slot = refl
-happens home (event.Stat name) slot = refl
-happens home (event.Read name index offset count) slot = refl
-happens home (event.Map task name start pages sharing reserving) slot = refl
-happens home (event.Anon task pages sharing reserving) slot = refl
-happens home (event.Unmap task map start end) slot = refl
-happens home (event.Fault task map index intent) slot = refl
-happens home (event.Load task map index offset count) slot = refl
-happens home (event.Store task map index offset bytes) slot = refl
-happens home event.Ls slot = refl
-happens home event.Df slot = refl
-
--- so is a mount, a remount and an umount
-pub work_happens : (w : SlotWork) (slot : Slot) → is_of_maps w ≡ false → IsTrue (is_slot_event slot (asked_event w))
-work_happens (work.Mount options) slot plain = refl
-work_happens (work.Remount options) slot plain = refl
-work_happens work.Umount slot plain = refl
-work_happens (work.Fork parent child) slot plain = cc
-work_happens (work.Exit task) slot plain = cc
-work_happens (work.OfMount home e) slot plain = happens home e slot
+-- what goes by no task's maps is an event of any slot
+pub happens : (e : SlotEvent) (s : Slot) → is_of_maps e ≡ false → IsTrue (is_slot_event s e)
+happens (slot.ForkMaps parent child) s plain = cc
+happens (slot.ExitMaps task) s plain = cc
+happens other s plain = refl

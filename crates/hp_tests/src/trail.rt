@@ -50,11 +50,11 @@ fn name(alloc: Global) -> Result<Bytes, AllocError> {
     Ok(Bytes::new(vec![in alloc; 97u8; 1]?))
 }
 
-fn create(alloc: Global) -> Result<SlotEvent, AllocError> {
+fn create(alloc: Global) -> Result<SlotEvent<Bytes>, AllocError> {
     Ok(SlotEvent::Create { name: name(alloc)? })
 }
 
-fn map(alloc: Global) -> Result<SlotEvent, AllocError> {
+fn map(alloc: Global) -> Result<SlotEvent<Bytes>, AllocError> {
     Ok(SlotEvent::Map {
         task: 1,
         home: 0,

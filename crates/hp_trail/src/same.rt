@@ -2,6 +2,7 @@
 ghost use Rattle.std.specs.Prelude.{◌≡◌, ◌≢◌, true, false};
 
 use hp_model::answer::{Answer, NodeCount, Reply};
+use hp_model::bytes::Bytes;
 use hp_model::event::{PoolEvent, SlotEvent, TableEvent};
 use hp_model::names::Names;
 
@@ -27,7 +28,7 @@ pub(crate) fn same_pool_event(a: PoolEvent, b: PoolEvent) -> bool
     a == b
 }
 
-pub(crate) fn same_slot_event(a: &SlotEvent, b: &SlotEvent) -> bool
+pub(crate) fn same_slot_event(a: &SlotEvent<Bytes>, b: &SlotEvent<Bytes>) -> bool
     ensures same { result ≡ true → a.now ≡ b.now }
     ensures other { result ≡ false → a.now ≢ b.now }
 {

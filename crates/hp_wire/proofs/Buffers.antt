@@ -1,17 +1,24 @@
 -- Bytes at the front of a buffer.
-use Rattle.std.proofs.Common.{◌≡◌, ℕ, List, ◌++◌, ◌+◌, ◌-◌, ◌<◌, ◌≤◌, length, take, drop, sym, ◌∙◌, ap, arith, Option, min, length-take, take-add, take-take, take_all, Bool, true, false, nat_le, refl}
+use Rattle.std.proofs.Common.{◌≡◌, ℕ, List, ◌++◌, ◌+◌, ◌-◌, ◌<◌, ◌≤◌, length, take, drop, sym, ◌∙◌, ap, arith, Option, min, length-take, take-take, take_all, Bool, true, false, nat_le, refl}
 use Rattle.std.proofs.lemmas.Bool.Decides.{nat_tests}
-use Rattle.std.proofs.lemmas.List.{drop-take}
-use Rattle.hp_wire.specs.Unanswered.{Gets, GetsAt}
+use Rattle.std.proofs.lemmas.List.{drop-take, take-append-le}
+use Rattle.std.proofs.Math.Seq.{take-append-add}
+use Rattle.std.specs.Io.KnownBytes.{Consumes}
+use Rattle.hp_wire.specs.Unanswered.{Gets}
+use borrow.Rule.Slice.PartMut.{put_mid}
 
--- what was read stands behind them
-pub gets_behind : {r r1 : Option (List ℕ)} (end n : ℕ) (old new now : List ℕ) → GetsAt end old new r r1 n → now ≡ take (end + n) new → Gets (take end old) now r r1 n
-gets_behind end n old new now h same = record {
-  bytes = take n (drop end new);
-  consumed = h.1;
-  behind = same ∙ take-add end n new ∙ ap (λ (xs : List ℕ). xs ++ take n (drop end new)) h.0;
-  all = sym h.2;
-}
+-- what was read into the part behind them stands behind them
+pub gets_behind : {r r1 : Option (List ℕ)} (end k n : ℕ) (old buf items now : List ℕ) → end ≤ length old → n ≤ length buf → Consumes r r1 (take n buf) → old ≡ items
+    → now ≡ take (end + n) (put_mid end k old buf) → Gets (take end items) now r r1 n
+gets_behind end k n old buf items now within fits read is same =
+    let front : length (take end old) ≡ end = omega (arith, length-take end old) in
+    record {
+      bytes = take n buf;
+      consumed = read;
+      behind = same ∙ ap (λ m. take (m + n) (put_mid end k old buf)) (sym front) ∙ take-append-add (take end old) (buf ++ drop k (drop end old)) n
+          ∙ ap (λ (xs : List ℕ). take end old ++ xs) (take-append-le n buf (drop k (drop end old)) fits) ∙ ap (λ (xs : List ℕ). take end xs ++ take n buf) is;
+      all = omega (arith, length-take n buf);
+    }
 
 take_min : (k left : ℕ) (ys : List ℕ) (t : Bool) → nat_le k left ≡ t → take (min left k) ys ≡ take k (take left ys)
 take_min k left ys true e =

@@ -1,5 +1,5 @@
 -- Bytes that were read and wait to be answered.
-use Rattle.std.specs.Prelude.{◌≡◌, ◌≤◌, ◌-◌, ℕ, List, ◌++◌, drop, take, length, Option}
+use Rattle.std.specs.Prelude.{◌≡◌, ◌≤◌, ◌-◌, ℕ, List, ◌++◌, drop, length, Option}
 use Rattle.std.specs.Io.KnownBytes.{Consumes, Keeps}
 use Rattle.hp_model.specs.text.Lines.{after_lines, ended_lines}
 use Rattle.hp_model.specs.declared.fault.RunFault.{RunFault}
@@ -11,11 +11,6 @@ pub record Gets (old new : List ℕ) (unread left : Option (List ℕ)) (count : 
   pub consumed : Consumes unread left bytes
   pub behind : new ≡ old ++ bytes
   pub all : count ≡ length bytes
-
--- so many bytes were read, to this place of a buffer, and what stands before it is as it was
-abbrev pub GetsAt : ℕ → List ℕ → List ℕ → Option (List ℕ) → Option (List ℕ) → ℕ → Type 0
-GetsAt at old new unread left count =
-    (take at new ≡ take at old) × Consumes unread left (take count (drop at new)) × (length (take count (drop at new)) ≡ count)
 
 -- a read failed, and took nothing
 abbrev pub FailsToRead : Option (List ℕ) → Option (List ℕ) → RunFault → Type 0

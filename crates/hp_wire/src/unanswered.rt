@@ -1,7 +1,7 @@
 //! The bytes that were read and wait to be answered.
 ghost use Rattle.std.specs.Prelude.{◌≡◌, ◌+◌, ◌-◌, ◌<◌, ◌≤◌, [], drop, length, take, IfErr, IfOk, IsOk};
 ghost use Rattle.std.specs.Io.KnownBytes.{IsAtEnd};
-ghost use Rattle.hp_wire.specs.Unanswered.{FailsToRead, Gets, GetsAt};
+ghost use Rattle.hp_wire.specs.Unanswered.{FailsToRead, Gets};
 
 use crate::ends::Source;
 use crate::fault::RunFault;
@@ -56,10 +56,15 @@ impl Unanswered {
         ensures sure { R.is_sure reader.old → IsOk result }
         ensures stays { R.is_sure reader.old → R.is_sure reader.new }
     {
-        let room = (ROOM - self.end).min(most);
-        let n = read_behind(reader, &mut self.buffer, self.end, room)?;
-        self.end += n;
-        Ok(n)
+        let end = self.end;
+        let room = (ROOM - end).min(most);
+        match reader.read_some(&mut self.buffer[end..end + room]) {
+            Ok(n) => {
+                self.end += n;
+                Ok(n)
+            }
+            Err(_) => Err(RunFault::Read),
+        }
     }
 
     /// Keeps the last so many bytes alone, or the first 1,025 of these: they stand for a line that is too long.
@@ -70,28 +75,6 @@ impl Unanswered {
         let from = self.end - left;
         self.end = left.min(MOST_LINE_BYTES + 1);
         move_to_front(&mut self.buffer, from, self.end);
-    }
-}
-
-// Reads into the buffer at a place.
-fn read_behind<R: Source>(
-    reader: &mut R,
-    buffer: &mut [u8],
-    at: usize,
-    room: usize,
-) -> Result<usize, RunFault>
-    requires { at + room ≤ length buffer.old }
-    ensures bound { IfOk result (λ n. n ≤ room) }
-    ensures got { IfOk result (GetsAt at buffer.old buffer.new
-        (R.remaining reader.old) (R.remaining reader.new)) }
-    ensures end { IfOk result (λ n. n ≡ 0 → 0 < room → IsAtEnd (R.remaining reader.new)) }
-    ensures err { IfErr result (FailsToRead (R.remaining reader.old) (R.remaining reader.new)) }
-    ensures sure { R.is_sure reader.old → IsOk result }
-    ensures stays { R.is_sure reader.old → R.is_sure reader.new }
-{
-    match reader.read_some(&mut buffer[at..at + room]) {
-        Ok(n) => Ok(n),
-        Err(_) => Err(RunFault::Read),
     }
 }
 

@@ -1,5 +1,6 @@
 -- Hex digits that are the last word of a line. A space is no digit, so they need not be cut off first.
-use Rattle.std.proofs.Common.{◌≡◌, ℕ, ◌+◌, ◌*◌, ◌%◌, List, [], ◌∷◌, ◌++◌, length, refl, sym, ◌∙◌, ap, arith, Bool, true, false, ◌==◌, nat_lt, if◌then◌else◌, Result, Ok, Err, ◌⊎◌, inl, inr}
+use Rattle.std.proofs.Common.{◌≡◌, ℕ, ◌+◌, ◌*◌, ◌%◌, ◌<◌, ◌≤◌, List, [], ◌∷◌, ◌++◌, length, drop, refl, sym, ◌∙◌, ap, arith, Bool, true, false, ◌==◌, nat_lt, if◌then◌else◌}
+use Rattle.std.proofs.Common.{Result, Ok, Err, MatchResult, ◌⊎◌, inl, inr}
 use Rattle.std.proofs.lemmas.Bool.Decides.{nat_tests}
 use Rattle.std.proofs.lemmas.List.Splits.{slice_split-cons_no, slice_split-cons_yes}
 use Rattle.std.specs.List.{onto_first}
@@ -9,8 +10,10 @@ use Rattle.hex.specs.declared.error.FromHexError.TheVariants.{InvalidHexCharacte
 use Rattle.hp_model.proofs.Words.{Read, bytes_of_hex, end_at, hex_at, piece_at, pieces_of_line, ◌>>=◌}
 use Rattle.hp_model.specs.declared.refusal.Refusal.{Refusal}
 use Rattle.hp_model.specs.declared.refusal.Refusal.TheVariants.{BadLine}
+use Rattle.hp_wire_lines.proofs.Fronts.{past, within}
 use Rattle.hp_wire_lines.proofs.Pieces.{first_piece}
-use Rattle.hp_wire_lines.specs.Words.{IsReadAs, last_hex}
+use Rattle.hp_wire_lines.specs.Digits.{Decodes}
+use Rattle.hp_wire_lines.specs.Words.{last_hex, pieces_from}
 
 -- ---- a space among digits
 
@@ -95,12 +98,18 @@ last_by line (inl whole) = ap last_hex whole ∙ one_read (bytes_of_hex line)
 last_by line (inr (front, back, first, second, more, is, cut)) =
     ap last_hex cut ∙ more_read (nat_lt 0 (length first)) (decode_of first) second more ∙ sym (ap bytes_of_hex is ∙ bad_hex front back)
 
-pub last_is : (line : List ℕ) → last_hex (pieces_of_line line) ≡ bytes_of_hex line
+last_is : (line : List ℕ) → last_hex (pieces_of_line line) ≡ bytes_of_hex line
 last_is line = last_by line (cut_or_whole line)
 
-pub last_none : last_hex [] ≡ Err BadLine
+last_none : last_hex [] ≡ Err BadLine
 unfolding hex_at piece_at
 last_none = refl
+
+pub last_past : (line : List ℕ) (at : ℕ) (left : List (List ℕ)) → length line < at → pieces_from at line ≡ left → last_hex left ≡ Err BadLine
+last_past line at left h view = ap last_hex (sym view ∙ past at line h) ∙ last_none
+
+pub last_from : (line : List ℕ) (at : ℕ) (left : List (List ℕ)) → at ≤ length line → pieces_from at line ≡ left → last_hex left ≡ bytes_of_hex (drop at line)
+last_from line at left h view = ap last_hex (sym view ∙ within at line h) ∙ last_is (drop at line)
 
 -- a step that ends in such digits
 end_by : {A : Type 0} (f : List ℕ → A) (bytes : List ℕ) (r : Result (Unit {0}) Refusal)
@@ -117,6 +126,40 @@ pub then_last : {A : Type 0} (f : List ℕ → A) (pieces : List (List ℕ))
     → (hex_at pieces >>= (λ bytes. end_at bytes.1 >>= (λ done. Ok (f bytes.0)))) ≡ (last_hex pieces >>= (λ bytes. Ok (f bytes)))
 then_last f pieces = then_by f (hex_at pieces)
 
-pub given : {X Y : Type 0} (view : X → Y) (r : Result X Refusal) (read other : Result Y Refusal) → other ≡ read → IsReadAs view r read → IsReadAs view r other
-given view (Ok x) read other same h = same ∙ h
-given view (Err e) read other same h = same ∙ h
+-- ---- the digits, by how many they are
+
+pub empty_read : (digits : List ℕ) → length digits ≡ 0 → bytes_of_hex digits ≡ Err BadLine
+empty_read [] h = refl
+empty_read (d ∷ ds) h = absurd (omega (arith, h))
+
+bad_odd : (text : List ℕ) (odd : Bool) → odd ≡ true → Fails (if odd then Err OddLength else decode_pairs 0 text)
+bad_odd text true h = (OddLength, refl)
+bad_odd text false h = cc
+
+pub odd_read : (digits : List ℕ) → length digits % 2 ≡ 1 → bytes_of_hex digits ≡ Err BadLine
+odd_read digits h =
+    let odd : (length digits % 2 == 1) ≡ true = grind (arith, nat_tests, h) in
+    bad_by (nat_lt 0 (length digits)) (decode_of digits) (bad_odd digits (length digits % 2 == 1) odd)
+
+good_by : (some odd : Bool) (r : Result (List ℕ) FromHexError) (bytes : List ℕ) (good : Bool) → some ≡ true → odd ≡ false → good ≡ true
+    → MatchResult r (λ all. (good ≡ true) × (bytes ≡ all)) (λ e. good ≡ false) → read_by some (if odd then Err OddLength else r) ≡ Ok bytes
+good_by true false (Ok all) bytes good s o g h = ap (λ bs. Ok bs) (sym h.1)
+good_by true false (Err e) bytes good s o g h = cc
+good_by true true r bytes good s o g h = cc
+good_by false odd r bytes good s o g h = cc
+
+pub good_read : (digits bytes : List ℕ) (good : Bool) → 0 < length digits → length digits % 2 ≡ 0 → good ≡ true → Decodes digits bytes good → bytes_of_hex digits ≡ Ok bytes
+good_read digits bytes good some even is h =
+    let s : nat_lt 0 (length digits) ≡ true = grind (arith, nat_tests, some) in
+    let o : (length digits % 2 == 1) ≡ false = grind (arith, nat_tests, even) in
+    good_by (nat_lt 0 (length digits)) (length digits % 2 == 1) (decode_pairs 0 digits) bytes good s o is h
+
+not_by : (some odd : Bool) (r : Result (List ℕ) FromHexError) (bytes : List ℕ) (good : Bool) → good ≡ false
+    → MatchResult r (λ all. (good ≡ true) × (bytes ≡ all)) (λ e. good ≡ false) → read_by some (if odd then Err OddLength else r) ≡ Err BadLine
+not_by true false (Ok all) bytes good g h = let is = h.0 in cc
+not_by true false (Err e) bytes good g h = refl
+not_by true true r bytes good g h = refl
+not_by false odd r bytes good g h = refl
+
+pub not_read : (digits bytes : List ℕ) (good : Bool) → good ≡ false → Decodes digits bytes good → bytes_of_hex digits ≡ Err BadLine
+not_read digits bytes good is h = not_by (nat_lt 0 (length digits)) (length digits % 2 == 1) (decode_pairs 0 digits) bytes good is h

@@ -3,7 +3,7 @@ ghost use Rattle.std.specs.Prelude.{◌≡◌, length};
 ghost use Rattle.hp_model.specs.text.Reading.{fault_of, load_of, store_of};
 ghost use Rattle.hp_wire_lines.specs.Accesses.{read_fault, read_load, read_store};
 
-use crate::parts::{intent, last_hex};
+use crate::parts::intent;
 use crate::words::Words;
 use hp_model::refusal::Refusal;
 use hp_model::service::Access;
@@ -38,7 +38,7 @@ pub fn storing<'a>(mut words: Words<'_>, room: &'a mut [u8]) -> Result<(Access, 
     ensures { read_store result ≡ store_of words.entry }
 {
     let access = access!(words: task, slot, map, index; offset = words.number()?);
-    let bytes = last_hex(&words, room)?;
+    let bytes = words.last_hex(room)?;
     Ok((access, bytes))
 }
 

@@ -4,7 +4,7 @@
 ghost use Rattle.std.specs.Prelude.{◌≡◌, length};
 ghost use Rattle.hp_model.specs.text.Reading.{anon_of, attach_of, connect_of, create_of, df_of, exit_of, fault_of, fork_of, load_of, ls_of, map_of, meminfo_of, mount_of, nodes_of, nr_of, overcommit_of, preallocate_of, punch_of, read_of, remount_of, stat_of, store_of, truncate_of, umount_of, unlink_of, unmap_of};
 
-use crate::parts::{intent, last_hex, reserving, sharing, word};
+use crate::parts::{intent, reserving, sharing, word};
 use crate::words::Words;
 use hp_model::lent::Lent;
 use hp_model::refusal::Refusal;
@@ -194,5 +194,5 @@ pub fn store<'a>(words: &mut Words<'_>, room: &'a mut [u8]) -> Result<Step<'a>, 
     requires { length room.old ≡ 512 }
     ensures { result ≡ store_of words.old }
 {
-    step!(words; Store(task, slot, map, index, offset), bytes = Lent::new(last_hex(words, room)?))
+    step!(words; Store(task, slot, map, index, offset), bytes = Lent::new(words.last_hex(room)?))
 }

@@ -1,10 +1,8 @@
 //! What the words of a line say.
-ghost use Rattle.std.specs.Prelude.{◌≡◌, ◌≤◌, length};
-ghost use Rattle.hp_model.specs.text.Words.{word_at, sharing_at, intent_at, reserving_at, bytes_of_hex};
-ghost use Rattle.hp_model.specs.Profile.{most_line_bytes};
-ghost use Rattle.hp_wire_lines.specs.Words.{IsReadAs, Takes, last_hex};
+ghost use Rattle.std.specs.Prelude.{◌≡◌};
+ghost use Rattle.hp_model.specs.text.Words.{word_at, sharing_at, intent_at, reserving_at};
+ghost use Rattle.hp_wire_lines.specs.Words.{Takes};
 
-use crate::hex_digits::decode;
 use crate::known::is_known;
 use crate::words::Words;
 use hp_model::lent::Lent;
@@ -60,34 +58,6 @@ pub fn reserving(words: &mut Words<'_>) -> Result<Reserving, Refusal>
     words.end()?;
     if is_known(piece, b"noreserve") {
         Ok(Reserving::NoReserve)
-    } else {
-        Err(Refusal::BadLine)
-    }
-}
-
-/// The bytes of hex digits that are the last word, in the front of the room. At least two digits.
-#[inline(always)]
-pub fn last_hex<'a>(words: &Words<'_>, room: &'a mut [u8]) -> Result<&'a [u8], Refusal>
-    requires { length room.old ≡ 512 }
-    ensures { IsReadAs (λ x. x.now) result (last_hex words.now) }
-{
-    // A space is no digit, so the digits need not be cut off first.
-    let rest = words.rest()?;
-    decoded(rest, room)
-}
-
-// The bytes of hex digits, in the front of the room. At least two digits.
-fn decoded<'a>(piece: &[u8], room: &'a mut [u8]) -> Result<&'a [u8], Refusal>
-    requires { (length piece.now ≤ most_line_bytes) × (length room.old ≡ 512) }
-    ensures { IsReadAs (λ x. x.now) result (bytes_of_hex piece.now) }
-{
-    if piece.is_empty() || piece.len() % 2 != 0 {
-        return Err(Refusal::BadLine);
-    }
-    let n = piece.len() / 2;
-    let part = &mut room[..n];
-    if decode(piece, part) {
-        Ok(part)
     } else {
         Err(Refusal::BadLine)
     }

@@ -6,6 +6,7 @@ ghost use Rattle.hp_model.specs.text.Words.{is_word_byte, number_at, number_read
 ghost use Rattle.hp_model.specs.Profile.{most_line_bytes};
 ghost use Rattle.hp_wire_lines.specs.Words.{between, number_after, piece_with, pieces_from};
 
+use crate::hex_digits::decode;
 use crate::known::is_known;
 use hp_model::refusal::Refusal;
 use hp_text::numbers;
@@ -36,8 +37,8 @@ impl<'a> Model for Words<'a> {
 impl<'a> Words<'a> {
     ghost use Rattle.hp_model.specs.Profile.{most_line_bytes};
     ghost use Rattle.hp_model.specs.text.Words.{pieces_of_line, piece_at, number_at, word_at, end_at};
-    ghost use Rattle.hp_wire_lines.specs.Words.{Takes};
-    ghost use Rattle.std.specs.Prelude.{◌≡◌, ◌≤◌, [], length, IfOk, MatchResult};
+    ghost use Rattle.hp_wire_lines.specs.Words.{IsReadAs, Takes, last_hex};
+    ghost use Rattle.std.specs.Prelude.{◌≡◌, ◌≤◌, [], length, IfOk};
 
     #[inline(always)]
     pub fn new(line: &'a [u8]) -> Words<'a>
@@ -169,17 +170,26 @@ impl<'a> Words<'a> {
         number_of(piece)
     }
 
-    /// What is left of the line, as it stands.
+    /// The bytes of hex digits that are the last word, in the front of the room. At least two digits.
     #[inline(always)]
-    pub fn rest(&self) -> Result<&'a [u8], Refusal>
-        ensures { MatchResult result
-            (λ rest. (self.now ≡ pieces_of_line rest.now) × (length rest.now ≤ most_line_bytes))
-            (λ e. (self.now ≡ []) × (e ≡ Refusal.BadLine)) }
+    pub fn last_hex<'b>(&self, room: &'b mut [u8]) -> Result<&'b [u8], Refusal>
+        requires { length room.old ≡ 512 }
+        ensures { IsReadAs (λ x. x.now) result (last_hex self.now) }
     {
         if self.at > self.line.len() {
             return Err(Refusal::BadLine);
         }
-        Ok(&self.line[self.at..])
+        // A space is no digit, so the digits need not be cut off first.
+        let digits = &self.line[self.at..];
+        if digits.is_empty() || digits.len() % 2 != 0 {
+            return Err(Refusal::BadLine);
+        }
+        let n = digits.len() / 2;
+        let bytes = &mut room[..n];
+        if !decode(digits, bytes) {
+            return Err(Refusal::BadLine);
+        }
+        Ok(bytes)
     }
 
     /// Whether no piece is left.

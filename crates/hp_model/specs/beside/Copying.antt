@@ -2,7 +2,7 @@
 use Rattle.std.specs.Prelude.{Bool, true, false, Ok, Err}
 use Rattle.hp_model.specs.declared.answer.Answer.{Answer}
 use Rattle.hp_model.specs.declared.answer.Answer.TheVariants.{Names}
-use Rattle.hp_model.specs.declared.event.SlotEvent.{SlotEvent}
+use Rattle.hp_model.specs.machine.SlotEvent.{SlotEvent}
 use Rattle.hp_model.specs.declared.event.SlotEvent.TheVariants.{Mount, Remount, Create, Unlink, Truncate, Punch, Preallocate, Read, Stat, Map, Store}
 use Rattle.hp_model.specs.machine.Plan.{Reply}
 

@@ -8,7 +8,7 @@ use Rattle.hp_model.specs.declared.answer.Answer.TheVariants.{Done, MapNo, Bytes
 use Rattle.hp_model.specs.declared.refusal.Refusal.{Refusal}
 use Rattle.hp_model.specs.declared.refusal.Refusal.TheVariants.{OutOfMemory, NoPages, MountFull, BeyondEnd, NoSuchSlot, SlotTaken, NoSuchFile, FileExists}
 use Rattle.hp_model.specs.declared.refusal.Refusal.TheVariants.{NoInodes, BadName, NoSuchMap, OutOfRange, CrossesPage, Busy, TooMany}
-use Rattle.hp_model.specs.declared.event.SlotEvent.{SlotEvent}
+use Rattle.hp_model.specs.declared.event.SlotEvent.{SlotEvent as EventOver}
 use Rattle.hp_model.specs.declared.event.SlotEvent.TheVariants.{Mount as MountEvent, Remount, Umount, Create, Unlink, Truncate, Punch, Preallocate, Read as ReadEvent, Ls, Stat}
 use Rattle.hp_model.specs.declared.event.SlotEvent.TheVariants.{Df, Map as MapEvent, Anon, Unmap, Fault, Load, Store, ForkMaps, ExitMaps}
 use Rattle.hp_model.specs.declared.step.Intent.{Intent}
@@ -34,6 +34,10 @@ use Rattle.hp_model.specs.Profile.{most_files, most_maps, most_tasks, most_file_
 use Rattle.hp_model.specs.files.Spot.{Spot, spot, written, again}
 use Rattle.hp_model.specs.files.Value.{shown, value}
 use Rattle.hp_model.specs.declared.limits.Limits.{Limits}
+
+-- an event of a slot, with the lists of the bytes that it carries
+abbrev pub SlotEvent : Type 0
+SlotEvent = EventOver (List ℕ)
 
 -- ---- names
 

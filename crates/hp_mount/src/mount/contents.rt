@@ -1,38 +1,20 @@
 //! Bytes of pages, as they are written and shown.
-ghost use Rattle.std.specs.Prelude.{◌≡◌, ℕ, ◌+◌, ◌<◌, ◌≤◌, false, length, take, drop, IsTrue};
+ghost use Rattle.std.specs.Prelude.{◌≡◌, ℕ, ◌+◌, ◌<◌, ◌≤◌, length, take, drop};
 ghost use Rattle.hp_model.specs.files.Mapping.{place_at};
 ghost use Rattle.hp_model.specs.files.Value.{value};
-ghost use Rattle.hp_model.specs.files.File.{cell_at, with_cell, with_file};
 ghost use Rattle.hp_model.specs.files.Page.{zeros};
 ghost use Rattle.hp_model.specs.machine.Promises.{file_in, map_in};
-ghost use Rattle.hp_model.specs.files.Spot.{cell_written, place_written};
+ghost use Rattle.hp_model.specs.files.Spot.{place_written};
 ghost use Rattle.hp_lookup.specs.declared.copy_state.CopyState.TheVariants as CopyState;
-ghost use Rattle.hp_file.specs.declared.file.CellState.TheVariants as CellState;
-ghost use Rattle.hp_file.specs.States.{IsCopyState, IsState};
+ghost use Rattle.hp_file.specs.States.{IsCopyState};
 ghost use Rattle.hp_mount_laws.specs.Reach.{with_place_at};
 
 use super::Mount;
 use hp_model::naming::Naming;
-use hp_mount_files::{FilePages, MapPages, MapPlace};
+use hp_mount_files::{MapPages, MapPlace};
 use hp_nodes::Page;
 
 impl<N: Naming> Mount<N> {
-    // Writes bytes into a file's page, if there is one: whether there is.
-    #[inline(always)]
-    pub(super) fn write(&mut self, file: usize, index: u64, offset: usize, bytes: &[u8]) -> bool
-        requires file { file < length self.old.files }
-        requires below { index < length (file_in self.old file).cells }
-        requires fits { offset + length bytes.now ≤ N.page_bytes }
-        ensures there { IsTrue result
-            → IsState CellState.Present (cell_at (file_in self.old file) index) }
-        ensures none { result ≡ false → self.new ≡ self.old }
-        ensures written { self.new ≡ with_file self.old file
-            (with_cell (file_in self.old file) index
-            (cell_written offset bytes.now (cell_at (file_in self.old file) index))) }
-    {
-        self.files.write(file, index, offset, bytes)
-    }
-
     // Writes bytes into a copy that the map alone holds.
     pub(super) fn write_copy(&mut self, at: MapPlace, index: u64, offset: usize, bytes: &[u8])
         requires file { at.file < length self.old.files }

@@ -1,9 +1,7 @@
 //! Where an access goes, or why it does not begin.
-ghost use Rattle.std.specs.Prelude.{◌≡◌, ◌+◌, ◌<◌, ◌≤◌, length, IfErr, IfOk, OnOk, Some, true, IfNone};
+ghost use Rattle.std.specs.Prelude.{◌≡◌, ◌<◌, length, IfErr, IfOk, OnOk, Some, true, IfNone};
 ghost use Rattle.hp_model.specs.files.Mapping.{is_live, place_at};
-ghost use Rattle.hp_model.specs.machine.SlotEvent.{byte_tests, fault_tests};
 ghost use Rattle.hp_model.specs.machine.Promises.{file_in, map_in};
-ghost use Rattle.hp_model.specs.Profile.{most_bytes};
 ghost use Rattle.hp_mount.specs.Found.{Fits, IsPlaced, tests_of, why_not};
 ghost use Rattle.hp_mount_laws.specs.Reach.{first_of, spot_at};
 
@@ -16,61 +14,6 @@ use hp_mount_files::{Lookup, MapPlace};
 use hp_nodes::Page;
 
 impl<N: Naming> Mount<N> {
-    // What a load or a store of so many bytes is refused before its access, if anything.
-    #[inline(always)]
-    fn refused_bytes(
-        &self,
-        page_bytes: u64,
-        at: MapPlace,
-        index: u64,
-        offset: u64,
-        count: u64,
-    ) -> Option<Refusal>
-        requires file { at.file < length self.now.files }
-        requires map { at.map < length (file_in self.now at.file).maps }
-        ensures refused { result
-            ≡ first_of (byte_tests page_bytes index offset count
-            (spot_at self.now at.file at.map)) }
-        ensures below { IfNone result (index < length (file_in self.now at.file).cells) }
-        ensures live { IfNone result
-            (is_live (place_at (map_in (file_in self.now at.file) at.map) index) ≡ true) }
-        ensures fits { IfNone result (offset + count ≤ page_bytes) }
-        ensures few { IfNone result (count ≤ most_bytes) }
-    {
-        let live = self.files.map(at).is_live(index);
-        if !live || count == 0 {
-            return Some(Refusal::OutOfRange);
-        }
-        if offset > page_bytes || count > page_bytes - offset {
-            return Some(Refusal::CrossesPage);
-        }
-        if count > MOST_BYTES as u64 {
-            return Some(Refusal::TooMany);
-        }
-        if index >= self.files.file(at.file).len() {
-            return Some(Refusal::BeyondEnd);
-        }
-        None
-    }
-
-    // What a fault is refused before its access, if anything.
-    fn refused_page(&self, at: MapPlace, index: u64) -> Option<Refusal>
-        requires file { at.file < length self.now.files }
-        requires map { at.map < length (file_in self.now at.file).maps }
-        ensures refused { result ≡ first_of (fault_tests index (spot_at self.now at.file at.map)) }
-        ensures below { IfNone result (index < length (file_in self.now at.file).cells) }
-        ensures live { IfNone result
-            (is_live (place_at (map_in (file_in self.now at.file) at.map) index) ≡ true) }
-    {
-        if !self.files.map(at).is_live(index) {
-            return Some(Refusal::OutOfRange);
-        }
-        if index >= self.files.file(at.file).len() {
-            return Some(Refusal::BeyondEnd);
-        }
-        None
-    }
-
     // What an access is refused before it begins, if anything.
     #[inline(always)]
     fn refused(&self, page_bytes: u64, at: MapPlace, index: u64, asked: Asked) -> Option<Refusal>
@@ -83,12 +26,27 @@ impl<N: Naming> Mount<N> {
             (is_live (place_at (map_in (file_in self.now at.file) at.map) index) ≡ true) }
         ensures fits { IfNone result (Fits page_bytes asked) }
     {
+        if !self.files.map(at).is_live(index) {
+            return Some(Refusal::OutOfRange);
+        }
         match asked {
-            Asked::Page => self.refused_page(at, index),
+            Asked::Page => {}
             Asked::Bytes { offset, count } => {
-                self.refused_bytes(page_bytes, at, index, offset, count)
+                if count == 0 {
+                    return Some(Refusal::OutOfRange);
+                }
+                if offset > page_bytes || count > page_bytes - offset {
+                    return Some(Refusal::CrossesPage);
+                }
+                if count > MOST_BYTES as u64 {
+                    return Some(Refusal::TooMany);
+                }
             }
         }
+        if index >= self.files.file(at.file).len() {
+            return Some(Refusal::BeyondEnd);
+        }
+        None
     }
 
     // Where the map of an access stands, or why the access does not begin.

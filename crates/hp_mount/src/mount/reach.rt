@@ -246,13 +246,14 @@ impl<N: Naming> Mount<N> {
         ensures memory { is_backed Write (spot_of access.now self.old) access.now.index ≡ true
             → result ≢ Err Refusal.OutOfMemory }
     {
-        if self.write(at.file, access.index, offset as usize, bytes) {
+        let offset = offset as usize;
+        if self.files.write(at.file, access.index, offset, bytes) {
             return Ok(());
         }
         if let Err(refusal) = self.reach_shared(door, home as usize, at.file, access.index) {
             return Err(refusal);
         }
-        let _there = self.write(at.file, access.index, offset as usize, bytes);
+        let _there = self.files.write(at.file, access.index, offset, bytes);
         Ok(())
     }
 

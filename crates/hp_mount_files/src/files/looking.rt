@@ -131,8 +131,10 @@ impl<N: Naming> Lookup for Files<N> {
         };
         let tag = hint.get();
         let at = tag.place();
-        if self.list.is_tagged(at.file, tag.file()) && self.is_map_at(at, task, number) {
-            return Some(at);
+        if let Some(file) = self.list.tagged_at(at.file, tag.file()) {
+            if file.is_map_at(at.map, task, number) {
+                return Some(at);
+            }
         }
         self.find_moved(hint, task, number)
     }
@@ -143,8 +145,10 @@ impl<N: Naming> Lookup for Files<N> {
         };
         let tag = hint.get();
         let at = tag.at();
-        if self.list.is_tagged(at, tag.tag()) && self.is_file_at(at, name) {
-            return Some(at);
+        if let Some(file) = self.list.tagged_at(at, tag.tag()) {
+            if file.is_named(name) {
+                return Some(at);
+            }
         }
         let at = self.list.tagged(tag.tag());
         if self.is_file_at(at, name) {

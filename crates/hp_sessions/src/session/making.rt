@@ -6,7 +6,7 @@ ghost use Rattle.hp_model.specs.declared.event.SlotEvent.TheVariants.{ForkMaps, 
 ghost use Rattle.hp_model.specs.machine.Step.{Script, exit_slot, finding, on_slot};
 ghost use Rattle.hp_model.specs.beside.Told.{told_answer, told_reply};
 ghost use Rattle.hp_model.specs.text.Writing.{IsWithinLimits};
-ghost use Rattle.hp_events.specs.SlotWork.{AreCopiesFor, asked_event};
+ghost use Rattle.hp_events.specs.Copies.{AreCopiesFor};
 ghost use Rattle.hp_events.specs.Replies.{table_reply};
 ghost use Rattle.hp_sessions.specs.Calls.{Carries, Grows, HasReceiptRoom, IsMade, Leads};
 ghost use Rattle.hp_sessions.specs.Forks.{IsForked};
@@ -15,7 +15,7 @@ ghost use Rattle.hp_events.specs.Fitting.{HasAnswerOf};
 
 use super::Session;
 use hp_events::copies::Copies;
-use hp_events::{Parts, SlotWork, TableTold};
+use hp_events::{LentEvent, Parts, TableTold};
 use hp_model::event::{PoolEvent, TableEvent};
 use hp_model::refusal::Refusal;
 use hp_model::told::Told;
@@ -65,25 +65,25 @@ impl<P: Parts> Session<P> {
     pub(super) fn make_slot<'b>(
         &mut self,
         slot: u64,
-        work: SlotWork<'_>,
+        event: &LentEvent<'_>,
         copies: Option<Copies>,
         room: &'b mut [u8],
     ) -> Result<Told<'b>, Refusal>
         requires places { HasReceiptRoom P.keeps 1 self.old }
-        requires plain { IsPlain work (length room.old) }
-        requires copies { P.keeps ≡ true → AreCopiesFor work copies }
+        requires plain { IsPlain event.now (length room.old) }
+        requires copies { P.keeps ≡ true → AreCopiesFor event.now copies }
         ensures carried { Carries P.keeps P.page self.old
-            (on_slot self.old.slots slot (asked_event work.entry))
+            (on_slot self.old.slots slot event.now)
             (told_reply result) self.new }
         ensures limits { IsWithinLimits (told_reply result) }
         ensures answer { IfOk result (λ told.
-            HasAnswerOf (asked_event work.entry) (told_answer told)) }
+            HasAnswerOf event.now (told_answer told)) }
     {
         let at = slot as usize;
         if at >= self.parts.count() {
             return Err(Refusal::NoSuchSlot);
         }
-        self.parts.slot(at, work, copies, room)
+        self.parts.slot(at, event, copies, room)
     }
 
     // The names of a slot's files.

@@ -2,8 +2,10 @@
 ghost use Rattle.hp_sessions.specs.Calls.{IsCallAnswered};
 
 use super::Session;
-use hp_events::{MountEvent, Parts, into_bytes, into_done};
+use hp_events::{Parts, into_bytes, into_done};
 use hp_model::answer::Reply;
+use hp_model::event::SlotEvent;
+use hp_model::lent::Lent;
 use hp_model::queued::Queued;
 use hp_model::refusal::Refusal;
 use hp_model::service::{Access, Service};
@@ -37,8 +39,9 @@ impl<P: Parts> Service for Session<P> {
         count: u64,
         room: &'b mut [u8],
     ) -> Result<&'b [u8], Refusal> {
-        let event = MountEvent::Load {
+        let event = SlotEvent::Load {
             task: access.task,
+            home: 0,
             map: access.map,
             index: access.index,
             offset: access.offset,
@@ -49,12 +52,13 @@ impl<P: Parts> Service for Session<P> {
     }
 
     fn store(&mut self, access: &Access, bytes: &[u8]) -> Result<(), Refusal> {
-        let event = MountEvent::Store {
+        let event = SlotEvent::Store {
             task: access.task,
+            home: 0,
             map: access.map,
             index: access.index,
             offset: access.offset,
-            bytes,
+            bytes: Lent::new(bytes),
         };
         let told = self.of_task(access.task, access.slot, event, &mut []);
         into_done(told)

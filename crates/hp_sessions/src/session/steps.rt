@@ -7,23 +7,23 @@ ghost use Rattle.hp_model.specs.beside.Accesses.{bytes_reply, done_reply, fault_
 ghost use Rattle.hp_model.specs.beside.Told.{told_answer, told_reply};
 ghost use Rattle.hp_model.specs.text.Writing.{IsWithinLimits};
 ghost use Rattle.hp_model.specs.Profile.{most_bytes};
-ghost use Rattle.hp_events.specs.Event.{as_event, shows_bytes};
-ghost use Rattle.hp_events.specs.SlotWork.{AreCopiesFor, asked_event, carries, is_of_maps, needs_room};
+ghost use Rattle.hp_events.specs.Copies.{AreCopiesFor};
+ghost use Rattle.hp_events.specs.Event.{is_of_maps, is_of_mount, shows_bytes};
+ghost use Rattle.hp_model.specs.beside.Copying.{has_bytes};
 ghost use Rattle.hp_events.specs.Replies.{table_reply};
 ghost use Rattle.hp_events.specs.declared.work.Work.TheVariants.{Attach as AttachATask, OfTask as OfATask, OnSlot as OnASlot, Pool as ThePool};
-ghost use Rattle.hp_events.specs.declared.event.MountEvent.TheVariants.{Stat as StatFile};
+ghost use Rattle.hp_model.specs.declared.event.SlotEvent.TheVariants.{Stat as StatFile};
 ghost use Rattle.hp_sessions.specs.Calls.{HasReceiptRoom, IsCallAnswered};
-ghost use Rattle.hp_events.specs.Works.{ListsByLsAlone};
+ghost use Rattle.hp_events.specs.Works.{IsPlainWork};
 ghost use Rattle.hp_events.specs.Fitting.{HasAnswerOf};
-ghost use Rattle.hp_sessions.specs.Works.{IsAsked, IsPlain, IsPlainEvent, IsWorked};
+ghost use Rattle.hp_sessions.specs.Works.{IsAsked, IsPlain, IsWorked};
 
 use super::Session;
-use hp_events::copies::Copies;
-use hp_events::{
-    MountEvent, Parts, SlotWork, TableTold, Work, into_bytes, into_done, most_receipts, work_of,
-};
+use hp_events::copies::{Copies, copies};
+use hp_events::{LentEvent, Parts, TableTold, Work, into_done, most_receipts, set_home, work_of};
 use hp_model::answer::Reply;
-use hp_model::event::{PoolEvent, TableEvent};
+use hp_model::event::{PoolEvent, SlotEvent, TableEvent};
+use hp_model::lent::Lent;
 use hp_model::profile::MOST_BYTES;
 use hp_model::refusal::Refusal;
 use hp_model::service::Access;
@@ -102,8 +102,7 @@ impl<P: Parts> Session<P> {
             self.new }
         ensures limits { IsWithinLimits (told_reply result) }
     {
-        let work = work_of(step);
-        self.do_work(&work, room)
+        self.do_work(work_of(step), room)
     }
 
     /// Does the step of a fault, as `call` does.
@@ -111,8 +110,9 @@ impl<P: Parts> Session<P> {
         ensures { IsCallAnswered P.keeps P.page self.old (fault_step access.now intent)
             (done_reply result) self.new }
     {
-        let event = MountEvent::Fault {
+        let event = SlotEvent::Fault {
             task: access.task,
+            home: 0,
             map: access.map,
             index: access.index,
             intent,
@@ -124,17 +124,17 @@ impl<P: Parts> Session<P> {
     // What a step asks of which part.
     #[tactic(auto, using(crate::proofs::Carrying::only_made))]
     #[inline(never)]
-    fn do_work<'b>(&mut self, work: &Work<'_>, room: &'b mut [u8]) -> Result<Told<'b>, Refusal>
+    fn do_work<'b>(&mut self, work: Work<'_>, room: &'b mut [u8]) -> Result<Told<'b>, Refusal>
         requires room { most_bytes ≤ length room.old }
-        requires apart { ListsByLsAlone work.now }
-        ensures worked { IsWorked P.keeps P.page self.old work.now (told_reply result)
+        requires apart { IsPlainWork work }
+        ensures worked { IsWorked P.keeps P.page self.old work.entry (told_reply result)
             self.new }
         ensures limits { IsWithinLimits (told_reply result) }
     {
-        if self.lacks(most_receipts(self.parts.count(), work)) {
+        if self.lacks(most_receipts(self.parts.count(), &work)) {
             return Err(Refusal::TraceFull);
         }
-        match *work {
+        match work {
             Work::Connect { task, home } => {
                 table_told(self.make_table(TableEvent::Add { task, home }))
             }
@@ -142,15 +142,8 @@ impl<P: Parts> Session<P> {
             Work::Pool(event) => self.make_pool(event),
             Work::Fork { parent, child } => Told::done(self.fork(parent, child)),
             Work::Exit { task } => Told::done(self.exit(task)),
-            Work::Mount { slot, options } => self.on_slot(slot, SlotWork::Mount { options }, room),
-            Work::Remount { slot, options } => {
-                self.on_slot(slot, SlotWork::Remount { options }, room)
-            }
-            Work::Umount { slot } => self.on_slot(slot, SlotWork::Umount, room),
             Work::Ls { slot } => self.make_names(slot),
-            Work::OnSlot { slot, event } => {
-                self.on_slot(slot, SlotWork::OfMount { home: 0, event }, room)
-            }
+            Work::OnSlot { slot, event } => self.on_slot(slot, &event, room),
             Work::OfTask { task, slot, event } => self.of_task(task, slot, event, room),
         }
     }
@@ -184,15 +177,17 @@ impl<P: Parts> Session<P> {
     // The size of a file and its pages.
     #[inline(always)]
     fn stat<'b>(&mut self, slot: u64, name: &[u8], room: &'b mut [u8]) -> Result<Told<'b>, Refusal>
-        ensures worked { IsWorked P.keeps P.page self.old (OnASlot slot (StatFile name.entry))
+        ensures worked { IsWorked P.keeps P.page self.old (OnASlot slot (StatFile name.now))
             (told_reply result) self.new }
         ensures limits { IsWithinLimits (told_reply result) }
     {
         if self.lacks(1) {
             return Err(Refusal::TraceFull);
         }
-        let event = MountEvent::Stat { name };
-        self.on_slot(slot, SlotWork::OfMount { home: 0, event }, room)
+        let event = SlotEvent::Stat {
+            name: Lent::new(name),
+        };
+        self.on_slot(slot, &event, room)
     }
 
     // What is asked of a slot without a task being looked up.
@@ -200,17 +195,17 @@ impl<P: Parts> Session<P> {
     fn on_slot<'b>(
         &mut self,
         slot: u64,
-        work: SlotWork<'_>,
+        event: &LentEvent<'_>,
         room: &'b mut [u8],
     ) -> Result<Told<'b>, Refusal>
         requires places { HasReceiptRoom P.keeps 1 self.old }
-        requires plain { IsPlain work (length room.old) }
-        ensures asked { IsAsked P.keeps P.page self.old slot work.entry (told_reply result)
+        requires plain { IsPlain event.now (length room.old) }
+        ensures asked { IsAsked P.keeps P.page self.old slot event.now (told_reply result)
             self.new }
         ensures limits { IsWithinLimits (told_reply result) }
     {
-        match self.copies(&work) {
-            Ok(copies) => self.make_slot(slot, work, copies, room),
+        match self.copies(event) {
+            Ok(copies) => self.make_slot(slot, event, copies, room),
             Err(AllocError) => Err(Refusal::OutOfMemory),
         }
     }
@@ -221,24 +216,28 @@ impl<P: Parts> Session<P> {
         &mut self,
         task: u64,
         slot: u64,
-        event: MountEvent<'_>,
+        event: LentEvent<'_>,
         room: &'b mut [u8],
     ) -> Result<Told<'b>, Refusal>
-        requires plain { IsPlainEvent event (length room.old) }
+        requires plain { IsPlain event (length room.old) }
         ensures worked { IsWorked P.keeps P.page self.old (OfATask task slot event.entry)
             (told_reply result) self.new }
         ensures limits { IsWithinLimits (told_reply result) }
         ensures answer { IfOk result (λ told.
-            HasAnswerOf (as_event 0 event.entry) (told_answer told)) }
+            HasAnswerOf event.entry (told_answer told)) }
     {
         if self.lacks(2) {
             return Err(Refusal::TraceFull);
         }
-        let Ok(copies) = self.copies(&SlotWork::OfMount { home: 0, event }) else {
+        let mut event = event;
+        let Ok(copies) = self.copies(&event) else {
             return Err(Refusal::OutOfMemory);
         };
         match self.find(task) {
-            Ok(home) => self.make_slot(slot, SlotWork::OfMount { home, event }, copies, room),
+            Ok(home) => {
+                set_home(&mut event, home);
+                self.make_slot(slot, &event, copies, room)
+            }
             Err(refusal) => Err(refusal),
         }
     }
@@ -255,14 +254,14 @@ impl<P: Parts> Session<P> {
 
     // Copies of what is carried, where entries are kept.
     #[inline(always)]
-    fn copies(&self, work: &SlotWork<'_>) -> Result<Option<Copies>, AllocError>
-        ensures copies { IfOk result (λ c. P.keeps ≡ true → AreCopiesFor work.now c) }
-        ensures memory { OnErr result ((P.keeps ≡ true) × (carries work.now ≡ true)) }
+    fn copies(&self, event: &LentEvent<'_>) -> Result<Option<Copies>, AllocError>
+        ensures copies { IfOk result (λ c. P.keeps ≡ true → AreCopiesFor event.now c) }
+        ensures memory { OnErr result ((P.keeps ≡ true) × (has_bytes event.now ≡ true)) }
     {
         if !self.parts.is_kept() {
             return Ok(None);
         }
-        work.copies(self.parts.alloc())
+        copies(self.parts.alloc(), event)
     }
 }
 

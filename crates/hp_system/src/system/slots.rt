@@ -7,93 +7,51 @@ ghost use Rattle.hp_model.specs.machine.State.{slot_at};
 ghost use Rattle.hp_model.specs.beside.Told.{told_reply};
 ghost use Rattle.hp_model.specs.text.Writing.{IsWithinLimits};
 ghost use Rattle.hp_model.specs.Profile.{most_bytes};
-ghost use Rattle.hp_events.specs.Event.{as_event, is_usage};
+ghost use Rattle.hp_events.specs.Event.{is_of_maps, is_usage};
 ghost use Rattle.hp_events.specs.Memory.{asks_memory};
-ghost use Rattle.hp_events.specs.SlotWork.{asked_event, is_of_maps};
 ghost use Rattle.hp_system.specs.Event.{AreExited, AreForked, DoesOnSlot, IsForkedOn, mapped_slots};
 ghost use Rattle.hp_model.specs.machine.Ready.{IsReadyMachine};
 
 use super::System;
-use hp_events::{MountEvent, SlotWork};
+use hp_events::LentEvent;
 use hp_model::naming::Naming;
 use hp_model::refusal::Refusal;
 use hp_model::told::Told;
-use hp_slot::{act, ask, fork, has_maps, leave};
-
-// The place of the slot of that number; or the refusal put in the reply's place where there is no such slot.
-macro_rules! within {
-    ($system:ident, $slot:ident, $at:ident, $reply:ident) => {
-        let $at = $slot as usize;
-        if $at >= $system.slots.len() {
-            *$reply = Err(Refusal::NoSuchSlot);
-            return;
-        }
-    };
-}
+use hp_slot::{ask, fork, has_maps, leave};
 
 impl<N: Naming> System<N> {
-    // A mount, a remount or an umount of the slot of that number. Refused as NoSuchSlot where there is no such slot, and else
-    // as the slot refuses it; then nothing changes. The reply is put in its place.
+    // An event of the slot of that number. Refused as NoSuchSlot where there is no such slot, and else as the slot refuses it;
+    // then nothing changes. The reply is put in its place, and bytes in the front of the room.
     #[inline(always)]
-    pub(crate) fn ask_slot<'a>(
+    pub(crate) fn on_slot<'a>(
         &mut self,
         slot: u64,
-        work: SlotWork<'_>,
+        event: &LentEvent<'_>,
         room: &'a mut [u8],
         reply: &mut Result<Told<'a>, Refusal>,
     )
         requires ready { IsReadyMachine self.old }
         requires room { most_bytes ≤ length room.old }
-        requires plain { is_of_maps work ≡ false }
-        ensures done { DoesOnSlot self.old.state slot (asked_event work.entry)
+        requires plain { is_of_maps event.now ≡ false }
+        ensures done { DoesOnSlot self.old.state slot event.now
             (told_reply reply.new) self.new.state }
-        ensures memory { asks_memory (slot_at self.old.state slot) (asked_event work.entry)
-            ≡ false → told_reply reply.new ≢ Err Refusal.OutOfMemory }
+        ensures memory { asks_memory (slot_at self.old.state slot) event.now ≡ false
+            → told_reply reply.new ≢ Err Refusal.OutOfMemory }
+        ensures limits { is_usage event.now ≡ true → IsWithinLimits (told_reply reply.new) }
         ensures size { self.new.state.page_size ≡ self.old.state.page_size }
         ensures ready { IsReadyMachine self.new }
     {
-        within!(self, slot, at, reply);
+        let at = slot as usize;
+        if at >= self.slots.len() {
+            *reply = Err(Refusal::NoSuchSlot);
+            return;
+        }
         ask(
             &mut self.slots[at],
             slot,
             &mut self.pool,
             self.alloc,
             self.page_bytes as u64,
-            work,
-            room,
-            reply,
-        );
-    }
-
-    // What a step asks of the mount of a slot, for a task with that home node. Refused as NoSuchSlot
-    // where there is no such slot or it is not mounted, and else as the mount refuses it; then
-    // nothing changes. The reply is put in its place, and bytes in the front of the room.
-    #[inline(always)]
-    pub(crate) fn on_slot<'a>(
-        &mut self,
-        slot: u64,
-        home: u64,
-        event: &MountEvent<'_>,
-        room: &'a mut [u8],
-        reply: &mut Result<Told<'a>, Refusal>,
-    )
-        requires ready { IsReadyMachine self.old }
-        requires room { most_bytes ≤ length room.old }
-        ensures done { DoesOnSlot self.old.state slot (as_event home event.now)
-            (told_reply reply.new) self.new.state }
-        ensures memory { asks_memory (slot_at self.old.state slot) (as_event home event.now)
-            ≡ false → told_reply reply.new ≢ Err Refusal.OutOfMemory }
-        ensures limits { is_usage (as_event home event.now) ≡ true
-            → IsWithinLimits (told_reply reply.new) }
-        ensures size { self.new.state.page_size ≡ self.old.state.page_size }
-        ensures ready { IsReadyMachine self.new }
-    {
-        within!(self, slot, at, reply);
-        act(
-            &mut self.slots[at],
-            &mut self.pool,
-            self.page_bytes as u64,
-            home,
             event,
             room,
             reply,

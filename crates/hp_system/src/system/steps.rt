@@ -1,6 +1,6 @@
 //! Steps of all kinds.
 ghost use Rattle.std.specs.Prelude.{◌≡◌, ◌≢◌, ◌≤◌, true, false, length, Err, IfOk, Ok, OnErr};
-ghost use Rattle.hp_events.specs.Works.{is_usage_work, takes_memory_for, work_script};
+ghost use Rattle.hp_events.specs.Works.{IsPlainWork, is_usage_work, takes_memory_for, work_script};
 ghost use Rattle.hp_model.specs.declared.answer.Answer.TheVariants.{Number, Numbers};
 ghost use Rattle.hp_model.specs.declared.event.Event.TheVariants.{Pool as OnPool};
 ghost use Rattle.hp_model.specs.declared.refusal.Refusal.TheVariants as Refusal;
@@ -16,9 +16,9 @@ ghost use Rattle.hp_model.specs.Profile.{most_bytes};
 ghost use Rattle.hp_model.specs.machine.Ready.{IsReadyMachine};
 
 use super::System;
-use hp_events::{MountEvent, SlotWork, Work};
+use hp_events::{Work, set_home};
 use hp_model::answer::{Counts, NodeCount, Reply};
-use hp_model::event::PoolEvent;
+use hp_model::event::{PoolEvent, SlotEvent};
 use hp_model::naming::Naming;
 use hp_model::profile::{MOST_BYTES, MOST_OVERCOMMIT};
 use hp_model::refusal::Refusal;
@@ -237,6 +237,7 @@ impl<N: Naming> System<N> {
     )
         requires ready { IsReadyMachine self.old }
         requires room { most_bytes ≤ length room.old }
+        requires plain { IsPlainWork work }
         ensures done { IsScript self.old.state
             (work_script (length self.old.state.slots) work.entry) (told_reply reply.new)
             self.new.state }
@@ -252,17 +253,17 @@ impl<N: Naming> System<N> {
             Work::Pool(event) => self.tell_pool(event, reply),
             Work::Fork { parent, child } => tell_done(self.fork(parent, child), reply),
             Work::Exit { task } => tell_done(self.exit(task), reply),
-            Work::Mount { slot, options } => {
-                self.ask_slot(slot, SlotWork::Mount { options }, room, reply)
-            }
-            Work::Remount { slot, options } => {
-                self.ask_slot(slot, SlotWork::Remount { options }, room, reply)
-            }
-            Work::Umount { slot } => self.ask_slot(slot, SlotWork::Umount, room, reply),
-            Work::Ls { slot } => self.on_slot(slot, 0, &MountEvent::Ls, room, reply),
-            Work::OnSlot { slot, event } => self.on_slot(slot, 0, &event, room, reply),
-            Work::OfTask { task, slot, event } => match self.table.home(task) {
-                Some(home) => self.on_slot(slot, home, &event, room, reply),
+            Work::Ls { slot } => self.on_slot(slot, &SlotEvent::Ls, room, reply),
+            Work::OnSlot { slot, event } => self.on_slot(slot, &event, room, reply),
+            Work::OfTask {
+                task,
+                slot,
+                mut event,
+            } => match self.table.home(task) {
+                Some(home) => {
+                    set_home(&mut event, home);
+                    self.on_slot(slot, &event, room, reply)
+                }
                 None => *reply = Err(Refusal::NoSuchTask),
             },
         }

@@ -13,21 +13,21 @@ into_bytes-requires-clause-bytes g c =
     let a = c.access.result.now in
     fits_result (g.row.K == 1) g.N.Naming.page_bytes c.args.slot.now.slot.number (slot.Load a.task c.in_ok-home.home a.map a.index a.offset c.in-Load.count) c.unnoted-told.result.0
     c.look.new.self.receipts c.unnoted-told.new.self.receipts
-    (handed_of _ _ _ _ _ _ _ _ (c.load_of-event.ensures c.in_ok-home.home) c.unnoted-told.ensures.handed)
+    (handed_of _ _ _ _ _ _ _ _ c.load_of-event.ensures c.unnoted-told.ensures.handed)
 
 pub into_done-requires : goal.into_done-requires
 into_done-requires g c =
     let a = c.access.result.now in
     fits_result (g.row.K == 1) g.N.Naming.page_bytes c.args.slot.now.slot.number (slot.Store a.task c.in_ok-home.home a.map a.index a.offset c.in-Store.bytes.now)
     c.unnoted-told-in-Store.result.0 c.look.new.self.receipts c.unnoted-told-in-Store.new.self.receipts
-    (handed_of _ _ _ _ _ _ _ _ (c.store_of-event.ensures.event c.in_ok-home.home) c.unnoted-told-in-Store.ensures.handed)
+    (handed_of _ _ _ _ _ _ _ _ c.store_of-event.ensures c.unnoted-told-in-Store.ensures.handed)
 
 pub into_done-requires-in-Fault : goal.into_done-requires-in-Fault
 into_done-requires-in-Fault g c =
     let a = c.access.result.now in
     fits_result (g.row.K == 1) g.N.Naming.page_bytes c.args.slot.now.slot.number (slot.Fault a.task c.in_ok-home.home a.map a.index c.in-Fault.intent)
     c.unnoted-told-in-Fault.result.0 c.look.new.self.receipts c.unnoted-told-in-Fault.new.self.receipts
-    (handed_of _ _ _ _ _ _ _ _ (c.fault_of-event.ensures.event c.in_ok-home.home) c.unnoted-told-in-Fault.ensures.handed)
+    (handed_of _ _ _ _ _ _ _ _ c.fault_of-event.ensures c.unnoted-told-in-Fault.ensures.handed)
 
 pub returns-in-Load-clause-done : goal.returns-in-Load-clause-done
 returns-in-Load-clause-done g c =
@@ -47,7 +47,7 @@ returns-in-Load-clause-done g c =
       c.if-access-at.false,
       found_handed (g.row.K == 1) size at a.task c.in_ok-home.home event told was mid now c.requires.unkept (c.in_ok-home.ensures.found size)
           (subst (λ (n : ℕ). IsHanded (g.row.K == 1) size (OnSlot n (event c.in_ok-home.home)) told mid now) c.requires.number
-          (handed_of _ _ _ _ _ _ _ _ (c.load_of-event.ensures c.in_ok-home.home) c.unnoted-told.ensures.handed)),
+          (handed_of _ _ _ _ _ _ _ _ c.load_of-event.ensures c.unnoted-told.ensures.handed)),
     ))
 
 pub returns-in-Store-clause-done : goal.returns-in-Store-clause-done
@@ -68,7 +68,7 @@ returns-in-Store-clause-done g c =
       c.if-access-at.false,
       found_handed (g.row.K == 1) size at a.task c.in_ok-home.home event told was mid now c.requires.unkept (c.in_ok-home.ensures.found size)
           (subst (λ (n : ℕ). IsHanded (g.row.K == 1) size (OnSlot n (event c.in_ok-home.home)) told mid now) c.requires.number
-          (handed_of _ _ _ _ _ _ _ _ (c.store_of-event.ensures.event c.in_ok-home.home) c.unnoted-told-in-Store.ensures.handed)),
+          (handed_of _ _ _ _ _ _ _ _ c.store_of-event.ensures c.unnoted-told-in-Store.ensures.handed)),
     ))
 
 pub returns-in-Fault-clause-done : goal.returns-in-Fault-clause-done
@@ -89,5 +89,5 @@ returns-in-Fault-clause-done g c =
       c.if-access-at.false,
       found_handed (g.row.K == 1) size at a.task c.in_ok-home.home event told was mid now c.requires.unkept (c.in_ok-home.ensures.found size)
           (subst (λ (n : ℕ). IsHanded (g.row.K == 1) size (OnSlot n (event c.in_ok-home.home)) told mid now) c.requires.number
-          (handed_of _ _ _ _ _ _ _ _ (c.fault_of-event.ensures.event c.in_ok-home.home) c.unnoted-told-in-Fault.ensures.handed)),
+          (handed_of _ _ _ _ _ _ _ _ c.fault_of-event.ensures c.unnoted-told-in-Fault.ensures.handed)),
     ))

@@ -1,7 +1,6 @@
 use Rattle.hp_model.proofs.Words.{told_reply}
-use Rattle.hp_events.specs.SlotWork.{asked_event}
 use Rattle.hp_shared.proofs.seats.leave.Given as goal
 
 -- what was asked, with its reply
 abbrev pub ghosts-leave : goal.ghosts-leave
-ghosts-leave g a = record { event = asked_event a.told.0; reply = told_reply a.told.1.now }
+ghosts-leave g a = record { event = a.told.0.now; reply = told_reply a.told.1.now }

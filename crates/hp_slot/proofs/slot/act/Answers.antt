@@ -1,5 +1,4 @@
 use Rattle.std.proofs.Common.{Err, sym, subst}
-use Rattle.hp_events.specs.Event.{as_event}
 use Rattle.hp_model.specs.declared.refusal.Refusal.TheVariants.{NoSuchSlot}
 use Rattle.hp_model.proofs.Words.{Slot}
 use Rattle.hp_mount_laws.specs.Done.{IsDone}
@@ -9,6 +8,6 @@ use Rattle.hp_slot.proofs.slot.act.Goals as goal
 pub returns-in_default-clause-done : goal.returns-in_default-clause-done
 returns-in_default-clause-done g c = λ k.
     let door = c.args.door.now in
-    let e = as_event c.args.home c.args.event.now in
+    let e = c.args.event.now in
     subst (λ (s : Slot). IsDone g.D.PoolDoor.took g.D.PoolDoor.is_full g.N.Naming.page_bytes k s door e (Err NoSuchSlot) s door) (sym c.in_default.is)
-    (none_done g.D.PoolDoor.took g.D.PoolDoor.is_full g.N.Naming.page_bytes k c.args.home c.args.event.now door)
+    (none_done g.D.PoolDoor.took g.D.PoolDoor.is_full g.N.Naming.page_bytes k e door c.requires.of_mount)

@@ -1,5 +1,6 @@
 use Rattle.std.proofs.Common.{sym, ◌∙◌, ℕ, List, ap}
 use Rattle.std.proofs.lemmas.Bool.{false≢true}
+use Rattle.hp_model.specs.contracts.bytes.Bytes as Bytes
 use Rattle.hp_model.specs.contracts.event.SlotEvent as SlotEvent
 use Rattle.hp_model.specs.contracts.step.Sharing as Sharing
 use Rattle.hp_model.specs.contracts.step.Reserving as Reserving
@@ -26,12 +27,12 @@ abbrev three_numbers : Test (ℕ × (ℕ × (ℕ × Unit {0})))
 three_numbers = field_then number (field_then number number_last)
 
 -- each variant in its place
-abbrev slot_event : Test SlotEvent.enum.D
+abbrev slot_event : Test (SlotEvent.enum Bytes.the_row).D
 slot_event =
     let mapped = field_then number (field_then number (field_then sharing (last_field reserving))) in
     let at_page = field_then number three_numbers in
     let named_range = field_then numbers (field_then number number_last) in
-    variants SlotEvent.enum (
+    variants (SlotEvent.enum Bytes.the_row) (
     bytes_last ▹ bytes_last ▹ no_field ▹ bytes_last ▹ bytes_last ▹ field_then numbers number_last ▹ named_range ▹ named_range ▹ field_then
     numbers three_numbers ▹ no_field ▹ bytes_last ▹ no_field
     ▹ field_then number (field_then number (field_then numbers mapped)) ▹ field_then number mapped ▹ at_page ▹ field_then number

@@ -1,9 +1,7 @@
 use Rattle.std.proofs.lemmas.Grind.{common_steps}
 use Rattle.std.proofs.Common.{◌≡◌, ℕ, Bool, true, false, not, Ok, Err, Some, refl, arith}
 use Rattle.hp_model.proofs.Words.{Choice, Reply, Slot, slot_event, told_reply}
-use Rattle.hp_laws.proofs.Variants.{PoolAnswer, Section, TraceFull}
-use Rattle.hp_events.specs.Event.{as_event}
-use Rattle.hp_events.specs.declared.event.MountEvent.{MountEvent}
+use Rattle.hp_laws.proofs.Variants.{PoolAnswer, Section, SlotEvent, TraceFull}
 use Rattle.hp_mount_laws.specs.Alone.{IsDoneAlone}
 use Rattle.hp_mount_laws.specs.Done.{IsDone}
 use Rattle.hp_mount_laws.proofs.Replies.{bytes_not_memory, done_not_memory, told_as}
@@ -11,19 +9,19 @@ use Rattle.hp_mount_laws.proofs.Ways.{alone_is_done}
 use Rattle.hp_mount.proofs.mount.Mount.apply.Goals as goal
 
 -- an event that asks nothing of the pool
-alone : {X : Type 0} (took : X → Section → PoolAnswer → X → Type 0) (full : X → Type 0) (size k home : ℕ) (old new : Slot) (door : X) {e f : MountEvent} {a b : Reply} →
-    e ≡ f → a ≡ b → (b ≡ Err TraceFull → ⊥) → IsDoneAlone size k old (as_event home f) b new
-    → IsDone took full size k old door (as_event home e) a new door
-alone took full size k home old new door {e} {f} {a} {b} event reply noted ends =
-    told_as took full size k home old new door door event reply
-    (alone_is_done took full (λ (x : Choice). slot_event size k x old (as_event home f)) old new door b noted ends)
+alone : {X : Type 0} (took : X → Section → PoolAnswer → X → Type 0) (full : X → Type 0) (size k : ℕ) (old new : Slot) (door : X) {e f : SlotEvent} {a b : Reply} →
+    e ≡ f → a ≡ b → (b ≡ Err TraceFull → ⊥) → IsDoneAlone size k old f b new
+    → IsDone took full size k old door e a new door
+alone took full size k old new door {e} {f} {a} {b} event reply noted ends =
+    told_as took full size k old new door door event reply
+    (alone_is_done took full (λ (x : Choice). slot_event size k x old f) old new door b noted ends)
 
 pub returns-in-Create-clause-done : goal.returns-in-Create-clause-done
 returns-in-Create-clause-done g c k = grind (arith, common_steps, alone)
 
 pub returns-in-Df-clause-done : goal.returns-in-Df-clause-done
 returns-in-Df-clause-done g c k =
-    alone g.D.PoolDoor.took g.D.PoolDoor.is_full g.N.Naming.page_bytes k c.args.home (Some c.args.self.now) (Some c.args.self.now) c.args.door.now
+    alone g.D.PoolDoor.took g.D.PoolDoor.is_full g.N.Naming.page_bytes k (Some c.args.self.now) (Some c.args.self.now) c.args.door.now
     {a = told_reply (Ok c.usage.result)} c.in-Df.is refl (λ e. cc) (c.usage.ensures.done g.N.Naming.page_bytes k)
 
 pub returns-in-Ls-clause-done : goal.returns-in-Ls-clause-done

@@ -1,7 +1,6 @@
 use Rattle.std.proofs.Common.{ap, arith}
 use Rattle.hp_laws.proofs.Variants.{Slot as OnSlot}
 use Rattle.hp_model.proofs.Words.{told_reply}
-use Rattle.hp_events.specs.SlotWork.{asked_event}
 use Rattle.hp_sessions.specs.Calls.{SessionView}
 use Rattle.hp_sessions.proofs.Carrying.{made_by, no_slot, on_slot_made}
 use Rattle.hp_events.proofs.Fitting.{fits_result}
@@ -11,13 +10,13 @@ pub returns-then-at-count-clause-carried : goal.returns-then-at-count-clause-car
 returns-then-at-count-clause-carried g c =
     let many = c.count.ensures.count in
     let same = ap (λ (v : SessionView). v.slots) c.self.view_is in
-    no_slot g.P.Parts.keeps g.P.Parts.page c.args.self.now c.args.slot (asked_event c.args.work) (let over = c.if-at-count.true in omega (arith, many, same, over))
+    no_slot g.P.Parts.keeps g.P.Parts.page c.args.self.now c.args.slot c.args.event.now (let over = c.if-at-count.true in omega (arith, many, same, over))
 
 pub returns-clause-carried : goal.returns-clause-carried
 returns-clause-carried g c =
     let many = c.count.ensures.count in
     let same = ap (λ (v : SessionView). v.slots) c.self.view_is in
-    let e = asked_event c.args.work in
+    let e = c.args.event.now in
     let t : SessionView = record { slots = g.P.Parts.slots c.slot.new.self; receipts = g.P.Parts.told c.slot.new.self; room = g.P.Parts.places c.slot.new.self } in
     on_slot_made g.P.Parts.keeps g.P.Parts.page c.args.self.now t c.args.slot e (told_reply c.slot.result)
     (let under = c.if-at-count.false in omega (arith, many, same, under))
@@ -25,4 +24,4 @@ returns-clause-carried g c =
 
 pub returns-clause-answer : goal.returns-clause-answer
 returns-clause-answer g c =
-    fits_result g.P.Parts.keeps g.P.Parts.page c.args.slot (asked_event c.args.work) c.slot.result (g.P.Parts.told c.self.inside.parts) (g.P.Parts.told c.slot.new.self) c.slot.ensures.handed
+    fits_result g.P.Parts.keeps g.P.Parts.page c.args.slot c.args.event.now c.slot.result (g.P.Parts.told c.self.inside.parts) (g.P.Parts.told c.slot.new.self) c.slot.ensures.handed
