@@ -159,7 +159,7 @@ impl<'a, N: Naming + Places, R: Wait, G: Gate, const K: usize> Parts for Entranc
     fn slot<'b>(
         &mut self,
         at: usize,
-        event: &LentEvent<'_>,
+        event: LentEvent<'_>,
         copies: Option<Copies>,
         room: &'b mut [u8],
     ) -> Result<Told<'b>, Refusal> {
@@ -168,7 +168,7 @@ impl<'a, N: Naming + Places, R: Wait, G: Gate, const K: usize> Parts for Entranc
         self.gate.enter(at as u64);
         let slot: &mut SeatedSlot<N, Trace<SlotEntry, K>> = &mut value;
         let ways = shared.ways(self.rt, self.gate);
-        if K != 1 && is_of_mount(event) {
+        if K != 1 && is_of_mount(&event) {
             let (told, _entered) = self
                 .member
                 .unnoted(&ways, slot, shared.page_bytes(), event, room);
@@ -192,7 +192,7 @@ impl<'a, N: Naming + Places, R: Wait, G: Gate, const K: usize> Parts for Entranc
         let event = SlotEvent::ForkMaps { parent, child };
         let told = self
             .member
-            .slot(&ways, slot, alloc, page_bytes, &event, None, &mut []);
+            .slot(&ways, slot, alloc, page_bytes, event, None, &mut []);
         match told {
             Ok(_done) => Some(Ok(())),
             Err(refusal) => Some(Err(refusal)),
@@ -212,7 +212,7 @@ impl<'a, N: Naming + Places, R: Wait, G: Gate, const K: usize> Parts for Entranc
         let event = SlotEvent::ExitMaps { task };
         let _done = self
             .member
-            .slot(&ways, slot, alloc, page_bytes, &event, None, &mut []);
+            .slot(&ways, slot, alloc, page_bytes, event, None, &mut []);
         true
     }
 

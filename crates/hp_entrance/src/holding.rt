@@ -77,19 +77,19 @@ fn held_access<N: Naming + Places, R: Wait, G: Gate, const K: usize>(
     match queued.doing() {
         Doing::Load { count } => {
             let event = load_of(&access, home, count);
-            let (told, entered) = member.unnoted(ways, slot, page_bytes, &event, room);
+            let (told, entered) = member.unnoted(ways, slot, page_bytes, event, room);
             queued.answer_load(into_bytes(told));
             Some(entered)
         }
         Doing::Store { bytes } => {
             let event = store_of(&access, home, bytes);
-            let (told, entered) = member.unnoted(ways, slot, page_bytes, &event, &mut []);
+            let (told, entered) = member.unnoted(ways, slot, page_bytes, event, &mut []);
             queued.answer_done(into_done(told));
             Some(entered)
         }
         Doing::Fault { intent } => {
             let event = fault_of(&access, home, intent);
-            let (told, entered) = member.unnoted(ways, slot, page_bytes, &event, &mut []);
+            let (told, entered) = member.unnoted(ways, slot, page_bytes, event, &mut []);
             queued.answer_done(into_done(told));
             Some(entered)
         }

@@ -219,29 +219,29 @@ impl<N: Naming + Places, const K: usize> Member<N, K> {
         slot: &mut SeatedSlot<N, Trace<SlotEntry, K>>,
         alloc: Global,
         page_bytes: u64,
-        event: &LentEvent<'_>,
+        event: LentEvent<'_>,
         copies: Option<Copies>,
         room: &'b mut [u8],
     ) -> Result<Told<'b>, Refusal>
         requires place { HasPlace (K == 1) self.old.receipts self.old.room }
         requires page_bytes { page_bytes ≡ N.page_bytes }
         requires bytes { 0 < page_bytes }
-        requires room { shows_bytes event.now ≡ true → most_bytes ≤ length room.old }
-        requires apart { lists_names event.now ≡ false }
-        requires another { IsAnother event.now }
-        requires has { has_maps_for event.now slot.old.slot.mount ≡ true }
-        requires copies { (K == 1) ≡ true → AreCopiesFor event.now copies }
+        requires room { shows_bytes event ≡ true → most_bytes ≤ length room.old }
+        requires apart { lists_names event ≡ false }
+        requires another { IsAnother event }
+        requires has { has_maps_for event slot.old.slot.mount ≡ true }
+        requires copies { (K == 1) ≡ true → AreCopiesFor event copies }
         ensures handed { IsHanded (K == 1) N.page_bytes
-            (OnSlot slot.old.slot.number event.now) (told_reply result)
+            (OnSlot slot.old.slot.number event.entry) (told_reply result)
             self.old.receipts self.new.receipts }
         ensures limits { IsWithinLimits (told_reply result) }
-        ensures exit { is_exit event.now ≡ true → told_reply result ≡ Ok Done }
+        ensures exit { is_exit event.entry ≡ true → told_reply result ≡ Ok Done }
         ensures number { self.new.number ≡ self.old.number }
         ensures room { self.new.room ≡ self.old.room }
     {
         let Member { seat, receipts, .. } = self;
         let mine = mem::replace(seat, Badge::blank()).into_seat();
-        let (mine, told, receipt) = slot.work(ways, mine, alloc, page_bytes, event, copies, room);
+        let (mine, told, receipt) = slot.work(ways, mine, alloc, page_bytes, &event, copies, room);
         *seat = mine.into_badge();
         keep(receipts, receipt);
         told
@@ -255,16 +255,16 @@ impl<N: Naming + Places, const K: usize> Member<N, K> {
         ways: &Ways<'_, N, R, G, K>,
         slot: &mut SeatedSlot<N, Trace<SlotEntry, K>>,
         page_bytes: u64,
-        event: &LentEvent<'_>,
+        event: LentEvent<'_>,
         room: &'b mut [u8],
     ) -> (Result<Told<'b>, Refusal>, bool)
         requires unkept { (K == 1) ≡ false }
         requires page_bytes { page_bytes ≡ N.page_bytes }
-        requires of_mount { is_of_mount event.now ≡ true }
-        requires room { shows_bytes event.now ≡ true → most_bytes ≤ length room.old }
-        requires apart { lists_names event.now ≡ false }
+        requires of_mount { is_of_mount event ≡ true }
+        requires room { shows_bytes event ≡ true → most_bytes ≤ length room.old }
+        requires apart { lists_names event ≡ false }
         ensures handed { IsHanded (K == 1) N.page_bytes
-            (OnSlot slot.old.slot.number event.now) (told_reply result.0)
+            (OnSlot slot.old.slot.number event.entry) (told_reply result.0)
             self.old.receipts self.new.receipts }
         ensures limits { IsWithinLimits (told_reply result.0) }
         ensures slot { slot.new.slot.number ≡ slot.old.slot.number }

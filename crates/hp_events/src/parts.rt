@@ -89,17 +89,17 @@ pub trait Parts: Drop {
     fn slot<'b>(
         &mut self,
         at: usize,
-        event: &LentEvent<'_>,
+        event: LentEvent<'_>,
         copies: Option<Copies>,
         room: &'b mut [u8],
     ) -> Result<Told<'b>, Refusal>
         requires within { at < slots self.old }
         requires place { HasPlace keeps (told self.old) (places self.old) }
-        requires room { shows_bytes event.now ≡ true → most_bytes ≤ length room.old }
-        requires apart { lists_names event.now ≡ false }
-        requires always { is_of_maps event.now ≡ false }
-        requires copies { keeps ≡ true → AreCopiesFor event.now copies }
-        ensures handed { IsHanded keeps page (OnSlot at event.now)
+        requires room { shows_bytes event ≡ true → most_bytes ≤ length room.old }
+        requires apart { lists_names event ≡ false }
+        requires always { is_of_maps event ≡ false }
+        requires copies { keeps ≡ true → AreCopiesFor event copies }
+        ensures handed { IsHanded keeps page (OnSlot at event.entry)
             (told_reply result) (told self.old) (told self.new) }
         ensures limits { IsWithinLimits (told_reply result) }
         ensures slots { slots self.new ≡ slots self.old }

@@ -168,7 +168,7 @@ impl<N: Naming + Places, T: Trail<SlotEntry>> SeatedSlot<N, T> {
         ways: &Ways<'_, N, R, G, K>,
         mine: Token,
         page_bytes: u64,
-        event: &LentEvent<'_>,
+        event: LentEvent<'_>,
         room: &'a mut [u8],
     ) -> (Token, Result<Told<'a>, Refusal>, bool)
         requires named { mine.table_id ≡ N.history }
@@ -177,13 +177,13 @@ impl<N: Naming + Places, T: Trail<SlotEntry>> SeatedSlot<N, T> {
         requires keeps { (K == 1) ≡ T.keeps }
         requires unkept { T.keeps ≡ false }
         requires page_bytes { page_bytes ≡ N.page_bytes }
-        requires of_mount { is_of_mount event.now ≡ true }
-        requires room { shows_bytes event.now ≡ true → most_bytes ≤ length room.old }
-        requires apart { lists_names event.now ≡ false }
+        requires of_mount { is_of_mount event ≡ true }
+        requires room { shows_bytes event ≡ true → most_bytes ≤ length room.old }
+        requires apart { lists_names event ≡ false }
         ensures named { result.0.table_id ≡ N.history }
         ensures alone { result.0.me.1 ≡ [] }
         ensures done { IsSeatedDone T.keeps N.page_bytes self.old self.new
-            event.now (told_reply result.1) mine.me.0 result.0.me.0 None }
+            event.entry (told_reply result.1) mine.me.0 result.0.me.0 None }
         ensures number { self.new.slot.number ≡ self.old.slot.number }
         ensures keeps { is_trace_full (told_reply result.1) ≡ false }
         ensures limits { IsWithinLimits (told_reply result.1) }
@@ -192,10 +192,10 @@ impl<N: Naming + Places, T: Trail<SlotEntry>> SeatedSlot<N, T> {
         let mut mine = mine;
         join(ways.history, seat, &mut mine);
         let mut door: Door<'_, N, R, G, Entered, K> = Door::new(ways, mine);
-        let told = slot.event_unnoted(event, &mut door, page_bytes, room);
+        let told = slot.event_unnoted(&event, &mut door, page_bytes, room);
         let entered = door.is_entered();
         let mut mine = door.into_mine();
-        *seat = ways.history.leave::<Brand, _>(&mut mine, (event, &told));
+        *seat = ways.history.leave::<Brand, _>(&mut mine, (&event, &told));
         (mine, told, entered)
     }
 

@@ -65,19 +65,19 @@ impl<P: Parts> Session<P> {
     pub(super) fn make_slot<'b>(
         &mut self,
         slot: u64,
-        event: &LentEvent<'_>,
+        event: LentEvent<'_>,
         copies: Option<Copies>,
         room: &'b mut [u8],
     ) -> Result<Told<'b>, Refusal>
         requires places { HasReceiptRoom P.keeps 1 self.old }
-        requires plain { IsPlain event.now (length room.old) }
-        requires copies { P.keeps ≡ true → AreCopiesFor event.now copies }
+        requires plain { IsPlain event (length room.old) }
+        requires copies { P.keeps ≡ true → AreCopiesFor event copies }
         ensures carried { Carries P.keeps P.page self.old
-            (on_slot self.old.slots slot event.now)
+            (on_slot self.old.slots slot event.entry)
             (told_reply result) self.new }
         ensures limits { IsWithinLimits (told_reply result) }
         ensures answer { IfOk result (λ told.
-            HasAnswerOf event.now (told_answer told)) }
+            HasAnswerOf event.entry (told_answer told)) }
     {
         let at = slot as usize;
         if at >= self.parts.count() {

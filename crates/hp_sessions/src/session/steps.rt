@@ -143,7 +143,7 @@ impl<P: Parts> Session<P> {
             Work::Fork { parent, child } => Told::done(self.fork(parent, child)),
             Work::Exit { task } => Told::done(self.exit(task)),
             Work::Ls { slot } => self.make_names(slot),
-            Work::OnSlot { slot, event } => self.on_slot(slot, &event, room),
+            Work::OnSlot { slot, event } => self.on_slot(slot, event, room),
             Work::OfTask { task, slot, event } => self.of_task(task, slot, event, room),
         }
     }
@@ -187,7 +187,7 @@ impl<P: Parts> Session<P> {
         let event = SlotEvent::Stat {
             name: Lent::new(name),
         };
-        self.on_slot(slot, &event, room)
+        self.on_slot(slot, event, room)
     }
 
     // What is asked of a slot without a task being looked up.
@@ -195,16 +195,16 @@ impl<P: Parts> Session<P> {
     fn on_slot<'b>(
         &mut self,
         slot: u64,
-        event: &LentEvent<'_>,
+        event: LentEvent<'_>,
         room: &'b mut [u8],
     ) -> Result<Told<'b>, Refusal>
         requires places { HasReceiptRoom P.keeps 1 self.old }
-        requires plain { IsPlain event.now (length room.old) }
-        ensures asked { IsAsked P.keeps P.page self.old slot event.now (told_reply result)
+        requires plain { IsPlain event (length room.old) }
+        ensures asked { IsAsked P.keeps P.page self.old slot event.entry (told_reply result)
             self.new }
         ensures limits { IsWithinLimits (told_reply result) }
     {
-        match self.copies(event) {
+        match self.copies(&event) {
             Ok(copies) => self.make_slot(slot, event, copies, room),
             Err(AllocError) => Err(Refusal::OutOfMemory),
         }
@@ -236,7 +236,7 @@ impl<P: Parts> Session<P> {
         match self.find(task) {
             Ok(home) => {
                 set_home(&mut event, home);
-                self.make_slot(slot, &event, copies, room)
+                self.make_slot(slot, event, copies, room)
             }
             Err(refusal) => Err(refusal),
         }

@@ -14,9 +14,9 @@ returns-then-is_of_mount-clause-handed g c =
     let now = c.unnoted-told.new.self.receipts in
     let k = c.deref_mut-slot.result.now.slot.number in
     let at : k ≡ c.args.at = ap (λ (s : SeatedView). s.slot.number) c.deref_mut-slot.ensures.value ∙ c.hold_slot-value.ensures in
-    subst (λ (n : ℕ). IsHanded keeps size (OnSlot n c.args.event.now) reply was now) at c.unnoted-told.ensures.handed
+    subst (λ (n : ℕ). IsHanded keeps size (OnSlot n c.args.event) reply was now) at c.unnoted-told.ensures.handed
 
 pub returns-clause-handed : goal.returns-clause-handed
 returns-clause-handed g c =
-    subst (λ (n : ℕ). IsHanded (g.row.K == 1) g.N.Naming.page_bytes (OnSlot n c.args.event.now) (told_reply c.slot.result) c.args.self.now.member.receipts
+    subst (λ (n : ℕ). IsHanded (g.row.K == 1) g.N.Naming.page_bytes (OnSlot n c.args.event) (told_reply c.slot.result) c.args.self.now.member.receipts
     c.slot.new.self.receipts) (ap (λ (s : SeatedView). s.slot.number) c.deref_mut-slot.ensures.value ∙ c.hold_slot-value.ensures) c.slot.ensures.handed

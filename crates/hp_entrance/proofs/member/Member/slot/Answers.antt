@@ -13,9 +13,9 @@ returns-clause-handed g c =
     let v : List Held = c.into_seat-mine.result.me.0 in
     let w : List Held = c.work-mine.result.0.me.0 in
     let reply = told_reply c.work-mine.result.1 in
-    handed_as (g.row.K == 1) g.N.Naming.page_bytes (OnSlot c.args.slot.now.slot.number c.args.event.now) reply
+    handed_as (g.row.K == 1) g.N.Naming.page_bytes (OnSlot c.args.slot.now.slot.number c.args.event) reply
     c.args.self.now.receipts (receipts_in v) (told_at c.into_badge.result.views) (receipts_in w)
     (told_before c.args.self.now c.self.inside.seat.views c.replace.result.views v (sym (ap (λ (m : MemberView). m.receipts) c.self.view_is))
     (ap (λ b. b.views) c.replace.ensures.value) c.into_seat-mine.ensures.2) (ap told_at c.into_badge.ensures.2)
-    (work_handed (g.row.K == 1) (full_for ((g.row.K == 1) ≡ true) c.args.event.now) g.N.Naming.page_bytes c.args.slot.now c.work-mine.new.self c.args.event.now reply v w
+    (work_handed (g.row.K == 1) (full_for ((g.row.K == 1) ≡ true) c.args.event) g.N.Naming.page_bytes c.args.slot.now c.work-mine.new.self c.args.event reply v w
     c.work-mine.result.2 c.work-mine.ensures.done c.work-mine.ensures.keeps c.work-mine.ensures.exit)

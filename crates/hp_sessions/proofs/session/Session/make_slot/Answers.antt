@@ -10,13 +10,13 @@ pub returns-then-at-count-clause-carried : goal.returns-then-at-count-clause-car
 returns-then-at-count-clause-carried g c =
     let many = c.count.ensures.count in
     let same = ap (λ (v : SessionView). v.slots) c.self.view_is in
-    no_slot g.P.Parts.keeps g.P.Parts.page c.args.self.now c.args.slot c.args.event.now (let over = c.if-at-count.true in omega (arith, many, same, over))
+    no_slot g.P.Parts.keeps g.P.Parts.page c.args.self.now c.args.slot c.args.event (let over = c.if-at-count.true in omega (arith, many, same, over))
 
 pub returns-clause-carried : goal.returns-clause-carried
 returns-clause-carried g c =
     let many = c.count.ensures.count in
     let same = ap (λ (v : SessionView). v.slots) c.self.view_is in
-    let e = c.args.event.now in
+    let e = c.args.event in
     let t : SessionView = record { slots = g.P.Parts.slots c.slot.new.self; receipts = g.P.Parts.told c.slot.new.self; room = g.P.Parts.places c.slot.new.self } in
     on_slot_made g.P.Parts.keeps g.P.Parts.page c.args.self.now t c.args.slot e (told_reply c.slot.result)
     (let under = c.if-at-count.false in omega (arith, many, same, under))
@@ -24,4 +24,4 @@ returns-clause-carried g c =
 
 pub returns-clause-answer : goal.returns-clause-answer
 returns-clause-answer g c =
-    fits_result g.P.Parts.keeps g.P.Parts.page c.args.slot c.args.event.now c.slot.result (g.P.Parts.told c.self.inside.parts) (g.P.Parts.told c.slot.new.self) c.slot.ensures.handed
+    fits_result g.P.Parts.keeps g.P.Parts.page c.args.slot c.args.event c.slot.result (g.P.Parts.told c.self.inside.parts) (g.P.Parts.told c.slot.new.self) c.slot.ensures.handed
