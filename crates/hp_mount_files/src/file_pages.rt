@@ -1,5 +1,5 @@
 //! The pages of files.
-ghost use Rattle.std.specs.Prelude.{ℕ, ◌≡◌, ◌^◌, ◌+◌, ◌<◌, ◌≤◌, max, length, false, OnOk, OnErr, IfSome, IfNone, IsTrue};
+ghost use Rattle.std.specs.Prelude.{ℕ, ◌≡◌, ◌^◌, ◌+◌, ◌<◌, ◌≤◌, max, length, OnOk, OnErr, IfSome, IfNone};
 ghost use Rattle.hp_model.specs.declared.cell.Cell.TheVariants.{Hole, Entered};
 ghost use Rattle.hp_model.specs.files.File.{cell_at};
 ghost use Rattle.hp_model.specs.files.Spot.{cell_written};
@@ -78,13 +78,13 @@ pub trait FilePages<P> {
         requires room { 0 < (seen self.old).room }
         ensures { seen self.new ≡ filled_at file index (page_of page) (seen self.old) };
 
-    /// Writes bytes into the page at an index, from an offset on, if there is one: whether there is.
-    fn write(&mut self, file: usize, index: u64, offset: usize, bytes: &[u8]) -> bool
+    /// Writes bytes into the page at an index, from an offset on, if there is one: what stands at the index.
+    fn write(&mut self, file: usize, index: u64, offset: usize, bytes: &[u8]) -> CellState
         requires file { file < length (seen self.old).files }
         requires fits { offset + length bytes.now ≤ page_bytes }
-        ensures there { IsTrue result
-            → IsState CellState.Present (cell_at (file_at (seen self.old).files file) index) }
-        ensures none { result ≡ false → seen self.new ≡ seen self.old }
+        ensures state { IsState result (cell_at (file_at (seen self.old).files file) index) }
+        ensures entered { result ≡ CellState.Entered → seen self.new ≡ seen self.old }
+        ensures hole { result ≡ CellState.Hole → seen self.new ≡ seen self.old }
         ensures written { seen self.new ≡ with_cell_at file index
             (cell_written offset bytes.now (cell_at (file_at (seen self.old).files file) index))
             (seen self.old) };

@@ -1,7 +1,5 @@
 //! A page that was taken and may not be written yet.
 ghost use Rattle.std.specs.Prelude.{◌≡◌};
-ghost use Rattle.hp_frames.specs.Drafts.{made};
-ghost use Rattle.hp_nodes.specs.Kept.{IsPage};
 
 use crate::page::{Marks, Page};
 use hp_frames::Draft;
@@ -12,8 +10,8 @@ use std::marker::Model;
 ///
 /// It can't be dropped: `into_page` makes the page, away from the lock under which it was drawn.
 pub struct PageDraft<N: Naming> {
-    draft: Draft,
-    mark: Marks<N>,
+    pub(crate) draft: Draft,
+    pub(crate) mark: Marks<N>,
 }
 
 impl<N: Naming> Model for PageDraft<N> {
@@ -29,13 +27,6 @@ impl<N: Naming> Model for PageDraft<N> {
 }
 
 impl<N: Naming> PageDraft<N> {
-    pub(crate) fn new(draft: Draft, mark: Marks<N>) -> Self
-        requires { IsPage N.memory N.page_bytes (made draft) mark }
-        ensures { result.node ≡ (made draft).node }
-    {
-        PageDraft { draft, mark }
-    }
-
     /// The page, with the bytes that its last holder left. Where it had none, it is filled with zeros here.
     pub fn into_page(self) -> Page<N>
         ensures { result ≡ self }

@@ -71,7 +71,8 @@ impl<N: Naming, const K: usize> NodeFrames<N, K> {
         let node = claim.node();
         self.kept.join(claim);
         let draft = self.stock.draw();
-        PageDraft::new(draft, self.marks.split(node, 1))
+        let mark = self.marks.split(node, 1);
+        PageDraft { draft, mark }
     }
 
     /// The claim of a page that comes back. Never refused.

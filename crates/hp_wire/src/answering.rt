@@ -1,12 +1,10 @@
 //! The answers to lines.
-ghost use Rattle.std.specs.Prelude.{◌≡◌, ◌+◌, ◌<◌, ◌^◌, [], ◌∷◌, length, IfErr, IfOk, IsOk, OnOk, false};
-ghost use Rattle.hp_model.specs.text.Lines.{ended, ended_lines};
-ghost use Rattle.hp_model.specs.text.Reading.{fault_of, load_of, step_of, step_of_command, store_of};
+ghost use Rattle.std.specs.Prelude.{◌≡◌, ◌+◌, ◌<◌, ◌^◌, [], length, IfErr, IfOk, OnOk, false};
+ghost use Rattle.hp_model.specs.text.Lines.{ended};
+ghost use Rattle.hp_model.specs.text.Reading.{fault_of, step_of, step_of_command};
 ghost use Rattle.hp_wire.specs.Added.{AddsAnswer, AddsReply};
-ghost use Rattle.hp_wire.specs.Answered.{AnswersAll};
 ghost use Rattle.hp_wire.specs.Sent.{KeepsWriter, Writes, WritesFront};
 ghost use Rattle.hp_model.specs.run.Served.{text_of_refusals, unended_by};
-ghost use Rattle.hp_wire.specs.Unanswered.{CountsLines};
 ghost use Rattle.hp_wire.specs.Waiting.{HasRoomForOne};
 ghost use Rattle.hp_wire_lines.specs.Accesses.{is_access};
 
@@ -28,31 +26,14 @@ use hp_wire_lines::words::Words;
 pub(crate) const ROOM: usize = 512;
 
 impl Replies {
-    // Answers one line, for which room is made first.
-    pub(crate) fn answer_line<W: Sink, S: Service>(
+    // Answers one line, for whose reply there is room.
+    #[inline(always)]
+    pub(crate) fn add_reply<S: Service>(
         &mut self,
         line: &[u8],
         room: &mut [u8; ROOM],
         service: &mut S,
-        writer: &mut W,
-    ) -> Result<(), RunFault>
-        requires ready { S.is_ready service.old }
-        ensures answered { OnOk result (AnswersAll S.may_answer W.contents (ended line.now ∷ [])
-            service.old service.new writer.old writer.new self.old self.new) }
-        ensures cut { IfErr result (WritesFront W.contents writer.old writer.new self.old.text) }
-        ensures undone { IfErr result (λ _. service.new ≡ service.old) }
-        ensures page { self.new.page ≡ self.old.page }
-        ensures writer { KeepsWriter W.is_sure W.lent writer.old writer.new result }
-        ensures ready { S.is_ready service.new }
-    {
-        self.make_room(writer)?;
-        self.add_reply(line, room, service);
-        Ok(())
-    }
-
-    // Answers one line, for whose reply there is room.
-    #[inline(always)]
-    fn add_reply<S: Service>(&mut self, line: &[u8], room: &mut [u8; ROOM], service: &mut S)
+    )
         requires ready { S.is_ready service.old }
         requires room { HasRoomForOne self.old }
         ensures answered { AddsReply S.may_answer (step_of (ended line.now))

@@ -96,17 +96,18 @@ impl Replies {
         ensures writer { KeepsWriter W.is_sure W.lent writer.old writer.new result }
         ensures ready { S.is_ready service.new }
     {
-        if !several {
-            return self.answer_line(line, room, service, writer);
-        }
-        if queue.take(line, room) {
-            if queue.is_full() {
-                return self.answer_queued(queue, room, service, writer);
+        if several {
+            if queue.take(line, room) {
+                if queue.is_full() {
+                    return self.answer_queued(queue, room, service, writer);
+                }
+                return Ok(());
             }
-            return Ok(());
+            self.answer_queued(queue, room, service, writer)?;
         }
-        self.answer_queued(queue, room, service, writer)?;
-        self.answer_line(line, room, service, writer)
+        self.make_room(writer)?;
+        self.add_reply(line, room, service);
+        Ok(())
     }
 
     // Does all that waits, and adds the replies.

@@ -17,7 +17,8 @@ fn main(rt: HostRuntime) -> ExitCode {
     let mut faults = rt.stderr();
     let alloc = rt.alloc();
     keep_freed_memory(alloc);
-    let status = match words(&rt) {
+    let words = env::args(&rt).and_then(|words| Ok(words.collect::<Vec<String>>(alloc)?));
+    let status = match words {
         Ok(words) => program(
             alloc,
             words.as_slice(),
@@ -51,9 +52,4 @@ const FIRST_BLOCK: usize = 6 * 1024 * 1024;
 #[inline(never)]
 fn keep_freed_memory(alloc: Global) {
     let _block: Result<Vec<u8>, AllocError> = Vec::with_capacity(alloc, FIRST_BLOCK);
-}
-
-// The words of the process, the first of which is the program's name.
-fn words<R: Env + Alloc<A = Global>>(rt: &R) -> io::Result<Vec<String>> {
-    Ok(env::args(rt)?.collect(rt.alloc())?)
 }

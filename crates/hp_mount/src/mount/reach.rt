@@ -223,7 +223,7 @@ impl<N: Naming> Mount<N> {
         }
     }
 
-    // Writes bytes through a shared map that is there. A page that is there is looked for once.
+    // Writes bytes through a shared map that is there. Where no page is, one is made first.
     #[inline(always)]
     fn store_shared<D: PoolDoor<N>>(
         &mut self,
@@ -246,14 +246,16 @@ impl<N: Naming> Mount<N> {
         ensures memory { is_backed Write (spot_of access.now self.old) access.now.index ≡ true
             → result ≢ Err Refusal.OutOfMemory }
     {
-        let offset = offset as usize;
-        if self.files.write(at.file, access.index, offset, bytes) {
-            return Ok(());
-        }
-        if let Err(refusal) = self.reach_shared(door, home as usize, at.file, access.index) {
+        let (file, index, offset) = (at.file, access.index, offset as usize);
+        let reached = match self.files.write(file, index, offset, bytes) {
+            CellState::Present => return Ok(()),
+            CellState::Entered => self.fill_entry(door, home as usize, file, index),
+            CellState::Hole => self.fill_hole(door, home as usize, file, index),
+        };
+        if let Err(refusal) = reached {
             return Err(refusal);
         }
-        let _there = self.files.write(at.file, access.index, offset, bytes);
+        let _there = self.files.write(file, index, offset, bytes);
         Ok(())
     }
 

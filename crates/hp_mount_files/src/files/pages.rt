@@ -98,14 +98,20 @@ impl<N: Naming> FilePages<Page<N>> for Files<N> {
     }
 
     #[inline(always)]
-    fn write(&mut self, file: usize, index: u64, offset: usize, bytes: &[u8]) -> bool {
+    fn write(&mut self, file: usize, index: u64, offset: usize, bytes: &[u8]) -> CellState {
         let at = &self.list[file];
         match at.page_at(index) {
             Some(number) => {
                 self.pages.store.write(number, offset, bytes);
-                true
+                CellState::Present
             }
-            None => false,
+            None => {
+                if at.entered(index) {
+                    CellState::Entered
+                } else {
+                    CellState::Hole
+                }
+            }
         }
     }
 }

@@ -60,7 +60,7 @@ impl<N: Naming> Service for System<N> {
         count: u64,
         room: &'a mut [u8],
     ) -> Result<&'a [u8], Refusal> {
-        let page_bytes = self.page_bytes();
+        let page_bytes = self.page_bytes as u64;
         reach!(self, access, home, mount);
         mount.load(
             &mut self.pool,
@@ -74,7 +74,7 @@ impl<N: Naming> Service for System<N> {
     }
 
     fn store(&mut self, access: &Access, bytes: &[u8]) -> Result<(), Refusal> {
-        let page_bytes = self.page_bytes();
+        let page_bytes = self.page_bytes as u64;
         reach!(self, access, home, mount);
         let place = place_of(access);
         mount.store(

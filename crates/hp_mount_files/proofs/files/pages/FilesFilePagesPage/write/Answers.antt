@@ -16,13 +16,13 @@ write-requires-clause-alone g c = grind (arith, common_steps, held_once, file_he
 pub returns-in-Some-clause-written : goal.returns-in-Some-clause-written
 returns-in-Some-clause-written g c = grind (arith, common_steps, write_view)
 
-pub returns-in-Some-clause-there : goal.returns-in-Some-clause-there
-returns-in-Some-clause-there g c is =
+pub returns-in-Some-clause-state : goal.returns-in-Some-clause-state
+returns-in-Some-clause-state g c =
     let s = c.self.inside in
     let k = c.args.file in
     subst (λ (v : Files). (p : Page) × (cell_at (file_at v.files k) c.args.index ≡ Present p)) c.self.view_is
     (present_shown s.pages.store s.pages.more s.list.files c.self.invariant.held k c.args.index (subst (λ v. k < length v.files) (sym c.self.view_is) c.requires.file) c.index-at.result.now
     c.index-at.ensures c.in-Some.number (sym c.page_at.ensures ∙ c.in-Some.is))
 
-pub returns-in-None-clause-written : goal.returns-in-None-clause-written
-returns-in-None-clause-written g c = grind (arith, common_steps, nothing_written)
+pub returns-after-entered-clause-written : goal.returns-after-entered-clause-written
+returns-after-entered-clause-written g c = grind (arith, common_steps, nothing_written)
