@@ -102,11 +102,13 @@ impl<N: Naming> Files<N> {
     {
         let mut index = self.past_paged(file, from, to);
         while index < to {
-            match self.cell(file, index) {
-                CellState::Entered => self.put_next(file, index, batch),
-                _ => {}
-            }
-            index = self.past_paged(file, index + 1, to);
+            index = match self.cell(file, index) {
+                CellState::Entered => {
+                    self.put_next(file, index, batch);
+                    index + 1
+                }
+                _ => self.past_paged(file, index + 1, to),
+            };
         }
     }
 

@@ -1,12 +1,10 @@
 use Rattle.std.proofs.lemmas.Grind.{common_steps}
-use Rattle.std.proofs.Common.{None, ◌≡◌, ℕ, ◌+◌, ◌-◌, ◌<◌, ◌≤◌, List, true, ◌∷◌, length, refl, ap, sym, subst, ◌∙◌, arith, slice_set}
+use Rattle.std.proofs.Common.{None, ◌≡◌, ℕ, ◌+◌, ◌-◌, ◌<◌, ◌≤◌, List, true, length, refl, ap, sym, subst, ◌∙◌, arith}
 use Rattle.std.proofs.lemmas.List.{set-get_or}
 use Rattle.hp_laws.proofs.Variants.{Cell}
 use Rattle.hp_model.proofs.Words.{Page, cell_in, has_page, new_file, zero_page}
-use Rattle.hp_store.specs.Batch.{Batch}
 use Rattle.hp_lookup.proofs.Words.{Files, file_at}
 use Rattle.hp_file.proofs.Zeros.{IsPutting, cells_put, files_put, putting_puts, putting_skips, putting_some, putting_stays}
-use Rattle.hp_mount_files.proofs.files.Files.put_pages.Goals.{in-Entered, in_default}
 use Rattle.hp_mount_files.proofs.files.Files.put_pages.Goals as goal
 
 -- past indices that have pages
@@ -44,8 +42,8 @@ put_next-requires-clause-some g c = grind (arith, common_steps, putting_some)
 pub put_next-requires-clause-room : goal.put_next-requires-clause-room
 put_next-requires-clause-room g c = grind (arith, common_steps, putting_some)
 
-pub loop-index-preserved : goal.loop-index-preserved
-loop-index-preserved g c =
+pub loop-index-preserved-in-Entered : goal.loop-index-preserved-in-Entered
+loop-index-preserved-in-Entered g c =
     let was = c.loop-index.invariant in
     let size = g.N.Naming.page_bytes in
     let a = c.args.from in
@@ -54,49 +52,47 @@ loop-index-preserved g c =
     let k = c.args.file in
     let init = c.args.self.now in
     let now = c.loop-index.self in
+    let new = c.put_next.new.self in
     let first = (file_at init.files k).cells in
     let all = c.args.batch.now.pages in
+    let left = c.put_next.new.batch.pages in
+    let p : Page = c.put_next.ensures.0 in
+    let taken = c.put_next.ensures.1 in
+    let q : Page = zero_page size p.node in
+    let new_is = c.put_next.ensures.2 in
+    let fewer = ap length taken in
+    let spent = ap (λ (v : Files). v.room) new_is in
+    record {
+      putting = subst (λ cs. IsPutting size a b (i + 1) first cs all left) (sym (cells_put k i q init now new c.requires.file new_is was.files))
+          (putting_puts size a b i first (file_at now.files k).cells all c.loop-index.batch.pages was.putting was.low c.loop-index-test.true c.in-Entered.ensures p q left taken refl);
+      low = omega (arith, was.low);
+      high = omega (arith, c.loop-index-test.true);
+      files = files_put k i q init now new c.requires.file new_is was.files;
+      going = ap (λ (v : Files). v.going) new_is ∙ was.going;
+      room = omega (arith, was.room, was.fits, fewer, spent);
+      fits = was.fits;
+    }
+
+pub loop-index-preserved : goal.loop-index-preserved
+loop-index-preserved g c =
+    let was = c.loop-index.invariant in
+    let size = g.N.Naming.page_bytes in
+    let a = c.args.from in
+    let b = c.args.to in
+    let i = c.loop-index.index in
+    let now = (file_at c.loop-index.self.files c.args.file).cells in
+    let first = (file_at c.args.self.now.files c.args.file).cells in
+    let all = c.args.batch.now.pages in
     let left = c.loop-index.batch.pages in
-    let next = c.past_paged-index-in-loop-index.result in
-    let past = c.past_paged-index-in-loop-index.ensures in
-    elim c.match-cell.branch [
-      | in-Entered w ↦
-          let p : Page = w.put_next.ensures.0 in
-          let taken = w.put_next.ensures.1 in
-          let q : Page = zero_page size p.node in
-          let new_is = w.self-is ∙ w.put_next.ensures.2 in
-          let rest = ap (λ (x : Batch). x.pages) w.batch-is in
-          let left_is = taken ∙ ap (λ ps. p ∷ ps) (sym rest) in
-          let fewer = ap length left_is in
-          let spent = ap (λ (v : Files). v.room) new_is in
-          let put = subst (λ cs. IsPutting size a b (i + 1) first cs all c.match-cell.batch.pages) (sym (cells_put k i q init now c.match-cell.self c.requires.file new_is was.files))
-          (putting_puts size a b i first (file_at now.files k).cells all left was.putting
-          was.low c.loop-index-test.true w.in-Entered.ensures p q c.match-cell.batch.pages left_is refl) in
-          record {
-            putting = putting_to size a b (i + 1) next first (file_at c.match-cell.self.files k).cells all c.match-cell.batch.pages put (omega (arith, was.low)) past.from past.to past.paged;
-            low = omega (arith, was.low, past.from);
-            high = past.to;
-            files = files_put k i q init now c.match-cell.self c.requires.file new_is was.files;
-            going = ap (λ (v : Files). v.going) new_is ∙ was.going;
-            room = omega (arith, was.room, was.fits, fewer, spent);
-            fits = was.fits;
-          }
-      | in_default w ↦
-          let left_is = ap (λ (x : Batch). x.pages) w.batch-is in
-          let stays = putting_stays size a b i first (file_at now.files k).cells all left was.putting
-          c.loop-index.invariant.low c.loop-index-test.true c.cell.result w.in_default.not-Entered c.cell.ensures in
-          let cells = ap (λ (v : Files). (file_at v.files k).cells) w.self-is in
-          let same = ap length left_is in
-          let spent = ap (λ (v : Files). v.room) w.self-is in
-          let put = subst (λ cs. IsPutting size a b (i + 1) first cs all c.match-cell.batch.pages) (sym cells)
-          (subst (IsPutting size a b (i + 1) first (file_at now.files k).cells all) (sym left_is) stays) in
-          record {
-            putting = putting_to size a b (i + 1) next first (file_at c.match-cell.self.files k).cells all c.match-cell.batch.pages put (omega (arith, was.low)) past.from past.to past.paged;
-            low = omega (arith, was.low, past.from);
-            high = past.to;
-            files = subst (λ (v : Files). v.files ≡ slice_set init.files k (record (file_at init.files k) { cells = (file_at v.files k).cells })) (sym w.self-is) was.files;
-            going = ap (λ (v : Files). v.going) w.self-is ∙ was.going;
-            room = omega (arith, was.room, same, spent);
-            fits = was.fits;
-          }
-    ]
+    let next = c.past_paged-index-in_default.result in
+    let past = c.past_paged-index-in_default.ensures in
+    let stays = putting_stays size a b i first now all left was.putting was.low c.loop-index-test.true c.cell.result c.in_default.not-Entered c.cell.ensures in
+    record {
+      putting = putting_to size a b (i + 1) next first now all left stays (omega (arith, was.low)) past.from past.to past.paged;
+      low = omega (arith, was.low, past.from);
+      high = past.to;
+      files = was.files;
+      going = was.going;
+      room = was.room;
+      fits = was.fits;
+    }
