@@ -36,7 +36,7 @@ class Writer:
         self.mood = dice.choice([*self.moods(), self.of_any])
 
     def moods(self):
-        return [self.of_pages, self.of_accesses, self.of_tasks, self.of_leaving, self.of_mounts, self.of_pool, self.of_files]
+        return [self.of_pages, self.of_accesses, self.of_runs, self.of_tasks, self.of_leaving, self.of_mounts, self.of_pool, self.of_files]
 
     def task(self):
         return self.dice.choice(self.tasks)
@@ -83,6 +83,16 @@ class Writer:
         where = f"{self.task()} {self.meeting} 1 {self.at()} 0"
         return some(self.dice, (f"load {where} 2", 8), (f"store {where} {self.dice.randbytes(2).hex()}", 8), (f"exit {self.task()}", 1),
                     (f"connect {self.task()} {self.node()}", 1), (f"fork {self.task()} {self.task()}", 1), (self.giving(), 2), (self.new_map(), 1))
+
+    def of_runs(self):
+        """What comes between faults that follow each other: it takes their task, its home, their pages or those of their node away, or counts these."""
+        return some(self.dice, ("nodes", 2), ("meminfo", 1), (f"exit {self.task()}", 2), (f"connect {self.task()} {self.node()}", 3),
+                    (f"punch {self.file()} 0 4", 2), (f"nr {self.dice.randint(0, sum(self.shape.frames))}", 2), (self.new_map(), 1), (self.access(), 2))
+
+    def run(self):
+        """Faults at indices that follow each other, which a server may take at once."""
+        where, intent, first = f"{self.task()} {self.meeting} 1", self.dice.choice(["read", "write"]), self.dice.randrange(2)
+        return [f"fault {where} {at} {intent}" for at in range(first, first + self.dice.randint(2, 3))]
 
     def of_tasks(self):
         task, child = self.task(), self.task()
@@ -133,6 +143,8 @@ class Writer:
             yield self.new_map()
         for _ in range(self.dice.randint(0, 6)):
             yield self.access()
+        if self.mood == self.of_runs:
+            yield from [f"map {task} {self.meeting} {self.dice.choice(self.names)} 0 4 shared" for task in self.tasks]
         if self.mood == self.of_leaving or self.dice.random() < 0.2:
             # (many maps make forks and exits long)
             task = self.task()
@@ -143,6 +155,8 @@ class Writer:
     def race(self):
         """The lines of each session."""
         sessions = self.dice.randint(2, 4)
+        if self.mood == self.of_runs:
+            return [[*([self.mood()] if self.dice.random() < 0.5 else []), *self.run(), self.mood()] for _ in range(sessions)]
         most = 9 - sessions if self.mood in (self.of_leaving, self.of_accesses) else 7 - sessions
         return [[self.mood() for _ in range(self.dice.randint(2, most))] for _ in range(sessions)]
 

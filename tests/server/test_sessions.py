@@ -1,9 +1,10 @@
 """Sessions and what they share: rows, races for pages, look-ups, and all that a session left."""
 import random
+import subprocess
 from concurrent.futures import ThreadPoolExecutor
 
 import pytest
-from built import SECONDS, each_case
+from built import SECONDS, each_case, text_of
 from limits import each_limit
 from serving import MANY, cut, whole_replies
 
@@ -65,6 +66,44 @@ def test_races_with_files_of_their_own(serve, trace):
             session.close()
         with server.session() as session:
             assert session.meminfo()[:4] == (8, 6, 4, 0)
+
+
+def lines_with_runs(seed):
+    """Lines of four tasks of one slot, of which many are faults at indices that follow each other: in maps of holes, of reservations and private ones, past
+    their ends, and of other tasks between; with what counts behind each run, and what takes pages, tasks and homes away."""
+    draw = random.Random(seed)
+    lines = ["nr 14", "mount 1 size=40K,min_size=8K"]
+    for task in range(4):
+        lines += [f"connect {task} {draw.randrange(3)}", f"create 1 f{task}"]
+    for _ in range(60):
+        task, other = draw.randrange(4), draw.randrange(4)
+        word = draw.choice(["map", "map", "run", "run", "run", "run", "run", "truncate", "punch", "unmap", "exit"])
+        if word == "map":
+            lines.append(f"map {task} 1 f{other} {draw.randrange(4)} {1 + draw.randrange(8)} {draw.choice(['shared', 'shared', 'private'])}{draw.choice(['', '', ' noreserve'])}")
+        elif word == "run":
+            first, count, intent = draw.randrange(6), 1 + draw.randrange(20), draw.choice(["read", "write"])
+            lines += [f"fault {task} 1 {1 + draw.randrange(2)} {at} {intent}" for at in range(first, first + count) if draw.randrange(12)]
+            lines += draw.choice([["nodes", "meminfo"], [f"load {other} 1 1 {first} 0 4"], [f"store {task} 1 1 {first} 0 ab"], []])
+        elif word == "truncate":
+            lines.append(f"truncate 1 f{other} {draw.randrange(8)}")
+        elif word == "punch":
+            lines.append(f"punch 1 f{other} 0 {1 + draw.randrange(8)}")
+        elif word == "unmap":
+            lines.append(f"unmap {task} 1 1 {draw.randrange(4)} {4 + draw.randrange(6)}")
+        else:
+            lines += [f"exit {task}", f"connect {task} {draw.randrange(3)}"]
+    return [*lines, "nodes", "meminfo", "df 1", "ls 1"]
+
+
+def test_faults_that_follow_each_other(serve, program):
+    """Faults at indices that follow each other, all sent at once, are answered as one at a time: by a script, and with a trace."""
+    words = ["--frames", "3,6,5", "--page", "1024", "--slots", "2"]
+    for seed in range(60):
+        script = text_of(lines_with_runs(seed))
+        wanted = subprocess.run([program, "script", *words], input=script, stdout=subprocess.PIPE, check=True, timeout=SECONDS).stdout
+        assert b"error" in wanted and b"HugePages_Free" in wanted
+        with serve(1, 1, words, trace=seed % 2 * 2000) as server, server.link() as link:
+            assert whole_replies(link, script) == wanted, seed
 
 
 # Tasks of one place among the words that look-ups read, one beside it, and the least and greatest numbers, with those from which on none is noted.

@@ -42,7 +42,8 @@ when_there : (b : Bool) (task home : ℕ) → b ≡ true → option_map (λ (e :
 when_there true task home is = refl
 when_there false task home is = absurd (false≢true is)
 
-finds : (task home : ℕ) → table_event 0 ((task, home) ∷ []) (Find task) ≡ (Ok (Home home), (task, home) ∷ [])
+-- a task that is noted is found
+pub finds : (task home : ℕ) → table_event 0 ((task, home) ∷ []) (Find task) ≡ (Ok (Home home), (task, home) ∷ [])
 finds task home = ap (λ (o : Option ℕ). when_known ((task, home) ∷ []) o (λ at. (Ok (Home at), (task, home) ∷ []))) (when_there (task == task) task home (eq-eqb task task refl))
 
 -- a task's home that was read in a word

@@ -1,3 +1,5 @@
 pub mod Forking
 pub mod Handed
 pub mod Held
+pub mod Following
+pub mod Runs

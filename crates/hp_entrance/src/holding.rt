@@ -1,12 +1,18 @@
 //! Loads, stores and faults that are done while their slot's lock is held, where no entries are kept.
-ghost use Rattle.std.specs.Prelude.{ℕ, ◌≡◌, ◌==◌, ◌≤◌, false, length, IfNone, IfSome, true};
+ghost use Rattle.std.specs.Prelude.{ℕ, ◌≡◌, ◌==◌, ◌+◌, ◌<◌, ◌≤◌, false, length, take, IfNone, IfSome, true};
+ghost use Rattle.std.specs.List.{All};
 ghost use Rattle.hp_model.specs.Profile.{most_bytes};
+ghost use Rattle.hp_model.specs.beside.Accesses.{fault_step};
+ghost use Rattle.hp_model.specs.beside.Queue.{is_load};
+ghost use Rattle.hp_model.specs.declared.answer.Answer.TheVariants.{Done};
 ghost use Rattle.hp_events.specs.Queues.{AreFirstHanded, IsAccessHanded};
+ghost use Rattle.hp_shared.specs.Runs.{faults_of};
+ghost use Rattle.hp_entrance.specs.Runs.{AreFaultsOf, fault_at};
 ghost use Rattle.hp_model.specs.declared.event.SlotEvent.TheVariants.{Fault as FaultThere, Load as LoadThere, Store as StoreThere};
 
 use crate::member::Member;
 use hp_events::{LentEvent, into_bytes, into_done};
-use hp_history::Places;
+use hp_history::{History, Places};
 use hp_locked::Gate;
 use hp_model::entry::{PoolEntry, SlotEntry};
 use hp_model::event::SlotEvent;
@@ -20,7 +26,7 @@ use hp_trail::trace::Trace;
 use std::sync::Wait;
 
 // The first loads, stores and faults of a queue, up to one of another slot or of a task that is not noted, or behind one that entered
-// the pool: so that nobody waits long for the slot. How many were done.
+// the pool, or faults that entered it together: so that nobody waits long for the slot. How many were done.
 pub(crate) fn held_accesses<N: Naming + Places, R: Wait, G: Gate, const K: usize>(
     shared: &Shared<N, K>,
     ways: &Ways<'_, N, R, G, K>,
@@ -37,8 +43,14 @@ pub(crate) fn held_accesses<N: Naming + Places, R: Wait, G: Gate, const K: usize
         member.old.receipts member.new.receipts }
     ensures room { member.new.room ≡ member.old.room }
 {
+    let (history, page_bytes) = (shared.history(), shared.page_bytes());
     for done in 0..queue.len() {
-        match held_access(shared, ways, member, slot, at, &mut queue[done], room) {
+        let some = held_run(ways, member, slot, at, &mut queue[done..]);
+        if some > 0 {
+            return done + some;
+        }
+        let queued = &mut queue[done];
+        match held_access(history, ways, member, slot, at, page_bytes, queued, room) {
             None => return done,
             Some(true) => return done + 1,
             Some(false) => {}
@@ -47,19 +59,107 @@ pub(crate) fn held_accesses<N: Naming + Places, R: Wait, G: Gate, const K: usize
     queue.len()
 }
 
-// A load, a store or a fault that waits, if it is one of this slot and its task is noted: whether it entered the pool.
+// The first faults of a queue, where they are at indices of one map of this slot that follow one another, and each takes the page of a
+// reservation: all in one hold of the pool's lock. How many were done: none where there are fewer than two.
 #[inline(always)]
-fn held_access<N: Naming + Places, R: Wait, G: Gate, const K: usize>(
-    shared: &Shared<N, K>,
+fn held_run<N: Naming + Places, R: Wait, G: Gate, const K: usize>(
     ways: &Ways<'_, N, R, G, K>,
     member: &mut Member<N, K>,
     slot: &mut SeatedSlot<N, Trace<SlotEntry, K>>,
     at: usize,
+    queue: &mut [Queued],
+) -> usize
+    requires unkept { (K == 1) ≡ false }
+    requires looks { N.shape.looks ≡ true }
+    requires number { slot.old.slot.number ≡ at }
+    requires some { 0 < length queue.old }
+    ensures first { AreFirstHanded N.page_bytes at result queue.old queue.new
+        member.old.receipts member.new.receipts }
+    ensures number { slot.new.slot.number ≡ at }
+    ensures room { member.new.room ≡ member.old.room }
+{
+    let Some(intent) = intent_of(&queue[0]) else {
+        return 0;
+    };
+    let access = *queue[0].access();
+    let most = faults_in(&access, intent, queue);
+    if most < 2 || access.slot != at as u64 {
+        return 0;
+    }
+    let done = member.fault_run(ways, slot, &access, intent, most as u64) as usize;
+    answer_all(&mut queue[..done]);
+    done
+}
+
+// What a fault that waits is for.
+#[inline(always)]
+fn intent_of(queued: &Queued) -> Option<Intent>
+    ensures { IfSome result (λ intent.
+        queued.now.step ≡ fault_step queued.now.access intent) }
+{
+    match queued.doing() {
+        Doing::Fault { intent } => Some(intent),
+        Doing::Load { count: _ } | Doing::Store { bytes: _ } => None,
+    }
+}
+
+// How many in front of a queue are faults at the indices of one map from this one on.
+#[inline(never)]
+fn faults_in(first: &Access, intent: Intent, queue: &[Queued]) -> usize
+    ensures few { result ≤ length queue.now }
+    ensures faults { AreFaultsOf (faults_of first.now.slot first.now intent) first.now.index
+        (take result queue.now) }
+{
+    for done in 0..queue.len() {
+        if !follows(first, intent, &queue[done], done as u64) {
+            return done;
+        }
+    }
+    queue.len()
+}
+
+// Whether this is the fault at so many indices behind the first.
+#[inline(always)]
+fn follows(first: &Access, intent: Intent, queued: &Queued, done: u64) -> bool
+    ensures { result ≡ true → queued.now.step
+        ≡ fault_at (faults_of first.now.slot first.now intent) (first.now.index + done) }
+{
+    let next = *queued.access();
+    next.slot == first.slot
+        && next.task == first.task
+        && next.map == first.map
+        && next.index >= first.index
+        && next.index - first.index == done
+        && intent_of(queued) == Some(intent)
+}
+
+// Notes of each that it is done. None is a load.
+#[inline(never)]
+fn answer_all(queue: &mut [Queued])
+    requires { All (λ q. is_load q.step ≡ false) queue.old }
+    ensures { All (λ q. q.reply ≡ Ok Done) queue.new }
+{
+    for i in 0..queue.len() {
+        queue[i].answer_done(Ok(()));
+    }
+}
+
+// A load, a store or a fault that waits, if it is one of this slot and its task is noted: whether it entered the pool.
+#[inline(always)]
+fn held_access<N: Naming + Places, R: Wait, G: Gate, const K: usize>(
+    history: &History<N>,
+    ways: &Ways<'_, N, R, G, K>,
+    member: &mut Member<N, K>,
+    slot: &mut SeatedSlot<N, Trace<SlotEntry, K>>,
+    at: usize,
+    page_bytes: u64,
     queued: &mut Queued,
     room: &mut [u8],
 ) -> Option<bool>
     requires unkept { (K == 1) ≡ false }
+    requires looks { N.shape.looks ≡ true }
     requires number { slot.old.slot.number ≡ at }
+    requires page_bytes { page_bytes ≡ N.page_bytes }
     requires room { most_bytes ≤ length room.old }
     ensures done { IfSome result (λ entered. IsAccessHanded N.page_bytes at queued.old.step
         queued.new.reply member.old.receipts member.new.receipts) }
@@ -72,8 +172,7 @@ fn held_access<N: Naming + Places, R: Wait, G: Gate, const K: usize>(
     if access.slot != at as u64 {
         return None;
     }
-    let home = member.look(shared.history(), access.task)?;
-    let page_bytes = shared.page_bytes();
+    let home = member.look(history, access.task)?;
     match queued.doing() {
         Doing::Load { count } => {
             let event = load_of(&access, home, count);

@@ -17,6 +17,8 @@ ghost use Rattle.hp_model.specs.text.Writing.{IsWithinLimits};
 ghost use Rattle.hp_events.specs.Answered.{HasPlace, IsHanded};
 ghost use Rattle.hp_events.specs.Replies.{names_reply, table_reply};
 ghost use Rattle.hp_shared.specs.Ended.{IsCount};
+ghost use Rattle.hp_shared.specs.Runs.{faults_of};
+ghost use Rattle.hp_entrance.specs.Runs.{AreFaultsHanded};
 
 use atomic_table::Badge;
 use hp_events::copies::Copies;
@@ -28,6 +30,8 @@ use hp_model::event::{Event, PoolEvent, TableEvent};
 use hp_model::names::Names;
 use hp_model::naming::Naming;
 use hp_model::refusal::Refusal;
+use hp_model::service::Access;
+use hp_model::step::Intent;
 use hp_model::told::Told;
 use hp_shared::{Finished, SeatedSlot, Table, Ways};
 use hp_trail::trace::Trace;
@@ -276,6 +280,35 @@ impl<N: Naming + Places, const K: usize> Member<N, K> {
         let (mine, told, entered) = slot.event_unnoted(ways, mine, page_bytes, event, room);
         *seat = mine.into_badge();
         (told, entered)
+    }
+
+    /// Faults of a task through one map, at an index and at those behind it, where no entries are kept: the first of them, at most so
+    /// many, that each take the page of a reservation. Each is told behind a look-up of its task. How many were done: none where
+    /// there are fewer than two.
+    #[inline(never)]
+    pub fn fault_run<R: Wait, G: Gate>(
+        &mut self,
+        ways: &Ways<'_, N, R, G, K>,
+        slot: &mut SeatedSlot<N, Trace<SlotEntry, K>>,
+        access: &Access,
+        intent: Intent,
+        most: u64,
+    ) -> u64
+        requires unkept { (K == 1) ≡ false }
+        requires looks { N.shape.looks ≡ true }
+        ensures done { AreFaultsHanded N.page_bytes slot.old.slot.number
+            (faults_of slot.old.slot.number access.now intent) access.now.index result
+            self.old.receipts self.new.receipts }
+        ensures few { result ≤ most }
+        ensures slot { slot.new.slot.number ≡ slot.old.slot.number }
+        ensures number { self.new.number ≡ self.old.number }
+        ensures room { self.new.room ≡ self.old.room }
+    {
+        let Member { seat, .. } = self;
+        let mine = mem::replace(seat, Badge::blank()).into_seat();
+        let (mine, done) = slot.fault_run(ways, mine, access, intent, most);
+        *seat = mine.into_badge();
+        done
     }
 
     /// The names of a slot's files, under its lock.

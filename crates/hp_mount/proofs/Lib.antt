@@ -4,4 +4,5 @@ mod Filling
 mod Here
 pub mod Loading
 mod Refusing
+mod Running
 mod Storing

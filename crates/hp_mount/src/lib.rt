@@ -2,7 +2,9 @@
 #![tactic(auto)]
 
 mod mount;
+mod run_door;
 
 pub use hp_mount_door::PoolDoor;
 pub use hp_mount_files::MapRange;
 pub use mount::{MapAccess, Mount};
+pub use run_door::RunDoor;

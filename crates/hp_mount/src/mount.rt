@@ -26,6 +26,7 @@ mod placing;
 mod private;
 mod reach;
 mod remounting;
+mod running;
 
 use hp_events::LentEvent;
 use hp_model::event::SlotEvent;

@@ -33,6 +33,31 @@ impl<'a, R: Clock> Gate for Slow<'a, R> {
     }
 }
 
+/// Counts how often a slot's lock was taken.
+#[derive(Drop)]
+pub struct Counted {
+    holds: AtomicU64,
+}
+
+impl Counted {
+    pub fn new() -> Counted {
+        Counted {
+            holds: AtomicU64::new(0),
+        }
+    }
+
+    /// How often.
+    pub fn holds(&self) -> u64 {
+        self.holds.load(Ordering::SeqCst)
+    }
+}
+
+impl Gate for Counted {
+    fn enter(&self, _slot: u64) {
+        let _before = self.holds.fetch_add(1, Ordering::SeqCst);
+    }
+}
+
 const MOST_TURNS: u64 = 10_000;
 
 /// Where a thread is held.

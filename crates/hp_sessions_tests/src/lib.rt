@@ -12,6 +12,8 @@ mod draws;
 #[cfg(test)]
 mod filling;
 #[cfg(test)]
+mod following;
+#[cfg(test)]
 mod full;
 #[cfg(test)]
 mod gates;

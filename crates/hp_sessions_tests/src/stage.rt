@@ -5,6 +5,7 @@ ghost use Rattle.hp_sessions_tests.specs.Machines.{AreMade, AreNamed, IsFit};
 
 use crate::closing::{closes, parts};
 use crate::filling::filled;
+use crate::following::followed;
 use crate::full::{Fills, left};
 use crate::machine::{Machine, Runs};
 use crate::making::made;
@@ -56,6 +57,7 @@ pub struct Stage<M> {
 pub enum Scene {
     Held(HeldAt),
     Filled,
+    Followed,
     Made,
     Range(Range),
     Limits(Limits),
@@ -74,6 +76,7 @@ fn play<R: Runs, M: Machine + Sync>(rt: &R, stage: Stage<M>, scene: Scene) {
     match scene {
         Scene::Held(held) => held.play(rt, stage),
         Scene::Filled => filled(rt, stage),
+        Scene::Followed => followed(rt, stage),
         Scene::Made => made(rt, stage),
         Scene::Range(range) => alone(rt, stage, range),
         Scene::Limits(limits) => alone(rt, stage, limits),

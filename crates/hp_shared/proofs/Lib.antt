@@ -5,6 +5,7 @@ pub mod Acting
 pub mod SlotsKept
 pub mod Parted
 pub mod SeatedKept
+pub mod Running
 pub mod Naming
 pub mod Opened
 mod Gathered
@@ -12,3 +13,5 @@ mod Joining
 mod CrossingEntries
 mod CrossingMounts
 pub mod Crossing
+mod Claimed
+mod Entered

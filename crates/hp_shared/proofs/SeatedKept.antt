@@ -96,7 +96,7 @@ is_kept entries k e r (Some x) told is = refl
 pub one_free : (number : ℕ) (views : List (List Held)) → views ≡ slot_view number views ∷ [] → views ≡ (free_slot (first_of views) ∷ []) ∷ []
 one_free number views one = one ∙ ap (λ h. (h ∷ []) ∷ []) (sym (ap (λ vs. free_slot (first_of vs)) one))
 
-seat_is : (history : TableId) (size : ℕ) (id : TableId) (views : List (List Held)) (k : ℕ) (es : List SlotEntry) (s : SlotView) → id ≡ history → s.number ≡ k
+pub seat_is : (history : TableId) (size : ℕ) (id : TableId) (views : List (List Held)) (k : ℕ) (es : List SlotEntry) (s : SlotView) → id ≡ history → s.number ≡ k
     → views ≡ (SlotPart k es ∷ []) ∷ [] → IsLocalRun size k (slot_start k) es s.mount → IsTrailOf es s.entries → IsSeatedSlot history size id views s
 seat_is history size id views k es s named number is ends kept =
     subst (λ vs. IsSeatedSlot history size id vs s) (sym is) (record {

@@ -9,11 +9,13 @@ mod names;
 mod opener;
 mod parting;
 mod parts;
+mod run;
 mod seated_slot;
 mod seats;
 mod shared;
 mod spare;
 mod table;
+mod taken;
 mod told;
 
 pub use ended::Ended;

@@ -1,5 +1,5 @@
 //! A slot with its trail.
-ghost use Rattle.std.specs.Prelude.{◌≡◌, ◌⊎◌, ◌||◌, ◌<◌, ◌≤◌, length, true, false, None, Ok, is_some};
+ghost use Rattle.std.specs.Prelude.{[], ◌≡◌, ◌⊎◌, ◌||◌, ◌<◌, ◌≤◌, length, true, false, None, Ok, is_some};
 ghost use Rattle.hp_history.specs.Sections.{IsEntered};
 ghost use Rattle.hp_model.specs.declared.answer.Answer.TheVariants.{Done};
 ghost use Rattle.hp_model.specs.declared.entry.Part.TheVariants.{Slot as AtSlot};
@@ -15,6 +15,7 @@ ghost use Rattle.hp_locked.specs.Views.{IsNewTrail};
 ghost use Rattle.hp_events.specs.Copies.{AreCopiesFor};
 ghost use Rattle.hp_events.specs.Event.{IsAnother, full_for, has_maps_for, is_exit, is_of_mount, shows_bytes};
 ghost use Rattle.hp_events.specs.Replies.{is_trace_full};
+ghost use Rattle.hp_mount.specs.Running.{RunsThrough};
 ghost use Rattle.hp_shared.specs.Slots.{IsSlotEvent, IsSlotTrail, slot_start};
 ghost use Rattle.hp_trail.specs.Keeping.{has_room, one_less, with_entry};
 
@@ -28,8 +29,9 @@ use hp_model::entry::{Asked, Part, Receipt, SlotEntry};
 use hp_model::event::Event;
 use hp_model::naming::Naming;
 use hp_model::refusal::Refusal;
+use hp_model::service::Access;
 use hp_model::told::Told;
-use hp_mount::Mount;
+use hp_mount::{MapAccess, Mount, RunDoor};
 use hp_mount_door::PoolDoor;
 use hp_slot::{act, ask};
 use hp_trail::trail::Trail;
@@ -181,6 +183,31 @@ impl<N: Naming, T: Trail<SlotEntry>> Slot<N, T> {
         }
         let receipt = note(trail, *number, event, copies, door.asked(), &told);
         (told, receipt)
+    }
+
+    /// Faults through one map, at an index and at those behind it, where no entries are kept: as `Mount::fault_run` does them. None
+    /// where the slot has no mount.
+    #[inline(always)]
+    pub fn fault_run<D: RunDoor<N>>(&mut self, door: &mut D, access: &Access, most: u64) -> u64
+        requires unkept { T.keeps ≡ false }
+        requires none { D.waiting door.old ≡ [] }
+        ensures done { RunsThrough D.took N.page_bytes self.old.number access.now.task
+            access.now.map access.now.index result self.old.mount door.old self.new.mount
+            door.new }
+        ensures none { D.waiting door.new ≡ [] }
+        ensures few { result ≤ most }
+        ensures unkept { self.old.entries ≡ None }
+        ensures same { self.new ≡ record self.old { mount = self.new.mount } }
+    {
+        let Some(mount) = &mut self.mount else {
+            return 0;
+        };
+        let first = MapAccess {
+            task: access.task,
+            map: access.map,
+            index: access.index,
+        };
+        mount.fault_run(door, &first, most)
     }
 
     /// An event of a mount but a list of names, where no entries are kept: its reply, with bytes in the front of the room. There

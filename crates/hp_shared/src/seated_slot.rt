@@ -11,14 +11,16 @@ ghost use Rattle.hp_laws.specs.Answers.{lists_names};
 ghost use Rattle.hp_events.specs.Copies.{AreCopiesFor};
 ghost use Rattle.hp_events.specs.Event.{IsAnother, full_for, has_maps_for, is_exit, is_of_mount, shows_bytes};
 ghost use Rattle.hp_history.specs.declared.held.Held.TheVariants.{Slot as SlotPart};
-ghost use Rattle.hp_history.specs.History.{IsSession};
+ghost use Rattle.hp_history.specs.History.{IsSession, number_in};
 ghost use Rattle.hp_history.specs.Sections.{IsFree, IsHeld, free_slot, session_view};
 ghost use Rattle.hp_locked.specs.Views.{IsNewTrail, IsTrailOf};
 ghost use Rattle.hp_events.specs.Replies.{is_trace_full, names_reply};
+ghost use Rattle.hp_shared.specs.Runs.{AreFaultsDone, faults_of, seated_mount};
 ghost use Rattle.hp_shared.specs.Seated.{IsSeatedDone, IsSeatedEvent, first_of, run_in, session_left, slot_left, slot_view};
 ghost use Rattle.hp_shared.specs.Slots.{IsSlotTrail, slot_start};
 
 use crate::locked_slot::Slot;
+use crate::run::Run;
 use crate::seats::{join, leave, leave_names};
 use atomic_table::Badge;
 use hp_events::LentEvent;
@@ -29,6 +31,8 @@ use hp_model::entry::{Receipt, SlotEntry};
 use hp_model::names::Names;
 use hp_model::naming::Naming;
 use hp_model::refusal::Refusal;
+use hp_model::service::Access;
+use hp_model::step::Intent;
 use hp_model::told::Told;
 use hp_mount::Mount;
 use hp_trail::trail::Trail;
@@ -197,6 +201,43 @@ impl<N: Naming + Places, T: Trail<SlotEntry>> SeatedSlot<N, T> {
         let mut mine = door.into_mine();
         *seat = ways.history.leave::<Brand, _>(&mut mine, (&event, &told));
         (mine, told, entered)
+    }
+
+    /// Faults of a session through one map, at an index and at those behind it, where no entries are kept: the first of them, at
+    /// most so many, that each take the page of a reservation. Each comes behind a look-up of its task. All of them enter the
+    /// pool in one hold of its lock. The session's seat, and how many were done: none where there are less than two.
+    #[inline(always)]
+    pub fn fault_run<R: Wait, G: Gate, const K: usize>(
+        &mut self,
+        ways: &Ways<'_, N, R, G, K>,
+        mine: Token,
+        access: &Access,
+        intent: Intent,
+        most: u64,
+    ) -> (Token, u64)
+        requires named { mine.table_id ≡ N.history }
+        requires session { IsSession mine.me.0 }
+        requires alone { mine.me.1 ≡ [] }
+        requires keeps { (K == 1) ≡ T.keeps }
+        requires unkept { T.keeps ≡ false }
+        requires looks { N.shape.looks ≡ true }
+        ensures named { result.0.table_id ≡ N.history }
+        ensures session { IsSession result.0.me.0 }
+        ensures alone { result.0.me.1 ≡ [] }
+        ensures same { number_in result.0.me.0 ≡ number_in mine.me.0 }
+        ensures done { AreFaultsDone N.page_bytes
+            (faults_of self.old.slot.number access.now intent) access.now.index result.1
+            (seated_mount self.old mine.me.0) (seated_mount self.new result.0.me.0) }
+        ensures few { result.1 ≤ most }
+        ensures number { self.new.slot.number ≡ self.old.slot.number }
+    {
+        let SeatedSlot { slot, seat } = self;
+        let own = mem::replace(seat, Badge::blank());
+        let mut door: Run<'_, N, R, G, K> = Run::new(ways, access, intent, mine, own);
+        let done = slot.fault_run(&mut door, access, most);
+        let (mine, own) = door.into_seats();
+        *seat = own;
+        (mine, done)
     }
 
     /// The names of the slot's files, in order of creation, and the receipt where entries are kept. Refused as NoSuchSlot, or

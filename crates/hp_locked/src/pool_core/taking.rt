@@ -39,6 +39,7 @@ impl<N: Naming + Places, T: Trail<PoolEntry>> Core<N, T> {
         ensures asks { IfOk result (λ r. r.1.section ≡ TakePage home) }
         ensures answer { IfOk result (λ r. r.1.answer ≡ granted_at r.0.node) }
         ensures one { IfOk result (λ r. r.0.amount ≡ 1) }
+        ensures few { IfOk result (λ r. N.frames r.0.node < 2 ^ 64) }
         ensures share { OnOk result (share.new ≡ with_page share.old) }
         ensures full { OnErr result (IsFull T.keeps self.old self.new mine.old.me mine.new.me) }
         ensures unchanged { OnErr result (share.new ≡ share.old) }
