@@ -4,6 +4,9 @@ PREFIX ?= /usr/local
 DESTDIR ?=
 PROGRAM ?=
 PYTHON ?= python3
+# the first line of the tool, where it is not the Python of the PATH
+INTERPRETER ?=
+UNITS = hugetlbd.service hugetlbd-exporter.service
 
 bin = $(DESTDIR)$(PREFIX)/bin
 share = $(DESTDIR)$(PREFIX)/share
@@ -22,22 +25,18 @@ check:
 install:
 	packaging/make-manual --check
 	PROGRAM="$(PROGRAM)" packaging/install-program "$(bin)/hugetlbd"
-	$(PYTHON) packaging/make-tool "$(bin)/hugetlbctl"
+	proved=$$(packaging/is-proved "$(bin)/hugetlbd") && \
+	    PROVED=$$proved INTERPRETER="$(INTERPRETER)" $(PYTHON) packaging/make-tool "$(bin)/hugetlbctl" && \
+	    $(PYTHON) packaging/install-documents "$(share)" $$proved
 	install -D -m 644 tools/hugetlb_session.py "$(modules)/hugetlb_session.py"
-	install -D -m 644 packaging/hugetlbd.1 "$(share)/man/man1/hugetlbd.1"
-	install -D -m 644 packaging/hugetlbctl.1 "$(share)/man/man1/hugetlbctl.1"
 	install -D -m 644 packaging/hugetlbd.bash "$(share)/bash-completion/completions/hugetlbd"
 	ln -sf hugetlbd "$(share)/bash-completion/completions/hugetlbctl"
 	install -D -m 644 packaging/_hugetlbd "$(share)/zsh/site-functions/_hugetlbd"
-	install -d "$(share)/doc/hugetlbd/docs/pictures" "$(share)/doc/hugetlbd/examples"
-	install -m 644 README.md CHANGELOG.md "$(share)/doc/hugetlbd"
-	install -m 644 docs/*.md "$(share)/doc/hugetlbd/docs"
-	install -m 644 docs/pictures/*.svg "$(share)/doc/hugetlbd/docs/pictures"
-	install -m 644 examples/*.script examples/*.replies examples/*.words examples/*.toml "$(share)/doc/hugetlbd/examples"
-	install -d "$(units)" && sed 's|@PREFIX@|$(PREFIX)|' packaging/hugetlbd.service.in > "$(units)/hugetlbd.service" && chmod 644 "$(units)/hugetlbd.service"
+	install -d "$(units)" && for unit in $(UNITS); do \
+	    sed 's|@PREFIX@|$(PREFIX)|' "packaging/$$unit.in" > "$(units)/$$unit" && chmod 644 "$(units)/$$unit" || exit 1; done
 
 uninstall:
-	rm -f "$(bin)/hugetlbd" "$(bin)/hugetlbctl" "$(share)/man/man1/hugetlbd.1" "$(share)/man/man1/hugetlbctl.1" "$(units)/hugetlbd.service"
+	rm -f "$(bin)/hugetlbd" "$(bin)/hugetlbctl" "$(share)/man/man1/hugetlbd.1" "$(share)/man/man1/hugetlbctl.1" $(UNITS:%="$(units)/%")
 	rm -f "$(share)/bash-completion/completions/hugetlbd" "$(share)/bash-completion/completions/hugetlbctl" "$(share)/zsh/site-functions/_hugetlbd"
 	rm -f "$(modules)/hugetlb_session.py" "$(modules)"/__pycache__/hugetlb_session.*.pyc
 	rm -rf "$(share)/doc/hugetlbd" "$(share)/hugetlbd"
