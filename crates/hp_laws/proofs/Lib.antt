@@ -9,4 +9,5 @@ pub mod names
 pub mod settled
 pub mod ending
 pub mod keeping
+pub mod footprint
 pub mod promises

@@ -5,6 +5,7 @@ pub mod ChildsMaps
 pub mod Promised
 pub mod SmallPool
 pub mod SmallReplies
+pub mod DoneAnswers
 pub mod Answered
 pub mod Parents
 pub mod Listing

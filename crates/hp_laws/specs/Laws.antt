@@ -12,6 +12,7 @@ use Rattle.hp_model.specs.files.Access.{access}
 use Rattle.hp_model.specs.files.CopyWrite.{copy_write}
 use Rattle.hp_model.specs.machine.Event.{after, CanHappen, IsEvent, IsEventRun, IsFresh}
 use Rattle.hp_model.specs.files.File.{Mount}
+use Rattle.hp_model.specs.machine.Footprint.{HasFootprint}
 use Rattle.hp_model.specs.threads.JointRun.{Trails, Item, AreRuns, HasParts, IsOrder, IsJointRun}
 use Rattle.hp_model.specs.machine.Machine.{pool_of, start}
 use Rattle.hp_model.specs.files.Page.{Copy}
@@ -113,6 +114,10 @@ LimitsHold =
 -- each step of a settled machine is as promised
 abbrev pub PromisesAreKept : Type 0
 PromisesAreKept = (s : State) (step : Step) (reply : Reply) (t : State) → IsSettledState s → IsStep s step reply t → IsPromised s step reply t
+
+-- each step of a settled machine changes what is told of it, and nothing else
+abbrev pub FootprintIsKept : Type 0
+FootprintIsKept = (s : State) (step : Step) (reply : Reply) (t : State) → IsSettledState s → IsStep s step reply t → HasFootprint s step reply t
 
 -- ---- trails
 

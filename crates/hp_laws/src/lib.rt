@@ -3,7 +3,7 @@
 
 ghost use Rattle.hp_laws.specs.Answers.{NamesAreListed};
 ghost use Rattle.hp_laws.specs.Closing.{PoolPlaces, ReceiptsAreFew, SlotPlaces, TablePlaces};
-ghost use Rattle.hp_laws.specs.Laws.{CountsAreSums, JoinedLaw, LimitsHold, OwnerWrites, PoolIsTied, PromisesAreKept, RefusalsChangeNothing, ReservedAccess, RunsAreSettled, SlotsAreBalanced, SlotsStaySound, StartIsSettled};
+ghost use Rattle.hp_laws.specs.Laws.{CountsAreSums, FootprintIsKept, JoinedLaw, LimitsHold, OwnerWrites, PoolIsTied, PromisesAreKept, RefusalsChangeNothing, ReservedAccess, RunsAreSettled, SlotsAreBalanced, SlotsStaySound, StartIsSettled};
 
 /// An access at an index that is reserved to its map is never refused for want of a huge page, whatever the pool answers.
 pub fn reserved_accesses_get_pages()
@@ -60,6 +60,12 @@ pub fn refusals_change_nothing()
 /// sums, limits hold, a load answers what its map shows, and files and maps show what they showed but for what the step stores.
 pub fn promises_are_kept()
     ensures { PromisesAreKept }
+{}
+
+/// Each step of a settled machine changes its own part of it, told state by state, and all else is equal, and in its order: page size, frames, tasks,
+/// slots, files, maps, pages and bytes. A refused step changes nothing, but for a mount after its grant and a fork onto maps of no task.
+pub fn footprint_is_kept()
+    ensures { FootprintIsKept }
 {}
 
 /// A list that joins trails which are runs of the table, the slots and the pool is a run of the

@@ -18,4 +18,5 @@ pub mod Gone
 pub mod Lost
 pub mod Kept
 pub mod Short
+pub mod Footprint
 pub mod Promises

@@ -11,4 +11,6 @@ pub mod WorkedSound
 pub mod WorkedRecord
 pub mod WorkedPreallocate
 pub mod WorkedHeld
+pub mod WorkedFootprint
+pub mod WorkedOwnSteps
 pub mod Worked

@@ -72,7 +72,7 @@ module _ (n pages : ℕ) (x : Map) (i : ℕ) (a : Copy) (from : n ≤ i) (to : i
   cut_off : HasCopy (map_punched n (n + pages) x) i a → ⊥
   cut_off = grind (arith, none_at, ltb-false)
 
-length-cells_to : (n : ℕ) (cells : List (Cell Page)) → length (cells_to n cells) ≡ n
+pub length-cells_to : (n : ℕ) (cells : List (Cell Page)) → length (cells_to n cells) ≡ n
 length-cells_to n cells = grind (arith, common_steps)
 
 pub truncated_keeps : (n : ℕ) (f : File) → KeepsFile f (truncated n f)

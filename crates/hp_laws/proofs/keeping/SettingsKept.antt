@@ -45,7 +45,7 @@ exits_set task r (k ∷ ks) u t is =
     either_way (has_maps_of task (slot_at u k)) (λ it. setting_then u it.1 t (slot_setting u k (slot.ExitMaps task) it.0 it.1 it.2) (exits_set task r ks it.1 t it.3))
     (λ it. exits_set task r ks u t it) is
 
-undone_refused : (done : List ℕ) (child : ℕ) (r : Refusal) (a : Answer) (u t : State) → IsScript u (undone done child r) (Ok a) t → ⊥
+pub undone_refused : (done : List ℕ) (child : ℕ) (r : Refusal) (a : Answer) (u t : State) → IsScript u (undone done child r) (Ok a) t → ⊥
 undone_refused [] child r a u t is = (let never : Ok a ≡ Err r = is.3.0 in cc)
 undone_refused (k ∷ ks) child r a u t is = either_way (has_maps_of child (slot_at u k)) (λ it. undone_refused ks child r a it.1 t it.3) (λ it. undone_refused ks child r a u t it) is
 

@@ -10,7 +10,8 @@ use Rattle.std.proofs.lemmas.List.Folds.{list_any_at}
 use Rattle.hp_laws.proofs.Variants.{Anon as AnonStep, BadName, Create as CreateStep, Done, Event, FileExists, Hole, Map as MapStep, MapNo, MountFull, NoSuchFile, OutOfMemory, OutOfRange, Preallocate}
 use Rattle.hp_laws.proofs.Variants.{Refusal, Reserving, Sharing, Slot as OnSlot, Step}
 use Rattle.hp_model.proofs.Words.{Answered, Choice, File, Finish, HasPages, IsEvent, IsNewAnon, IsNewFile, IsNewMap, IsStep, Makes, Map, Mount, Outcome, Plan, Refused, Reply, Slot, Spot, State}
-use Rattle.hp_model.proofs.Words.{anon_tests, asked, at_least, create_tests, file_named, fill, found, grant, has_name, has_page, is_bad_range, is_full, is_map, is_name, lacking, map_file, map_tests}
+use Rattle.hp_model.proofs.Words.{anon_tests, asked, at_least, cell_at, create_tests, file_named, fill, found, grant, has_name, has_page, is_bad_range, is_full, is_map, is_name, lacking}
+use Rattle.hp_model.proofs.Words.{map_file, map_tests}
 use Rattle.hp_model.proofs.Words.{mapped, maps_of, most_file_pages, named_on, new_file, new_map, next_number, numbers_of, one_on, pages_of_file, preallocate, preallocate_tests, range_filled, rise}
 use Rattle.hp_model.proofs.Words.{rising_nodes, slot_at, slot_event, spot, spot_in, unentered, unless, with_file, with_new}
 use Rattle.hp_laws.specs.Balance.{left_by}
@@ -148,21 +149,25 @@ module _ (m : Mount) (name : List ℕ) (a b : ℕ) (q : ℕ × File) (is : file_
   was_long : pages_of_file (named_on (Some m) name) ≡ length q.1.cells
   was_long = ap pages_of_file is
 
-  -- where nothing lacks a page the file is long enough
-  full_has : lacking a b q.1 ≡ 0 → HasPages (Some m) (Some m) name a b
-  full_has none =
-      let there = λ (i : ℕ) (low : a ≤ i) (high : i < b). sym (ap has_page (same_longer 0 a b [] q.1 i))
-      ∙ all_there a b (at_least b q.1.cells) none i low high (omega (arith, high, length-longer 0 a b [] q.1)) in
-      let long : b ≤ length q.1.cells =
-      ⊎_elim (λ (l : length q.1.cells < b). (let last = there (b - 1) (omega (arith, some_range)) (omega (arith, some_range)) in
+  -- where nothing lacks a page each index of the range has one
+  there_all : lacking a b q.1 ≡ 0 → (i : ℕ) → a ≤ i → i < b → has_page (cell_at q.1 i) ≡ true
+  there_all none i low high =
+      sym (ap has_page (same_longer 0 a b [] q.1 i)) ∙ all_there a b (at_least b q.1.cells) none i low high (omega (arith, high, length-longer 0 a b [] q.1))
+
+  -- so the file is long enough
+  pub long_enough : lacking a b q.1 ≡ 0 → b ≤ length q.1.cells
+  long_enough none =
+      ⊎_elim (λ (l : length q.1.cells < b). (let last = there_all none (b - 1) (omega (arith, some_range)) (omega (arith, some_range)) in
       let past = ap has_page (get_or_past q.1.cells (b - 1) Hole (omega (arith, l))) in absurd (let no : true ≡ false = sym last ∙ past in cc)))
-      (λ (l : b ≤ length q.1.cells). l) (cases_lt (length q.1.cells) b) in
-      record {
-        file = q;
-        named = is;
-        length = omega (arith, was_long, long);
-        pages = λ i within. (let parts = and_parts (nat_le a i) (nat_lt i b) within in there i (leb-true a i parts.0) (ltb-true i b parts.1));
-      }
+      (λ (l : b ≤ length q.1.cells). l) (cases_lt (length q.1.cells) b)
+
+  full_has : lacking a b q.1 ≡ 0 → HasPages (Some m) (Some m) name a b
+  full_has none = record {
+    file = q;
+    named = is;
+    length = (let long = long_enough none in omega (arith, was_long, long));
+    pages = λ i within. (let parts = and_parts (nat_le a i) (nat_lt i b) within in there_all none i (leb-true a i parts.0) (ltb-true i b parts.1));
+  }
 
   fill_has : (size : ℕ) (pages : List ℕ) → HasPages (Some m) (Some (with_file m q.0 (range_filled size a b (rising_nodes (lacking a b q.1) pages) q.1))) name a b
   fill_has size pages =

@@ -1,13 +1,14 @@
 -- What a step that reads answers, and that a refused step leaves the machine as it was.
-use Rattle.std.proofs.Common.{arith, ◌≡◌, ℕ, Bool, true, false, Option, Ok, Err, List, refl, MatchBool}
-use Rattle.hp_laws.proofs.Variants.{Answer, Attach, Event, Exit, Fork, Home, Refusal, Slot as OnSlot, SlotEvent, Step}
+use Rattle.std.proofs.Common.{arith, ◌≡◌, ℕ, Bool, true, false, Option, Ok, Err, List, refl, sym, subst, MatchBool}
+use Rattle.hp_laws.proofs.Variants.{Answer, Attach, Done, Event, Exit, Fork, Home, Refusal, Slot as OnSlot, SlotEvent, Step}
 use Rattle.hp_model.specs.declared.event.SlotEvent.TheVariants as slot
 use Rattle.hp_model.proofs.Words.{Answered, AnswersWhatWas, Choice, IsEvent, IsListed, IsRead, IsScripted, IsSettledState, IsStat, IsStep, IsUsage, LeavesAll, LeavesOthers, Outcome, Refused, Reply}
 use Rattle.hp_model.proofs.Words.{SameButNodes, Slot, State, home_of, is_known, is_late, named_on, slot_at, slot_event, when_known}
 use Rattle.hp_laws.proofs.settled.CountsHold.{counts_are_sums}
 use Rattle.hp_laws.proofs.ending.Fades.{exit_refused}
-use Rattle.hp_laws.proofs.steps.Outcomes.{Always}
+use Rattle.hp_laws.proofs.steps.Outcomes.{Always, always_weaker, event_ends, reply_of}
 use Rattle.hp_laws.proofs.steps.RefusalsKeep.{refusals_change_nothing}
+use Rattle.hp_laws.proofs.promises.DoneAnswers.{IsDone, SaysDone, exit_says, fork_says, slot_says, tells}
 use Rattle.hp_laws.proofs.promises.SmallReplies.{rows_many}
 use Rattle.hp_laws.proofs.ending.RefusedForks.{fork_known, fork_refused}
 use Rattle.hp_laws.proofs.steps.Whole.{by_event, is_whole, slot_step, step_of}
@@ -63,6 +64,14 @@ read_told : (size k : ℕ) (c : Choice) (old : Slot) (name : List ℕ) (i offset
     → Always (Says (IsRead size (named_on old name) i offset count)) (slot_event size k c old (slot.Read name i offset count))
 read_told size k c old name i offset count = grind arith
 
+-- one that tells nothing says that it is done
+done_told : (e : SlotEvent) → tells e ≡ false → (size k : ℕ) (c : Choice) (old : Slot) → Always (Says (λ a. a ≡ Done)) (slot_event size k c old e)
+done_told e not_told size k c old = always_weaker (SaysDone e) (Says (λ a. a ≡ Done)) says (slot_event size k c old e) (slot_says size k c old e)
+  where
+    says : (o : Outcome) → SaysDone e o → Says (λ a. a ≡ Done) o
+    says (Refused r) h = tt
+    says (Answered a new) h = h not_told
+
 -- a step that was refused tells nothing
 nothing_told : (s : State) (step : Step) (r : Refusal) → AnswersWhatWas s step (Err r)
 nothing_told s step r = grind arith
@@ -72,14 +81,41 @@ module _ (s : State) (st : IsSettledState s) where
   slot_tells : (P : Answer → Type 0) (k : ℕ) (e : SlotEvent) (reply : Reply) (t : State)
       → ((c : Choice) → Always (Says P) (slot_event s.page_size k c (slot_at s k) e)) → ((a : Answer) → P a → AnswersWhatWas s (slot_step k e) (Ok a))
       → IsEvent s (OnSlot k e) reply t → AnswersWhatWas s (slot_step k e) reply
-  slot_tells P k e reply t all h is = grind arith
+  slot_tells P k e reply t all h is = (let ends = event_ends (Says P) s k e reply t all is in by_outcome ends.outcome ends.holds ends.replied)
+    where
+      by_outcome : (o : Outcome) → Says P o → reply ≡ reply_of o → AnswersWhatWas s (slot_step k e) reply
+      by_outcome (Refused r) p replied = subst (λ x. AnswersWhatWas s (slot_step k e) x) (sym replied) (nothing_told s (slot_step k e) r)
+      by_outcome (Answered a new) p replied = subst (λ x. AnswersWhatWas s (slot_step k e) x) (sym replied) (h a p)
 
   home_told : (task : ℕ) (o : Option ℕ) → home_of s.table task ≡ o → (reply : Reply) → reply ≡ (when_known s.table o (λ home. (Ok (Home home), s.table))).0 → AnswersWhatWas s (Attach task) reply
   home_told task o known reply is = grind arith
 
+  slot_answers : (k : ℕ) (e : SlotEvent) (reply : Reply) (t : State) → IsEvent s (OnSlot k e) reply t → AnswersWhatWas s (slot_step k e) reply
+  slot_answers k e (Err r) t is = nothing_told s (slot_step k e) r
+  slot_answers k slot.Df (Ok a) t is = slot_tells (IsUsage (slot_at s k)) k slot.Df (Ok a) t (λ c. usage_told s.page_size k c (slot_at s k)) (λ x h. h) is
+  slot_answers k slot.Ls (Ok a) t is = slot_tells (IsListed (slot_at s k)) k slot.Ls (Ok a) t (λ c. names_told s.page_size k c (slot_at s k)) (λ x h. h) is
+  slot_answers k (slot.Stat name) (Ok a) t is =
+      slot_tells (IsStat (named_on (slot_at s k) name)) k (slot.Stat name) (Ok a) t (λ c. stat_told s.page_size k c (slot_at s k) name) (λ x h. h) is
+  slot_answers k (slot.Read name i offset count) (Ok a) t is =
+      slot_tells (IsRead s.page_size (named_on (slot_at s k) name) i offset count) k (slot.Read name i offset count) (Ok a) t
+      (λ c. read_told s.page_size k c (slot_at s k) name i offset count) (λ x h. h) is
+  slot_answers k (slot.Map task home name a n sharing reserving) (Ok answer) t is = tt
+  slot_answers k (slot.Anon task home n sharing reserving) (Ok answer) t is = tt
+  slot_answers k (slot.Load task home number i offset count) (Ok a) t is = tt
+  slot_answers k e (Ok a) t is = slot_tells (λ x. x ≡ Done) k e (Ok a) t (λ c. done_told e refl s.page_size k c (slot_at s k)) (λ x h. h) is
+
   event_tells : (e : Event) (reply : Reply) (t : State) → is_whole e ≡ true → IsEvent s e reply t → AnswersWhatWas s (step_of e) reply
-  event_tells e reply t whole is = grind (arith, counts_are_sums, rows_many, home_told, slot_tells, usage_told, names_told, stat_told, read_told)
+  event_tells (OnSlot k e) reply t whole is = slot_answers k e reply t is
+  event_tells e reply t whole is = grind (arith, counts_are_sums, rows_many, home_told)
+
+  fork_tells : (parent child : ℕ) (reply : Reply) → IsDone reply → AnswersWhatWas s (Fork parent child) reply
+  fork_tells parent child (Ok a) done = done
+  fork_tells parent child (Err r) done = tt
+
+  exit_tells : (task : ℕ) (reply : Reply) → IsDone reply → AnswersWhatWas s (Exit task) reply
+  exit_tells task (Ok a) done = done
+  exit_tells task (Err r) done = tt
 
   pub step_tells : (reply : Reply) (t : State) (step : Step) → IsStep s step reply t → AnswersWhatWas s step reply
   step_tells reply t step is = by_event s (λ step reply t. AnswersWhatWas s step reply) (λ step r early. nothing_told s step r) event_tells
-      (λ parent child reply t is. tt) (λ task reply t is. tt) reply t step is
+      (λ parent child reply t is. fork_tells parent child reply (fork_says s parent child reply t is)) (λ task reply t is. exit_tells task reply (exit_says s task reply t is)) reply t step is

@@ -18,6 +18,7 @@ use Rattle.hp_laws.proofs.keeping.EventKeeps.{step_own}
 use Rattle.hp_laws.proofs.ending.Fades.{AllFade, exit_fade, fork_fade}
 use Rattle.hp_laws.proofs.ending.GoneAfter.{step_gone}
 use Rattle.hp_laws.proofs.keeping.MountsStay.{step_keeps}
+use Rattle.hp_laws.proofs.footprint.Footprint.{step_footprint}
 use Rattle.hp_laws.proofs.making.FilesMade.{step_makes as step_is_new}
 use Rattle.hp_laws.proofs.keeping.Meant.{step_meant}
 use Rattle.hp_laws.proofs.making.MountsMade.{step_mounted}
@@ -132,5 +133,6 @@ promised s step reply t st is =
       elsewhere = step_elsewhere s reply t step is;
       forks = step_forks s reply t step is;
       short = step_short s reply t step is;
+      footprint = step_footprint s st step reply t is;
       kept = step_own s st reply t step after is;
     }

@@ -77,7 +77,7 @@ keep_rules = record {
 
 -- ---- a mount
 
-settled_already : (p : Pool) → IsSettledPool p → settled_pool (released 0 p) ≡ p
+pub settled_already : (p : Pool) → IsSettledPool p → settled_pool (released 0 p) ≡ p
 settled_already p s = grind arith
 
 late_memory : Refusal → Bool

@@ -1,11 +1,11 @@
 -- What the machine promises of each step.
 use Rattle.std.specs.Prelude.{◌≡◌, ◌≢◌, ◌⊎◌, ℕ, ◌+◌, ◌<◌, ◌≤◌, ◌&&◌, ◌==◌, Bool, true, false, not, Option}
-use Rattle.std.specs.Prelude.{None, Some, is_some, option_map, Ok, Err, List, ◌++◌, length, max, take, drop, if◌then◌else◌, nat_le}
+use Rattle.std.specs.Prelude.{None, Some, is_some, option_map, Ok, Err, List, length, max, if◌then◌else◌, nat_le}
 use Rattle.std.specs.Bool.{MatchBool}
 use Rattle.std.specs.List.{count_by, filter_map}
 use Rattle.std.specs.Str.{bytes_eq}
 use Rattle.hp_model.specs.declared.answer.Answer.{Answer}
-use Rattle.hp_model.specs.declared.answer.Answer.TheVariants.{Home, MapNo, Names, Numbers, PerNode, Stat as StatAnswer, Usage}
+use Rattle.hp_model.specs.declared.answer.Answer.TheVariants.{Done, Home, MapNo, Names, Numbers, PerNode, Stat as StatAnswer, Usage}
 use Rattle.hp_model.specs.declared.event.Event.{Event}
 use Rattle.hp_model.specs.declared.event.Event.TheVariants.{Slot as OnSlot}
 use Rattle.hp_model.specs.declared.event.SlotEvent.TheVariants.{Mount as MountEvent}
@@ -17,7 +17,7 @@ use Rattle.hp_model.specs.declared.step.Reserving.{Reserving}
 use Rattle.hp_model.specs.declared.step.Sharing.{Sharing}
 use Rattle.hp_model.specs.declared.step.Step.{Step}
 use Rattle.hp_model.specs.declared.step.Step.TheVariants.{Anon, Attach, Create as CreateStep, Df, Exit, Fault, Fork}
-use Rattle.hp_model.specs.declared.step.Step.TheVariants.{Load, Ls, Map as MapStep, Meminfo, Mount as MountStep, Nodes, Preallocate, Punch as PunchStep}
+use Rattle.hp_model.specs.declared.step.Step.TheVariants.{Load, Ls, Map as MapStep, Meminfo, Mount as MountStep, Nodes, Nr, Preallocate, Punch as PunchStep}
 use Rattle.hp_model.specs.declared.step.Step.TheVariants.{Read as ReadStep, Remount, Stat, Store, Truncate as TruncateStep, Umount, Unlink as UnlinkStep, Unmap as UnmapStep}
 use Rattle.hp_model.specs.machine.Plan.{slot_usage, IsWithinLimit}
 use Rattle.hp_model.specs.files.File.{File, cell_at, has_page, is_entered, new_file}
@@ -26,6 +26,8 @@ use Rattle.hp_model.specs.files.GiveBack.{without_task}
 use Rattle.hp_model.specs.machine.Gone.{IsGone}
 use Rattle.hp_model.specs.machine.Held.{AreOnce, MakesOnly, are_held}
 use Rattle.hp_model.specs.machine.Kept.{KeepsOwn, is_on}
+use Rattle.hp_model.specs.machine.Footprint.{HasFootprint}
+pub use Rattle.hp_model.specs.machine.Footprint.{over}
 pub use Rattle.hp_model.specs.machine.Lost.{IsLost, IsLostTo, is_same_copy}
 use Rattle.hp_model.specs.machine.Machine.{committed_pages, counts_in, pool_of}
 use Rattle.hp_model.specs.files.MakeMap.{mapped, new_map, reserves}
@@ -88,10 +90,6 @@ shown_on size (Some m) file i = shown size (cell_at (file_in m file) i)
 -- the bytes at an index of the file at this place of the slot; zeros where there is no page
 abbrev pub shown_in : State → (slot file i : ℕ) → List ℕ
 shown_in s slot file i = shown_on s.page_size (slot_at s slot) file i
-
--- the bytes with others over them from the offset on
-abbrev pub over : (offset : ℕ) → (bytes old : List ℕ) → List ℕ
-over offset bytes old = take offset old ++ bytes ++ drop (offset + length bytes) old
 
 -- what the step makes of the bytes there: a store through a shared map of that file writes them, and what is cut off or punched is zeros
 abbrev pub stored_over : State → Step → Reply → (slot file i : ℕ) → List ℕ → List ℕ
@@ -263,7 +261,8 @@ abbrev pub IsHome : Option ℕ → Answer → Type 0
 IsHome None a = ⊥
 IsHome (Some home) a = a ≡ Home home
 
--- a step that reads answers what there was: the counts, the nodes' rows, a mount's numbers and names, a file's numbers and bytes, a task's home
+-- a step that reads answers what there was: the counts, the nodes' rows, a mount's numbers and names, a file's numbers and bytes, a task's home.
+-- A load is told of by `ShowsMap`, an `nr` by `IsSet`, a map by `Makes`; all others answer `ok`
 abbrev pub AnswersWhatWas : State → Step → Reply → Type 0
 AnswersWhatWas s (Attach task) (Ok a) = IsHome (home_of s.table task) a
 AnswersWhatWas s Meminfo (Ok a) = a ≡ Numbers (counts_in s)
@@ -272,7 +271,12 @@ AnswersWhatWas s (Df k) (Ok a) = IsUsage (slot_at s k) a
 AnswersWhatWas s (Ls k) (Ok a) = IsListed (slot_at s k) a
 AnswersWhatWas s (Stat k name) (Ok a) = IsStat (named_on (slot_at s k) name) a
 AnswersWhatWas s (ReadStep k name i offset count) (Ok a) = IsRead s.page_size (named_on (slot_at s k) name) i offset count a
-AnswersWhatWas s step reply = Unit {0}
+AnswersWhatWas s (Load task k number i offset count) (Ok a) = Unit {0}
+AnswersWhatWas s (Nr n) (Ok a) = Unit {0}
+AnswersWhatWas s (MapStep task k name a n sharing reserving) (Ok answer) = Unit {0}
+AnswersWhatWas s (Anon task n sharing reserving) (Ok answer) = Unit {0}
+AnswersWhatWas s step (Ok a) = a ≡ Done
+AnswersWhatWas s step (Err r) = Unit {0}
 
 -- ---- what is made
 
@@ -447,7 +451,7 @@ pub record IsPromised (s : State) (step : Step) (reply : Reply) (t : State) : Ty
   pub minimums : (slot : ℕ) → least_of (slot_at t slot) + committed_pages (with_slot t slot None) ≤ total_of (pool_of t).nodes.rows
   -- a load answers what its map showed
   pub loads : ShowsMap s step reply
-  -- and so do the steps that read counts, rows, a mount's numbers or a file
+  -- and so do the steps that read counts, rows, a mount's numbers or a file; steps that tell nothing answer `ok`
   pub answers : AnswersWhatWas s step reply
   -- what a name and a map's number mean, once they are made
   pub makes : Makes s step reply t
@@ -504,6 +508,8 @@ pub record IsPromised (s : State) (step : Step) (reply : Reply) (t : State) : Ty
   pub tests : MeetsTests s step reply
   -- one that is refused for want of pages lacks what it asks for, in its mount or in the pool
   pub short : MeetsShortage s step reply
+  -- a step changes only its own part of the machine, and so; all else is equal
+  pub footprint : HasFootprint s step reply t
 
 -- these steps may be refused memory: one that makes a file, a map or a list of names, a preallocation, a fork, and an access that no
 -- reservation backs, nor, where it writes, an owner's copy. A load of a copy is among them here, though the machine refuses it none

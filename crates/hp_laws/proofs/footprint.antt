@@ -1,0 +1,21 @@
+-- What each step changes of the machine, from the definitions.
+pub mod NodeFrames
+pub mod Landings
+pub mod Ranges
+pub mod Endings
+pub mod Truncates
+pub mod SmallSteps
+pub mod Mountings
+pub mod Makings
+pub mod Preallocations
+pub mod Walks
+pub mod TakenBack
+pub mod Copies
+pub mod Shares
+pub mod Stores
+pub mod Accesses
+pub mod Refusals
+pub mod IdlePools
+pub mod IdleEvents
+pub mod IdleSteps
+pub mod Footprint
