@@ -1,7 +1,7 @@
 -- A fork of maps that is not refused is answered Done.
-use Rattle.std.proofs.Common.{◌≡◌, ℕ, Bool, List, None, Some, Ok, refl, subst}
-use Rattle.hp_laws.proofs.Variants.{Answer, Done, ForkMaps, Receipt, Slot as OnSlot}
-use Rattle.hp_model.proofs.Words.{Answered, Choice, Gives, Outcome, Refused, Slot, fork_tests, forked, gives, slot_event}
+use Rattle.std.proofs.Common.{◌≡◌, ℕ, Bool, List, None, Some, Ok, Err, refl, IfOk, Result}
+use Rattle.hp_laws.proofs.Variants.{Answer, Done, ForkMaps, Receipt, Refusal, Slot as OnSlot, Told}
+use Rattle.hp_model.proofs.Words.{Answered, Choice, Gives, Outcome, Refused, Slot, fork_tests, forked, gives, slot_event, told_answer, told_reply}
 use Rattle.hp_laws.specs.Balance.{Always}
 use Rattle.hp_laws.proofs.accesses.SlotShows.{always_gives, always_unless}
 use Rattle.hp_events.specs.Answered.{CanAnswer, IsHanded}
@@ -26,7 +26,7 @@ fork_answer size k parent child a (old, asked, new, went) =
     let came = always_came IsDone (slot_event size k went.0 old (ForkMaps parent child)) asked old (Ok a) new (forks size k went.0 parent child old) went.2 in
     done came.0 old new a came.1 came.2
 
-pub fork_done : (kept : Bool) (size k parent child : ℕ) (a : Answer) (was now : List Receipt) → IsHanded kept size (OnSlot k (ForkMaps parent child)) (Ok a) was now →
-    IsHanded kept size (OnSlot k (ForkMaps parent child)) (Ok Done) was now
-fork_done kept size k parent child a was now h =
-    subst (λ (x : Answer). IsHanded kept size (OnSlot k (ForkMaps parent child)) (Ok x) was now) (fork_answer size k parent child a h.0) h
+pub fork_result : (kept : Bool) (size k parent child : ℕ) (r : Result Told Refusal) (was now : List Receipt) →
+    IsHanded kept size (OnSlot k (ForkMaps parent child)) (told_reply r) was now → IfOk r (λ t. told_answer t ≡ Done)
+fork_result kept size k parent child (Ok t) was now h = fork_answer size k parent child (told_answer t) h.0
+fork_result kept size k parent child (Err e) was now h = tt

@@ -14,6 +14,12 @@ pub record MemberView : Type 0 where
   pub receipts : List Receipt
   pub room : ℕ
 
+-- what a way into the machine shows: how many slots there are, and the member's receipts and room
+pub record EntranceView : Type 0 where
+  pub slots : ℕ
+  pub receipts : List Receipt
+  pub room : ℕ
+
 abbrev pub told_at : List (List Held) → List Receipt
 told_at vs = receipts_in (first_of vs)
 

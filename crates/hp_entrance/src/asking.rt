@@ -1,5 +1,5 @@
 //! What is asked of a part, under its lock.
-ghost use Rattle.std.specs.Prelude.{ℕ, ◌≡◌, ◌==◌, ◌<◌, None, true, false, IfNone, IfSome};
+ghost use Rattle.std.specs.Prelude.{ℕ, ◌≡◌, ◌∷◌, [], ◌==◌, ◌<◌, None, true, false, IfNone, IfSome};
 ghost use Rattle.std.specs.Sync.Mutex.{mutex_guard_value};
 ghost use Rattle.hp_model.specs.declared.event.Event.TheVariants.{Tasks as OnTasks};
 ghost use Rattle.hp_events.specs.Answered.{IsHanded};
@@ -9,9 +9,9 @@ use crate::entrance::Entrance;
 use crate::holding::held_accesses;
 use crate::member::Member;
 use hp_events::copies::Copies;
-use hp_events::{LentEvent, Parts, TableTold, is_of_mount};
+use hp_events::{LentEvent, Parts, TableTold, into_done, is_of_mount};
 use hp_history::Places;
-use hp_locked::{Core, Gate, hold};
+use hp_locked::{Core, Gate};
 use hp_model::entry::{PoolEntry, SlotEntry, TableEntry};
 use hp_model::event::{PoolEvent, SlotEvent, TableEvent};
 use hp_model::names::Names;
@@ -19,24 +19,30 @@ use hp_model::naming::Naming;
 use hp_model::queued::Queued;
 use hp_model::refusal::Refusal;
 use hp_model::told::Told;
+use hp_order::{Turn, hold, let_go, try_hold};
 use hp_shared::{SeatedSlot, Shared, Table};
 use hp_trail::trace::Trace;
 use std::alloc::Global;
-use std::sync::{Mutex, MutexGuard, Wait};
+use std::sync::{MutexGuard, Wait};
 
 // The lock of the slot of this number, where nobody holds it.
 #[inline(always)]
 fn free_slot<'b, N: Naming + Places, const K: usize>(
+    turn: &mut Turn,
     shared: &'b Shared<N, K>,
     at: usize,
 ) -> Option<MutexGuard<'b, SeatedSlot<N, Trace<SlotEntry, K>>>>
-    requires { at < shared.now.slots }
-    ensures { IfSome result (λ slot. (mutex_guard_value slot).slot.number ≡ at) }
+    requires turn { turn.old.held ≡ [] }
+    requires at { at < shared.now.slots }
+    ensures number { IfSome result (λ slot. (mutex_guard_value slot).slot.number ≡ at) }
+    ensures some { IfSome result (λ slot. turn.new.held ≡ 1 ∷ []) }
+    ensures none { IfNone result (turn.new.held ≡ []) }
 {
-    let slot = shared.slot(at).try_lock()?;
+    let slot = try_hold(turn, shared.slot(at))?;
     if slot.number() == at as u64 {
         Some(slot)
     } else {
+        let_go(turn, slot);
         None
     }
 }
@@ -45,33 +51,40 @@ fn free_slot<'b, N: Naming + Places, const K: usize>(
 // it is there. At each place stands the slot of that number, so it always is.
 #[inline(always)]
 fn hold_slot<'b, N: Naming + Places, R: Wait, const K: usize>(
+    turn: &mut Turn,
     shared: &'b Shared<N, K>,
     rt: &R,
     at: usize,
 ) -> MutexGuard<'b, SeatedSlot<N, Trace<SlotEntry, K>>>
-    requires { at < shared.now.slots }
-    ensures { (mutex_guard_value result).slot.number ≡ at }
+    requires turn { turn.old.held ≡ [] }
+    requires at { at < shared.now.slots }
+    ensures number { (mutex_guard_value result).slot.number ≡ at }
+    ensures turn { turn.new.held ≡ 1 ∷ [] }
 {
-    match free_slot(shared, at) {
+    match free_slot(turn, shared, at) {
         Some(slot) => slot,
-        None => wait_for_slot(shared, rt, at),
+        None => wait_for_slot(turn, shared, rt, at),
     }
 }
 
 #[inline(never)]
 fn wait_for_slot<'b, N: Naming + Places, R: Wait, const K: usize>(
+    turn: &mut Turn,
     shared: &'b Shared<N, K>,
     rt: &R,
     at: usize,
 ) -> MutexGuard<'b, SeatedSlot<N, Trace<SlotEntry, K>>>
-    requires { at < shared.now.slots }
-    ensures { (mutex_guard_value result).slot.number ≡ at }
+    requires turn { turn.old.held ≡ [] }
+    requires at { at < shared.now.slots }
+    ensures number { (mutex_guard_value result).slot.number ≡ at }
+    ensures turn { turn.new.held ≡ 1 ∷ [] }
 {
     for _ in rt.forever() {
-        let slot = hold(shared.slot(at), rt);
+        let slot = hold(turn, shared.slot(at), rt);
         if slot.number() == at as u64 {
             return slot;
         }
+        let_go(turn, slot);
     }
     unreachable!()
 }
@@ -105,11 +118,11 @@ impl<'a, N: Naming + Places, R: Wait, G: Gate, const K: usize> Parts for Entranc
 
     ghost page = { N.page_bytes };
 
-    ghost slots = { λ e. e.shared.now.slots };
+    ghost slots = { λ e. e.slots };
 
-    ghost told = { λ e. e.member.receipts };
+    ghost told = { λ e. e.receipts };
 
-    ghost places = { λ e. e.member.room };
+    ghost places = { λ e. e.room };
 
     #[inline(always)]
     fn is_kept(&self) -> bool {
@@ -142,17 +155,21 @@ impl<'a, N: Naming + Places, R: Wait, G: Gate, const K: usize> Parts for Entranc
         if let Some(told) = seen(shared, &mut self.member, event) {
             return told;
         }
-        let mut value = hold(shared.table(), self.rt);
+        let mut value = hold(&mut self.turn, shared.table(), self.rt);
         let table: &mut Table<N, Trace<TableEntry, K>> = &mut value;
-        self.member.table(shared.history(), table, event)
+        let told = self.member.table(shared.history(), table, event);
+        let_go(&mut self.turn, value);
+        told
     }
 
     #[inline(always)]
     fn pool(&mut self, event: PoolEvent) -> Result<Told<'static>, Refusal> {
         let shared = self.shared;
-        let mut value = hold(shared.core(), self.rt);
+        let mut value = hold(&mut self.turn, shared.core(), self.rt);
         let core: &mut Core<N, Trace<PoolEntry, K>> = &mut value;
-        self.member.pool(shared.history(), core, event)
+        let told = self.member.pool(shared.history(), core, event);
+        let_go(&mut self.turn, value);
+        told
     }
 
     #[inline(always)]
@@ -164,72 +181,116 @@ impl<'a, N: Naming + Places, R: Wait, G: Gate, const K: usize> Parts for Entranc
         room: &'b mut [u8],
     ) -> Result<Told<'b>, Refusal> {
         let shared = self.shared;
-        let mut value = hold_slot(shared, self.rt, at);
+        let mut value = hold_slot(&mut self.turn, shared, self.rt, at);
         self.gate.enter(at as u64);
         let slot: &mut SeatedSlot<N, Trace<SlotEntry, K>> = &mut value;
         let ways = shared.ways(self.rt, self.gate);
         if K != 1 && is_of_mount(&event) {
-            let (told, _entered) = self
-                .member
-                .unnoted(&ways, slot, shared.page_bytes(), event, room);
+            let (told, _entered) = self.member.unnoted(
+                &ways,
+                &mut self.turn,
+                slot,
+                shared.page_bytes(),
+                event,
+                room,
+            );
+            let_go(&mut self.turn, value);
             return told;
         }
         let (alloc, page_bytes) = (shared.alloc(), shared.page_bytes());
-        self.member
-            .slot(&ways, slot, alloc, page_bytes, event, copies, room)
+        let told = self.member.slot(
+            &ways,
+            &mut self.turn,
+            slot,
+            alloc,
+            page_bytes,
+            event,
+            copies,
+            room,
+        );
+        let_go(&mut self.turn, value);
+        told
     }
 
     fn fork_maps(&mut self, at: usize, parent: u64, child: u64) -> Option<Result<(), Refusal>> {
         let shared = self.shared;
-        let mut value = hold_slot(shared, self.rt, at);
+        let mut value = hold_slot(&mut self.turn, shared, self.rt, at);
         self.gate.enter(at as u64);
         let slot: &mut SeatedSlot<N, Trace<SlotEntry, K>> = &mut value;
         if !slot.has_maps(parent) {
+            let_go(&mut self.turn, value);
             return None;
         }
         let ways = shared.ways(self.rt, self.gate);
         let (alloc, page_bytes) = (shared.alloc(), shared.page_bytes());
         let event = SlotEvent::ForkMaps { parent, child };
-        let told = self
-            .member
-            .slot(&ways, slot, alloc, page_bytes, event, None, &mut []);
-        match told {
-            Ok(_done) => Some(Ok(())),
-            Err(refusal) => Some(Err(refusal)),
-        }
+        let told = self.member.slot(
+            &ways,
+            &mut self.turn,
+            slot,
+            alloc,
+            page_bytes,
+            event,
+            None,
+            &mut [],
+        );
+        let_go(&mut self.turn, value);
+        Some(into_done(told))
     }
 
     fn exit_maps(&mut self, at: usize, task: u64) -> bool {
         let shared = self.shared;
-        let mut value = hold_slot(shared, self.rt, at);
+        let mut value = hold_slot(&mut self.turn, shared, self.rt, at);
         self.gate.enter(at as u64);
         let slot: &mut SeatedSlot<N, Trace<SlotEntry, K>> = &mut value;
         if !slot.has_maps(task) {
+            let_go(&mut self.turn, value);
             return false;
         }
         let ways = shared.ways(self.rt, self.gate);
         let (alloc, page_bytes) = (shared.alloc(), shared.page_bytes());
         let event = SlotEvent::ExitMaps { task };
-        let _done = self
-            .member
-            .slot(&ways, slot, alloc, page_bytes, event, None, &mut []);
+        let _done = self.member.slot(
+            &ways,
+            &mut self.turn,
+            slot,
+            alloc,
+            page_bytes,
+            event,
+            None,
+            &mut [],
+        );
+        let_go(&mut self.turn, value);
         true
     }
 
     fn accesses(&mut self, at: usize, queue: &mut [Queued], room: &mut [u8]) -> usize {
         let shared = self.shared;
-        let mut value = hold_slot(shared, self.rt, at);
+        let mut value = hold_slot(&mut self.turn, shared, self.rt, at);
         self.gate.enter(at as u64);
         let slot: &mut SeatedSlot<N, Trace<SlotEntry, K>> = &mut value;
         let ways = shared.ways(self.rt, self.gate);
-        held_accesses(shared, &ways, &mut self.member, slot, at, queue, room)
+        let done = held_accesses(
+            shared,
+            &ways,
+            &mut self.turn,
+            &mut self.member,
+            slot,
+            at,
+            queue,
+            room,
+        );
+        let_go(&mut self.turn, value);
+        done
     }
 
     fn names(&mut self, at: usize) -> Result<Names, Refusal> {
         let shared = self.shared;
-        let mut value = hold_slot(shared, self.rt, at);
+        let mut value = hold_slot(&mut self.turn, shared, self.rt, at);
         self.gate.enter(at as u64);
         let slot: &mut SeatedSlot<N, Trace<SlotEntry, K>> = &mut value;
-        self.member.names(shared.history(), slot, shared.alloc())
+        let names = self.member.names(shared.history(), slot, shared.alloc());
+        let_go(&mut self.turn, value);
+        names
     }
 }

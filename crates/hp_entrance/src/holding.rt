@@ -1,5 +1,5 @@
 //! Loads, stores and faults that are done while their slot's lock is held, where no entries are kept.
-ghost use Rattle.std.specs.Prelude.{ℕ, ◌≡◌, ◌==◌, ◌+◌, ◌<◌, ◌≤◌, false, length, take, IfNone, IfSome, true};
+ghost use Rattle.std.specs.Prelude.{ℕ, ◌≡◌, ◌∷◌, [], ◌==◌, ◌+◌, ◌<◌, ◌≤◌, false, length, take, IfNone, IfSome, true};
 ghost use Rattle.std.specs.List.{All};
 ghost use Rattle.hp_model.specs.Profile.{most_bytes};
 ghost use Rattle.hp_model.specs.beside.Accesses.{fault_step};
@@ -21,6 +21,7 @@ use hp_model::naming::Naming;
 use hp_model::queued::{Doing, Queued};
 use hp_model::service::Access;
 use hp_model::step::Intent;
+use hp_order::Turn;
 use hp_shared::{SeatedSlot, Shared, Ways};
 use hp_trail::trace::Trace;
 use std::sync::Wait;
@@ -30,27 +31,32 @@ use std::sync::Wait;
 pub(crate) fn held_accesses<N: Naming + Places, R: Wait, G: Gate, const K: usize>(
     shared: &Shared<N, K>,
     ways: &Ways<'_, N, R, G, K>,
+    turn: &mut Turn,
     member: &mut Member<N, K>,
     slot: &mut SeatedSlot<N, Trace<SlotEntry, K>>,
     at: usize,
     queue: &mut [Queued],
     room: &mut [u8],
 ) -> usize
+    requires turn { turn.old.held ≡ 1 ∷ [] }
     requires unkept { (K == 1) ≡ false }
     requires number { slot.old.slot.number ≡ at }
     requires room { most_bytes ≤ length room.old }
+    ensures turn { turn.new.held ≡ 1 ∷ [] }
     ensures first { AreFirstHanded N.page_bytes at result queue.old queue.new
         member.old.receipts member.new.receipts }
     ensures room { member.new.room ≡ member.old.room }
 {
     let (history, page_bytes) = (shared.history(), shared.page_bytes());
     for done in 0..queue.len() {
-        let some = held_run(ways, member, slot, at, &mut queue[done..]);
+        let some = held_run(ways, turn, member, slot, at, &mut queue[done..]);
         if some > 0 {
             return done + some;
         }
         let queued = &mut queue[done];
-        match held_access(history, ways, member, slot, at, page_bytes, queued, room) {
+        match held_access(
+            history, ways, turn, member, slot, at, page_bytes, queued, room,
+        ) {
             None => return done,
             Some(true) => return done + 1,
             Some(false) => {}
@@ -64,15 +70,18 @@ pub(crate) fn held_accesses<N: Naming + Places, R: Wait, G: Gate, const K: usize
 #[inline(always)]
 fn held_run<N: Naming + Places, R: Wait, G: Gate, const K: usize>(
     ways: &Ways<'_, N, R, G, K>,
+    turn: &mut Turn,
     member: &mut Member<N, K>,
     slot: &mut SeatedSlot<N, Trace<SlotEntry, K>>,
     at: usize,
     queue: &mut [Queued],
 ) -> usize
+    requires turn { turn.old.held ≡ 1 ∷ [] }
     requires unkept { (K == 1) ≡ false }
     requires looks { N.shape.looks ≡ true }
     requires number { slot.old.slot.number ≡ at }
     requires some { 0 < length queue.old }
+    ensures turn { turn.new.held ≡ 1 ∷ [] }
     ensures first { AreFirstHanded N.page_bytes at result queue.old queue.new
         member.old.receipts member.new.receipts }
     ensures number { slot.new.slot.number ≡ at }
@@ -86,7 +95,7 @@ fn held_run<N: Naming + Places, R: Wait, G: Gate, const K: usize>(
     if most < 2 || access.slot != at as u64 {
         return 0;
     }
-    let done = member.fault_run(ways, slot, &access, intent, most as u64) as usize;
+    let done = member.fault_run(ways, turn, slot, &access, intent, most as u64) as usize;
     answer_all(&mut queue[..done]);
     done
 }
@@ -149,6 +158,7 @@ fn answer_all(queue: &mut [Queued])
 fn held_access<N: Naming + Places, R: Wait, G: Gate, const K: usize>(
     history: &History<N>,
     ways: &Ways<'_, N, R, G, K>,
+    turn: &mut Turn,
     member: &mut Member<N, K>,
     slot: &mut SeatedSlot<N, Trace<SlotEntry, K>>,
     at: usize,
@@ -156,11 +166,13 @@ fn held_access<N: Naming + Places, R: Wait, G: Gate, const K: usize>(
     queued: &mut Queued,
     room: &mut [u8],
 ) -> Option<bool>
+    requires turn { turn.old.held ≡ 1 ∷ [] }
     requires unkept { (K == 1) ≡ false }
     requires looks { N.shape.looks ≡ true }
     requires number { slot.old.slot.number ≡ at }
     requires page_bytes { page_bytes ≡ N.page_bytes }
     requires room { most_bytes ≤ length room.old }
+    ensures turn { turn.new.held ≡ 1 ∷ [] }
     ensures done { IfSome result (λ entered. IsAccessHanded N.page_bytes at queued.old.step
         queued.new.reply member.old.receipts member.new.receipts) }
     ensures left { IfNone result (queued.new ≡ queued.old) }
@@ -176,19 +188,19 @@ fn held_access<N: Naming + Places, R: Wait, G: Gate, const K: usize>(
     match queued.doing() {
         Doing::Load { count } => {
             let event = load_of(&access, home, count);
-            let (told, entered) = member.unnoted(ways, slot, page_bytes, event, room);
+            let (told, entered) = member.unnoted(ways, turn, slot, page_bytes, event, room);
             queued.answer_load(into_bytes(told));
             Some(entered)
         }
         Doing::Store { bytes } => {
             let event = store_of(&access, home, bytes);
-            let (told, entered) = member.unnoted(ways, slot, page_bytes, event, &mut []);
+            let (told, entered) = member.unnoted(ways, turn, slot, page_bytes, event, &mut []);
             queued.answer_done(into_done(told));
             Some(entered)
         }
         Doing::Fault { intent } => {
             let event = fault_of(&access, home, intent);
-            let (told, entered) = member.unnoted(ways, slot, page_bytes, event, &mut []);
+            let (told, entered) = member.unnoted(ways, turn, slot, page_bytes, event, &mut []);
             queued.answer_done(into_done(told));
             Some(entered)
         }

@@ -33,6 +33,7 @@ use hp_model::refusal::Refusal;
 use hp_model::service::Access;
 use hp_model::step::Intent;
 use hp_model::told::Told;
+use hp_order::Turn;
 use hp_shared::{Finished, SeatedSlot, Table, Ways};
 use hp_trail::trace::Trace;
 use std::alloc::Global;
@@ -220,6 +221,7 @@ impl<N: Naming + Places, const K: usize> Member<N, K> {
     pub fn slot<'b, R: Wait, G: Gate>(
         &mut self,
         ways: &Ways<'_, N, R, G, K>,
+        turn: &mut Turn,
         slot: &mut SeatedSlot<N, Trace<SlotEntry, K>>,
         alloc: Global,
         page_bytes: u64,
@@ -227,6 +229,7 @@ impl<N: Naming + Places, const K: usize> Member<N, K> {
         copies: Option<Copies>,
         room: &'b mut [u8],
     ) -> Result<Told<'b>, Refusal>
+        requires turn { turn.old.held ≡ 1 ∷ [] }
         requires place { HasPlace (K == 1) self.old.receipts self.old.room }
         requires page_bytes { page_bytes ≡ N.page_bytes }
         requires bytes { 0 < page_bytes }
@@ -235,6 +238,7 @@ impl<N: Naming + Places, const K: usize> Member<N, K> {
         requires another { IsAnother event }
         requires has { has_maps_for event slot.old.slot.mount ≡ true }
         requires copies { (K == 1) ≡ true → AreCopiesFor event copies }
+        ensures turn { turn.new.held ≡ 1 ∷ [] }
         ensures handed { IsHanded (K == 1) N.page_bytes
             (OnSlot slot.old.slot.number event.entry) (told_reply result)
             self.old.receipts self.new.receipts }
@@ -245,7 +249,11 @@ impl<N: Naming + Places, const K: usize> Member<N, K> {
     {
         let Member { seat, receipts, .. } = self;
         let mine = mem::replace(seat, Badge::blank()).into_seat();
-        let (mine, told, receipt) = slot.work(ways, mine, alloc, page_bytes, &event, copies, room);
+        let own = mem::replace(turn, Turn::spent());
+        let (mine, told, receipt, own) = slot.work(
+            ways, own, mine, alloc, page_bytes, &event, copies, room,
+        );
+        *turn = own;
         *seat = mine.into_badge();
         keep(receipts, receipt);
         told
@@ -257,16 +265,19 @@ impl<N: Naming + Places, const K: usize> Member<N, K> {
     pub fn unnoted<'b, R: Wait, G: Gate>(
         &mut self,
         ways: &Ways<'_, N, R, G, K>,
+        turn: &mut Turn,
         slot: &mut SeatedSlot<N, Trace<SlotEntry, K>>,
         page_bytes: u64,
         event: LentEvent<'_>,
         room: &'b mut [u8],
     ) -> (Result<Told<'b>, Refusal>, bool)
+        requires turn { turn.old.held ≡ 1 ∷ [] }
         requires unkept { (K == 1) ≡ false }
         requires page_bytes { page_bytes ≡ N.page_bytes }
         requires of_mount { is_of_mount event ≡ true }
         requires room { shows_bytes event ≡ true → most_bytes ≤ length room.old }
         requires apart { lists_names event ≡ false }
+        ensures turn { turn.new.held ≡ 1 ∷ [] }
         ensures handed { IsHanded (K == 1) N.page_bytes
             (OnSlot slot.old.slot.number event.entry) (told_reply result.0)
             self.old.receipts self.new.receipts }
@@ -277,7 +288,11 @@ impl<N: Naming + Places, const K: usize> Member<N, K> {
     {
         let Member { seat, .. } = self;
         let mine = mem::replace(seat, Badge::blank()).into_seat();
-        let (mine, told, entered) = slot.event_unnoted(ways, mine, page_bytes, event, room);
+        let own = mem::replace(turn, Turn::spent());
+        let (mine, told, entered, own) = slot.event_unnoted(
+            ways, own, mine, page_bytes, event, room,
+        );
+        *turn = own;
         *seat = mine.into_badge();
         (told, entered)
     }
@@ -289,13 +304,16 @@ impl<N: Naming + Places, const K: usize> Member<N, K> {
     pub fn fault_run<R: Wait, G: Gate>(
         &mut self,
         ways: &Ways<'_, N, R, G, K>,
+        turn: &mut Turn,
         slot: &mut SeatedSlot<N, Trace<SlotEntry, K>>,
         access: &Access,
         intent: Intent,
         most: u64,
     ) -> u64
+        requires turn { turn.old.held ≡ 1 ∷ [] }
         requires unkept { (K == 1) ≡ false }
         requires looks { N.shape.looks ≡ true }
+        ensures turn { turn.new.held ≡ 1 ∷ [] }
         ensures done { AreFaultsHanded N.page_bytes slot.old.slot.number
             (faults_of slot.old.slot.number access.now intent) access.now.index result
             self.old.receipts self.new.receipts }
@@ -306,7 +324,9 @@ impl<N: Naming + Places, const K: usize> Member<N, K> {
     {
         let Member { seat, .. } = self;
         let mine = mem::replace(seat, Badge::blank()).into_seat();
-        let (mine, done) = slot.fault_run(ways, mine, access, intent, most);
+        let own = mem::replace(turn, Turn::spent());
+        let (mine, done, own) = slot.fault_run(ways, own, mine, access, intent, most);
+        *turn = own;
         *seat = mine.into_badge();
         done
     }

@@ -4,6 +4,7 @@ ghost use Rattle.std.specs.List.{filter, sum_by};
 ghost use Rattle.hp_lookup.specs.Forking.{AreFilled, AreReady, HasNoted, HasRoom, HaveJoined, HaveNoted, HaveRoom, in_list, in_lists, joined, joined_at, list_copies, list_length, maps_by, with_list};
 ghost use Rattle.hp_file.specs.HeldPages.{AreHeld, AreShared};
 ghost use Rattle.hp_lookup.specs.Leaving.{is_used};
+ghost use Rattle.hp_model.specs.Profile.{most_maps};
 ghost use Rattle.hp_lookup.specs.Numbered.{numbered_at};
 
 use crate::copies_of;
@@ -65,8 +66,16 @@ fn fill_at(
     Ok(count)
 }
 
+/// How many numbers are looked up, from 1 on, for so many maps of a task before all files are gone over: a task's maps have
+/// low numbers, but for one that was left by those before it.
+pub fn numbers_tried(count: u64) -> u64
+    ensures { result ≤ most_maps }
+{
+    count.saturating_mul(2).saturating_add(16).min(MOST_MAPS)
+}
+
 /// The maps that a child gets of each file for those of a parent, which are so many: a list for each file, or none where there
-/// are none. The files are found by the numbers of the parent's maps, and no other is looked at unless some are not found so.
+/// are none. The files are found by low numbers of the parent's maps. All are gone over where some are not found so.
 pub fn children(
     files: &FileList,
     hints: &Hints,
@@ -82,7 +91,8 @@ pub fn children(
     let mut lists = empty_lists(alloc, if count > 0 { files.len() } else { 0 })?;
     let mut left = count;
     let mut number = 1;
-    while left > 0 && number <= MOST_MAPS {
+    let last = numbers_tried(count);
+    while left > 0 && number <= last {
         let at = hinted_at(parent, number, files, hints);
         left -= fill_at(at, files, alloc, tags, parent, child, &mut lists)?;
         number += 1;

@@ -1,5 +1,4 @@
 pub mod Added
 pub mod Giving
 pub mod Doors
-pub mod Crossing
 pub mod Frames

@@ -1,5 +1,5 @@
 //! A session's door to the pool under its lock.
-ghost use Rattle.std.specs.Prelude.{◌≡◌, ◌<◌, ◌==◌, Bool, Err, IfOk, List, None, Ok, OnErr, Option, Some, is_some, true, []};
+ghost use Rattle.std.specs.Prelude.{◌≡◌, ◌∷◌, ◌<◌, ◌==◌, Bool, Err, IfOk, List, None, Ok, OnErr, Option, Some, is_some, true, []};
 ghost use Rattle.hp_model.specs.declared.refusal.Refusal.TheVariants.{TraceFull};
 ghost use Rattle.hp_history.specs.declared.held.Held.{Held};
 ghost use Rattle.hp_history.specs.Sections.{IsEntered, IsFree};
@@ -12,7 +12,6 @@ use crate::gate::Gate;
 use crate::nodes::NodeLocks;
 use crate::noted::Notes;
 use crate::pool_core::{Core, Full};
-use crate::waiting::hold;
 use crate::ways::Ways;
 use hp_history::{History, Places, Token};
 use hp_model::entry::{Asked, PoolEntry};
@@ -21,11 +20,12 @@ use hp_model::naming::Naming;
 use hp_model::refusal::Refusal;
 use hp_mount_door::PoolDoor;
 use hp_nodes::Page;
+use hp_order::{RankedLock, Turn, hold, let_go};
 use hp_store::{PageBatch, PageStore};
 use hp_subpool::Subpool;
 use hp_trail::trace::Trace;
 use std::marker::Model;
-use std::sync::{Mutex, Wait};
+use std::sync::Wait;
 
 /// The pool and the frames behind their locks, for one event of a slot; the seat that has its slot and its session in the
 /// history; whether it entered a section of the pool, and where entries are kept which.
@@ -36,16 +36,17 @@ use std::sync::{Mutex, Wait};
 pub struct Door<'a, N: Naming + Places, R: Wait, G: Gate, S: Notes, const K: usize> {
     rt: &'a R,
     gate: &'a G,
-    core: &'a Mutex<Core<N, Trace<PoolEntry, K>>>,
+    core: &'a RankedLock<Core<N, Trace<PoolEntry, K>>>,
     nodes: &'a NodeLocks<N>,
     history: &'a History<N>,
+    turn: Turn,
     mine: Token,
     noted: S,
 }
 
 impl<'a, N: Naming + Places, R: Wait, G: Gate, S: Notes, const K: usize> Model
     for Door<'a, N, R, G, S, K> {
-    ghost use Rattle.std.specs.Prelude.{◌==◌};
+    ghost use Rattle.std.specs.Prelude.{◌≡◌, ◌∷◌, [], ◌==◌};
     ghost use Rattle.hp_history.specs.Sections.{asked_in};
     ghost use Rattle.hp_locked.specs.Doors.{IsDoor};
     ghost use Rattle.hp_locked.specs.Views.{DoorView};
@@ -55,13 +56,15 @@ impl<'a, N: Naming + Places, R: Wait, G: Gate, S: Notes, const K: usize> Model
     ghost view = { λ d. record { asked = asked_in d.mine.me.0; mine = d.mine.me.0 } };
 
     ghost invariant = { λ d. IsDoor N.history (K == 1) S.keeps d.mine.table_id d.mine.me
-        (record { is_entered = S.is_entered d.noted; section = S.section d.noted }) };
+        (record { is_entered = S.is_entered d.noted; section = S.section d.noted })
+        × (d.turn.held ≡ 1 ∷ []) };
 }
 
 impl<'a, N: Naming + Places, R: Wait, G: Gate, S: Notes, const K: usize> Door<'a, N, R, G, S, K> {
     /// A door that was not used. Where entries are kept, it notes which section is entered.
     #[inline(always)]
-    pub fn new(ways: &Ways<'a, N, R, G, K>, mine: Token) -> Self
+    pub fn new(ways: &Ways<'a, N, R, G, K>, turn: Turn, mine: Token) -> Self
+        requires turn { turn.held ≡ 1 ∷ [] }
         requires named { mine.table_id ≡ N.history }
         requires free { IsFree mine.me.0 }
         requires alone { mine.me.1 ≡ [] }
@@ -74,6 +77,7 @@ impl<'a, N: Naming + Places, R: Wait, G: Gate, S: Notes, const K: usize> Door<'a
             core: ways.core,
             nodes: ways.nodes,
             history: ways.history,
+            turn,
             mine,
             noted: S::new(),
         }
@@ -81,12 +85,13 @@ impl<'a, N: Naming + Places, R: Wait, G: Gate, S: Notes, const K: usize> Door<'a
 
     /// The seat that has the slot and the session.
     #[inline(always)]
-    pub fn into_mine(self) -> Token
-        ensures named { result.table_id ≡ N.history }
-        ensures mine { result.me ≡ (self.entry.mine, []) }
+    pub fn into_mine(self) -> (Token, Turn)
+        ensures named { result.0.table_id ≡ N.history }
+        ensures mine { result.0.me ≡ (self.entry.mine, []) }
+        ensures turn { result.1.held ≡ 1 ∷ [] }
     {
-        let Door { mine, .. } = self;
-        mine
+        let Door { turn, mine, .. } = self;
+        (mine, turn)
     }
 
     /// Whether the pool was entered.
@@ -105,22 +110,6 @@ impl<'a, N: Naming + Places, R: Wait, G: Gate, S: Notes, const K: usize> Door<'a
     }
 }
 
-// What a section brought, which is noted; or the trail was full.
-#[inline(always)]
-fn noted<T, S: Notes>(notes: &mut S, got: Result<(T, Asked), Full>) -> Result<T, Refusal>
-    ensures some { IfOk got (λ r. (result ≡ Ok r.0) × (S.is_entered notes.new ≡ true)
-        × (S.keeps ≡ true → S.section notes.new ≡ Some r.1)) }
-    ensures none { OnErr got ((result ≡ Err TraceFull) × (notes.new ≡ notes.old)) }
-{
-    match got {
-        Ok((brought, asked)) => {
-            notes.note(Some(asked));
-            Ok(brought)
-        }
-        Err(_full) => Err(Refusal::TraceFull),
-    }
-}
-
 impl<'a, N: Naming + Places, R: Wait, G: Gate, S: Notes, const K: usize> PoolDoor<N>
     for Door<'a, N, R, G, S, K> {
     ghost is_ready = { λ d. d.asked ≡ None };
@@ -134,8 +123,10 @@ impl<'a, N: Naming + Places, R: Wait, G: Gate, S: Notes, const K: usize> PoolDoo
     ghost stays = { λ d ready. tt };
 
     fn get(&mut self, share: &mut Subpool<N>, home: usize, k: u64) -> Result<(), Refusal> {
-        let mine = &mut self.mine;
-        match hold(self.core, self.rt).get(self.history, mine, share, home, k) {
+        let mut core = hold(&mut self.turn, self.core, self.rt);
+        let got = core.get(self.history, &mut self.mine, share, home, k);
+        let_go(&mut self.turn, core);
+        match got {
             Err(_full) => Err(Refusal::TraceFull),
             Ok(None) => Ok(()),
             Ok(Some(asked)) => {
@@ -150,22 +141,28 @@ impl<'a, N: Naming + Places, R: Wait, G: Gate, S: Notes, const K: usize> PoolDoo
     }
 
     fn get_page(&mut self, share: &mut Subpool<N>, home: usize) -> Result<Page<N>, Refusal> {
-        let mine = &mut self.mine;
-        let got = hold(self.core, self.rt).get_page(self.history, mine, share, home);
-        match noted(&mut self.noted, got)? {
-            Some(claim) => Ok(self.nodes.redeem(self.rt, self.gate, claim)),
+        let mut core = hold(&mut self.turn, self.core, self.rt);
+        let got = core.get_page(self.history, &mut self.mine, share, home);
+        let_go(&mut self.turn, core);
+        let Ok((claim, asked)) = got else {
+            return Err(Refusal::TraceFull);
+        };
+        self.noted.note(Some(asked));
+        match claim {
+            Some(claim) => Ok(self.nodes.redeem(&mut self.turn, self.rt, self.gate, claim)),
             None => Err(Refusal::NoPages),
         }
     }
 
     fn take_page(&mut self, share: &mut Subpool<N>, home: usize) -> Result<Page<N>, Refusal> {
-        let mine = &mut self.mine;
-        let got = hold(self.core, self.rt).take_page(self.history, mine, share, home);
+        let mut core = hold(&mut self.turn, self.core, self.rt);
+        let got = core.take_page(self.history, &mut self.mine, share, home);
+        let_go(&mut self.turn, core);
         let Ok((claim, asked)) = got else {
             return Err(Refusal::TraceFull);
         };
         self.noted.note(Some(asked));
-        Ok(self.nodes.redeem(self.rt, self.gate, claim))
+        Ok(self.nodes.redeem(&mut self.turn, self.rt, self.gate, claim))
     }
 
     fn fill(
@@ -175,28 +172,34 @@ impl<'a, N: Naming + Places, R: Wait, G: Gate, S: Notes, const K: usize> PoolDoo
         count: u64,
         batch: &mut PageBatch<N>,
     ) -> Result<(), Refusal> {
-        let mine = &mut self.mine;
-        let got = hold(self.core, self.rt).fill(self.history, mine, share, k, count);
-        match noted(&mut self.noted, got)? {
-            Some(parcel) => {
-                self.nodes.add_pages(self.rt, self.gate, parcel, batch);
-                Ok(())
-            }
-            None => Err(Refusal::NoPages),
-        }
+        let mut core = hold(&mut self.turn, self.core, self.rt);
+        let got = core.fill(self.history, &mut self.mine, share, k, count);
+        let_go(&mut self.turn, core);
+        let Ok((parcel, asked)) = got else {
+            return Err(Refusal::TraceFull);
+        };
+        self.noted.note(Some(asked));
+        let Some(parcel) = parcel else {
+            return Err(Refusal::NoPages);
+        };
+        self.nodes
+            .add_pages(&mut self.turn, self.rt, self.gate, parcel, batch);
+        Ok(())
     }
 
     fn put(&mut self, share: &mut Subpool<N>, going: &mut PageStore<N>, reserves: u64) {
-        let parcel = self.nodes.gather(self.rt, self.gate, going);
-        let mut value = hold(self.core, self.rt);
+        let parcel = self.nodes.gather(&mut self.turn, self.rt, self.gate, going);
+        let mut value = hold(&mut self.turn, self.core, self.rt);
         let core: &mut Core<N, Trace<PoolEntry, K>> = &mut value;
         let asked = core.put(self.history, &mut self.mine, share, parcel, reserves);
+        let_go(&mut self.turn, value);
         self.noted.note(asked);
     }
 
     fn open(&mut self, page_bytes: u64, options: &[u8]) -> Result<(Subpool<N>, Limits), Refusal> {
-        let mine = &mut self.mine;
-        let opened = hold(self.core, self.rt).open(self.history, mine, page_bytes, options);
+        let mut core = hold(&mut self.turn, self.core, self.rt);
+        let opened = core.open(self.history, &mut self.mine, page_bytes, options);
+        let_go(&mut self.turn, core);
         match opened {
             Err(_full) => Err(Refusal::TraceFull),
             Ok((share, asked)) => {
@@ -212,8 +215,9 @@ impl<'a, N: Naming + Places, R: Wait, G: Gate, S: Notes, const K: usize> PoolDoo
         page_bytes: u64,
         options: &[u8],
     ) -> Result<Option<u64>, Refusal> {
-        let mine = &mut self.mine;
-        let set = hold(self.core, self.rt).limits(self.history, mine, share, page_bytes, options);
+        let mut core = hold(&mut self.turn, self.core, self.rt);
+        let set = core.limits(self.history, &mut self.mine, share, page_bytes, options);
+        let_go(&mut self.turn, core);
         match set {
             Err(_full) => Err(Refusal::TraceFull),
             Ok((files, asked)) => {
@@ -224,10 +228,11 @@ impl<'a, N: Naming + Places, R: Wait, G: Gate, S: Notes, const K: usize> PoolDoo
     }
 
     fn empty(&mut self, share: &mut Subpool<N>, going: &mut PageStore<N>) {
-        let parcel = self.nodes.gather(self.rt, self.gate, going);
-        let mut value = hold(self.core, self.rt);
+        let parcel = self.nodes.gather(&mut self.turn, self.rt, self.gate, going);
+        let mut value = hold(&mut self.turn, self.core, self.rt);
         let core: &mut Core<N, Trace<PoolEntry, K>> = &mut value;
         let asked = core.empty(self.history, &mut self.mine, share, parcel);
+        let_go(&mut self.turn, value);
         self.noted.note(asked);
     }
 }

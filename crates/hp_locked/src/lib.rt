@@ -3,21 +3,17 @@
 
 mod door;
 mod gate;
-mod line_lock;
 mod nodes;
 mod noted;
 mod noting;
 mod pool_core;
 mod pool_told;
-mod waiting;
 mod ways;
 
 pub use door::{Door, SessionDoor};
 pub use gate::Gate;
-pub use line_lock::LineLock;
 pub use nodes::NodeLocks;
 pub use noted::{Entered, Noted, Notes};
 pub use pool_core::{Core, Full};
 pub use pool_told::PoolTold;
-pub use waiting::hold;
 pub use ways::Ways;

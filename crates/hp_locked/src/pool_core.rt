@@ -29,6 +29,7 @@ use hp_model::event::PoolEvent;
 use hp_model::naming::Naming;
 use hp_model::profile::MOST_OVERCOMMIT;
 use hp_model::section::PoolAnswer;
+use hp_order::Ordered;
 use hp_pool::Pool;
 use hp_subpool::Subpool;
 use hp_trail::trail::Trail;
@@ -64,6 +65,15 @@ impl<N: Naming + Places, T: Trail<PoolEntry>> Model for Core<N, T> {
         (T.left c.trail) (T.extra c.trail) c.pool
         × IsSeated N.history (idle_pool (frames_list N.frames)) c.seat.table_id c.seat.views
         (T.entries c.trail) c.pool };
+}
+
+impl<N: Naming + Places, T: Trail<PoolEntry>> Ordered for Core<N, T> {
+    ghost rank = { 2 };
+
+    #[inline(always)]
+    fn rank() -> u64 {
+        2
+    }
 }
 
 impl<N: Naming + Places, T: Trail<PoolEntry>> Core<N, T> {

@@ -5,10 +5,11 @@ use hp_entrance::Entrance;
 use hp_history::Places;
 use hp_locked::Gate;
 use hp_model::naming::Naming;
+use hp_order::Rest;
 use hp_serving::Host;
 use hp_sessions::Session;
 use hp_shared::{Finished, Shared};
-use std::alloc::{AllocError, Global};
+use std::alloc::Global;
 use std::sync::Wait;
 
 /// A machine that threads share, with what a session on it waits by and the room for its receipts.
@@ -32,12 +33,12 @@ impl<'a, N: Naming + Places + Send + Sync, R: Wait, G: Gate, const K: usize> Hos
 
     ghost was_told = { λ session told. told.receipts ≡ session.receipts };
 
-    fn open(&self, _alloc: Global) -> Result<Session<Entrance<'a, N, R, G, K>>, AllocError> {
-        let entrance = Entrance::open(self.rt, self.shared, self.gate, self.room)?;
+    fn open(&self, _alloc: Global, rest: Rest) -> Result<Session<Entrance<'a, N, R, G, K>>, Rest> {
+        let entrance = Entrance::open(self.rt, self.shared, self.gate, self.room, rest)?;
         Ok(Session::open(entrance))
     }
 
-    fn finish(session: Session<Entrance<'a, N, R, G, K>>) -> Finished<N, K> {
+    fn finish(session: Session<Entrance<'a, N, R, G, K>>) -> (Finished<N, K>, Rest) {
         session.finish().into_finished()
     }
 }

@@ -13,6 +13,7 @@ use hp_closing::{close, into_system};
 use hp_history::Places;
 use hp_locked::Gate;
 use hp_model::naming::Naming;
+use hp_order::Rest;
 use hp_serving::{Closed, Machine, serve_session};
 use hp_shared::{Finished, Shared};
 use hp_wire::ends::{Sink, Source};
@@ -48,17 +49,18 @@ impl<N: Naming + Places + Send + Sync, G: Gate + Drop, const K: usize> Machine f
     fn serve_one<R: Wait, A: Source, B: Sink>(
         &self,
         rt: &R,
+        rest: Rest,
         alloc: Global,
         reader: &mut A,
         writer: &mut B,
-    ) -> Result<Finished<N, K>, AllocError> {
+    ) -> (Result<Finished<N, K>, AllocError>, Rest) {
         let host = Waiting {
             rt,
             shared: &self.shared,
             gate: &self.gate,
             room: self.room,
         };
-        serve_session(alloc, &&host, reader, writer)
+        serve_session(alloc, rest, &&host, reader, writer)
     }
 
     fn number(told: &Finished<N, K>) -> usize {

@@ -2,11 +2,7 @@
 #![tactic(auto)]
 
 #[cfg(test)]
-mod full;
-#[cfg(test)]
 mod gate;
-#[cfg(test)]
-mod lines;
 #[cfg(test)]
 mod over_tcp;
 #[cfg(test)]
@@ -15,5 +11,3 @@ mod same;
 mod serving;
 #[cfg(test)]
 mod start;
-#[cfg(test)]
-mod whole;

@@ -1,7 +1,7 @@
 //! Sessions over TCP, of which one is held under a lock while another goes on, with a trace and without one.
 
 use crate::gate::{Hold, Place};
-use crate::serving::{Asking, Serving, asks, row, tells};
+use crate::serving::{Holding, Serving, asks, row, tells};
 use std::io;
 use std::io::Write;
 use std::net::{Net, Shutdown, SocketAddr, TcpStream};
@@ -62,9 +62,15 @@ pub(crate) fn holds_one<R: Net<Stream = TcpStream> + Abort + Clock>(
     asks(rt, &free, b"meminfo\n", BOTH_STORED)
 }
 
-const AT_A_SLOT: Asking<'static> = Asking::Held(Place::Slot(1), HELD_AT_THE_SLOT);
+const AT_A_SLOT: Holding<'static> = Holding {
+    place: Place::Slot(1),
+    meanwhile: HELD_AT_THE_SLOT,
+};
 
-const AT_A_NODE: Asking<'static> = Asking::Held(Place::Node(0), HELD_AT_THE_NODE);
+const AT_A_NODE: Holding<'static> = Holding {
+    place: Place::Node(0),
+    meanwhile: HELD_AT_THE_NODE,
+};
 
 // Three sessions on two workers.
 const WITH_A_TRACE: Serving = Serving {

@@ -15,24 +15,17 @@ use std::alloc::Global;
 use std::io;
 use std::io::{Read, Write};
 use std::marker::Brand;
-use std::net::{Net, Shutdown, SocketAddr, TcpListener, TcpStream};
+use std::net::{Net, SocketAddr, TcpListener, TcpStream};
 use std::process::Abort;
 use std::sync::Wait;
 use std::thread::{Threads, join};
 use std::time::Clock;
 
-/// Lines that are asked at once, and what they are answered.
+/// One session is held at a place, while another is told this.
 #[derive(Clone, Copy, Drop)]
-pub struct Asked<'a> {
-    pub lines: &'a [u8],
-    pub replies: &'a [u8],
-}
-
-/// Who asks: one session, in turn, or one that is held at a place while another is told this.
-#[derive(Clone, Copy, Drop)]
-pub enum Asking<'a> {
-    InTurn(&'a [Asked<'a>]),
-    Held(Place, &'a [u8]),
+pub struct Holding<'a> {
+    pub place: Place,
+    pub meanwhile: &'a [u8],
 }
 
 /// How a machine serves: with a trace or without one, so many sessions on so many workers, with room for so many receipts each,
@@ -129,49 +122,21 @@ fn serves<N: Naming + Places + Send + Sync, R: Threads + Wait + Abort + Clock + 
     }
 }
 
-// One session that asks in turn.
-fn asks_in_turn<R: Net<Stream = TcpStream> + Abort>(
-    rt: &R,
-    at: SocketAddr,
-    row: &[Asked<'_>],
-) -> io::Result<()> {
-    let stream = TcpStream::connect(rt, at)?;
-    for asked in row {
-        asks(rt, &stream, asked.lines, asked.replies)?;
-    }
-    stream.shutdown(Shutdown::Write)
-}
-
-fn clients<R: Net<Stream = TcpStream> + Abort + Clock>(
-    rt: &R,
-    at: SocketAddr,
-    hold: &Hold<'_, R>,
-    asking: Asking<'_>,
-) -> io::Result<()> {
-    match asking {
-        Asking::InTurn(row) => asks_in_turn(rt, at, row),
-        Asking::Held(_, meanwhile) => holds_one(rt, at, hold, meanwhile),
-    }
-}
-
 fn row_of<
     N: Naming + Places + Send + Sync,
     R: Threads + Wait + Abort + Clock + Net<Stream = TcpStream, Listener = TcpListener> + Sync,
->(rt: &R, alloc: Global, start: Start, serving: Serving, asking: Asking<'_>) -> Vec<u8>
+>(rt: &R, alloc: Global, start: Start, serving: Serving, holding: Holding<'_>) -> Vec<u8>
     requires start { IsStart N.Naming N.Places (not serving.traced) start.blanks start.history }
     requires places { serving.places ≤ 16777216 }
 {
     let (mut ends, at) = Ends::new(rt, alloc);
-    let place = match asking {
-        Asking::InTurn(_) => Place::Slot(0),
-        Asking::Held(place, _) => place,
-    };
+    let Holding { place, meanwhile } = holding;
     let hold = Hold::new(rt, place);
     let serves = ||
         requires start { IsStart N.Naming N.Places (not serving.traced) start.blanks start.history }
         requires places { serving.places ≤ 16777216 }
     { serves::<N, R>(rt, alloc, start, serving, &hold, &mut ends) };
-    let (told, status) = join(rt, || clients(rt, at, &hold, asking), serves);
+    let (told, status) = join(rt, || holds_one(rt, at, &hold, meanwhile), serves);
     told.expect(rt, "clients that are served");
     same!(rt; status, 0);
     assert!(rt; hold.left() > 0, "the other session was held too");
@@ -183,14 +148,14 @@ fn row_of<
     output
 }
 
-/// A machine serves so, and is asked this. Then that is printed.
+/// A machine serves so, while one session is held. Then that is printed.
 pub fn row<
     R: Threads + Wait + Abort + Clock + Net<Stream = TcpStream, Listener = TcpListener> + Sync,
->(rt: &R, alloc: Global, serving: Serving, asking: Asking<'_>, at_the_end: &[u8])
+>(rt: &R, alloc: Global, serving: Serving, holding: Holding<'_>, at_the_end: &[u8])
     requires { serving.places ≤ 16777216 }
 {
     let start = Start::new(rt, alloc, !serving.traced);
-    let output = row_of::<Brand, R>(rt, alloc, start, serving, asking);
+    let output = row_of::<Brand, R>(rt, alloc, start, serving, holding);
     assert!(rt; output.as_slice().starts_with(at_the_end), "another end");
 }
 

@@ -1,2 +1,3 @@
 pub mod Printed
 mod Filing
+mod Tails

@@ -3,7 +3,7 @@ ghost use Rattle.std.specs.Prelude.{◌≡◌, [], All};
 ghost use Rattle.hp_serving.specs.Session.{IsOfConnection};
 
 use crate::host::Machine;
-use std::sync::Mutex;
+use hp_order::{Ordered, RankedLock};
 
 /// What a session was told, on which a connection was served.
 #[derive(Drop)]
@@ -12,16 +12,32 @@ pub struct Filed<M: Machine> {
     pub ghost served: { IsOfConnection M.is_opened M.was_told M.may_answer M.page told },
 }
 
-/// What the sessions were told, in the order of the cells. The list has room for all.
+/// Where it is filed what the session of a number was told.
+#[derive(Drop)]
+pub struct Place<M: Machine> {
+    pub(crate) filed: Option<Filed<M>>,
+}
+
+impl<M: Machine> Ordered for Place<M> {
+    ghost rank = { 1 };
+
+    #[inline(always)]
+    fn rank() -> u64 {
+        1
+    }
+}
+
+/// What the sessions were told, in the order of the places. The list has room for all.
 pub fn all_told<M: Machine>(
-    filed: Vec<Mutex<Option<Filed<M>>>>,
+    filed: Vec<RankedLock<Place<M>>>,
     mut told: Vec<M::Told>,
 ) -> Vec<M::Told>
     requires { told.items ≡ [] }
     ensures { All (IsOfConnection M.is_opened M.was_told M.may_answer M.page) result.items }
 {
-    for cell in filed {
-        if let Some(one) = cell.into_inner() {
+    for lock in filed {
+        let Place { filed } = lock.into_inner();
+        if let Some(one) = filed {
             let _ = told.push(one.told);
         }
     }

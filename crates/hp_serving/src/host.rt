@@ -9,6 +9,7 @@ ghost use Rattle.hp_serving.specs.declared.host.Closed.{Closed as TheClosed};
 
 use hp_model::answer::Counts;
 use hp_model::service::Service;
+use hp_order::Rest;
 use hp_wire::ends::{Sink, Source};
 use std::alloc::{AllocError, Global};
 use std::sync::Wait;
@@ -27,15 +28,15 @@ pub trait Host {
     /// The finished session was told this.
     ghost was_told: { Self.Session → Self.Told → Type 0 };
 
-    /// Opens a session, where memory for it can be had.
-    fn open(&self, alloc: Global) -> Result<Self::Session, AllocError>
+    /// Opens a session, where memory for it can be had. It has the turn of its thread, which comes back where it is refused.
+    fn open(&self, alloc: Global, rest: Rest) -> Result<Self::Session, Rest>
         ensures opened { IfOk result Self.is_opened }
         ensures ready { IfOk result Self.Session.is_ready }
         ensures page { IfOk result (λ session. Self.Session.page session ≤ most_page_bytes) };
 
-    /// Ends a session.
-    fn finish(session: Self::Session) -> Self::Told
-        ensures { Self.was_told session result };
+    /// Ends a session, and gives its thread's turn back.
+    fn finish(session: Self::Session) -> (Self::Told, Rest)
+        ensures { Self.was_told session result.0 };
 }
 
 /// What is left of a machine that was closed.
@@ -79,15 +80,16 @@ pub trait Machine {
     fn serve_one<R: Wait, A: Source, B: Sink>(
         &self,
         rt: &R,
+        rest: Rest,
         alloc: Global,
         reader: &mut A,
         writer: &mut B,
-    ) -> Result<Self::Told, AllocError>
-        ensures served { IfOk result (IsServed is_opened was_told may_answer page
+    ) -> (Result<Self::Told, AllocError>, Rest)
+        ensures served { IfOk result.0 (IsServed is_opened was_told may_answer page
             (A.remaining reader.old) (A.remaining reader.new)
             (B.contents writer.old) (B.contents writer.new)) }
-        ensures unread { OnErr result (reader.new ≡ reader.old) }
-        ensures unwritten { OnErr result (writer.new ≡ writer.old) };
+        ensures unread { OnErr result.0 (reader.new ≡ reader.old) }
+        ensures unwritten { OnErr result.0 (writer.new ≡ writer.old) };
 
     /// The number that the session got when it was opened: the first got 0, and each the next.
     fn number(told: &Self::Told) -> usize

@@ -5,16 +5,21 @@ ghost use Rattle.hp_serving.specs.Session.{IsServed};
 use crate::connections::Connections;
 use crate::endings::{Endings, Teller, pair};
 use crate::fault::ServeFault;
-use crate::filed::Filed;
+use crate::filed::{Filed, Place};
 use crate::host::Machine;
 use crossbeam_channel::{Receiver, Sender};
+use hp_order::{RankedLock, Rest, hold, let_go, receive};
 use hp_wire::ends::{Sink, Source};
 use std::alloc::{AllocError, Global};
-use std::sync::{Mutex, Wait};
+use std::sync::Wait;
 use std::thread;
-use std::thread::{Scope, Threads};
+use std::thread::{Builder, Scope, Threads};
 
-/// Serves as many sessions as there are cells, on so many workers, and files what each was told in the cell of the
+// The bytes of a worker's stack, of which lines at their limits touch 28 KB. The system's own size, 8 MB as a rule, would count
+// for each worker where addresses are limited.
+const STACK: usize = 256 * 1024;
+
+/// Serves as many sessions as there are places, on so many workers, and files what each was told in the place of the
 /// number that it got. A worker that can't be started is left out. The connections are announced once one runs.
 ///
 /// It returns when all sessions that were handed out have ended, however these ended. `Memory` says that no worker
@@ -26,7 +31,7 @@ pub fn serve<R: Threads + Wait + Sync, M: Machine + Sync, C: Connections>(
     machine: &M,
     connections: &mut C,
     workers: usize,
-    filed: &[Mutex<Option<Filed<M>>>],
+    filed: &[RankedLock<Place<M>>],
 ) -> Result<(), ServeFault> {
     let Ok((to, from)) = crossbeam_channel::bounded(alloc, workers.max(1)) else {
         return Err(ServeFault::Memory);
@@ -54,7 +59,7 @@ fn run<'x, R: Threads + Wait + Sync, M: Machine + Sync, C: Connections>(
     machine: &'x M,
     connections: &mut C,
     workers: usize,
-    filed: &'x [Mutex<Option<Filed<M>>>],
+    filed: &'x [RankedLock<Place<M>>],
     jobs: &'x Receiver<(C::Reader, C::Writer), Global>,
     to: Sender<(C::Reader, C::Writer), Global>,
     ends: &'x Teller,
@@ -85,14 +90,16 @@ fn start_workers<
     workers: usize,
     jobs: &'x Receiver<(A, B), Global>,
     ends: &'x Teller,
-    filed: &'x [Mutex<Option<Filed<M>>>],
+    filed: &'x [RankedLock<Place<M>>],
 ) -> bool {
     let mut started = false;
     for _ in 0..workers {
-        if scope
-            .spawn(move || work(rt, alloc, machine, jobs, ends, filed))
-            .is_ok()
-        {
+        let worker = Builder::new()
+            .stack_size(STACK)
+            .spawn_scoped(scope, move || {
+                let _ended = work(rt, Rest::begin(), alloc, machine, jobs, ends, filed);
+            });
+        if worker.is_ok() {
             started = true;
         }
     }
@@ -127,33 +134,41 @@ fn hand_out<R: Wait, C: Connections>(
 // Serves connections until no more come.
 fn work<R: Wait, M: Machine, A: Source + Drop, B: Sink + Drop>(
     rt: &R,
+    rest: Rest,
     alloc: Global,
     machine: &M,
     jobs: &Receiver<(A, B), Global>,
     ends: &Teller,
-    filed: &[Mutex<Option<Filed<M>>>],
-) {
+    filed: &[RankedLock<Place<M>>],
+) -> Rest {
+    let mut rest = rest;
     for _ in rt.forever() {
-        let Ok((reader, writer)) = jobs.recv(rt) else {
-            return;
+        let Ok((reader, writer)) = receive(&rest, rt, jobs) else {
+            return rest;
         };
-        serve_and_file(rt, alloc, machine, reader, writer, filed);
+        rest = serve_and_file(rt, rest, alloc, machine, reader, writer, filed);
         ends.tell(rt);
     }
+    unreachable!()
 }
 
 // Serves one connection, which has ended after it.
 fn serve_and_file<R: Wait, M: Machine, A: Source + Drop, B: Sink + Drop>(
     rt: &R,
+    rest: Rest,
     alloc: Global,
     machine: &M,
     mut reader: A,
     mut writer: B,
-    filed: &[Mutex<Option<Filed<M>>>],
-) {
-    match serve_one(rt, alloc, machine, &mut reader, &mut writer) {
-        Ok(one) => file(rt, one, filed),
-        Err(AllocError) => answer_no_session(&mut reader, &mut writer),
+    filed: &[RankedLock<Place<M>>],
+) -> Rest {
+    let (served, rest) = serve_one(rt, rest, alloc, machine, &mut reader, &mut writer);
+    match served {
+        Ok(one) => file(rt, rest, one, filed),
+        Err(AllocError) => {
+            answer_no_session(&mut reader, &mut writer);
+            rest
+        }
     }
 }
 
@@ -172,24 +187,39 @@ fn answer_no_session<A: Source, B: Sink>(reader: &mut A, writer: &mut B) {
 // or written.
 fn serve_one<R: Wait, M: Machine, A: Source, B: Sink>(
     rt: &R,
+    rest: Rest,
     alloc: Global,
     machine: &M,
     reader: &mut A,
     writer: &mut B,
-) -> Result<Filed<M>, AllocError>
-    ensures served { IfOk result (λ one. IsServed M.is_opened M.was_told M.may_answer M.page
+) -> (Result<Filed<M>, AllocError>, Rest)
+    ensures served { IfOk result.0 (λ one. IsServed M.is_opened M.was_told M.may_answer M.page
         (A.remaining reader.old) (A.remaining reader.new)
         (B.contents writer.old) (B.contents writer.new) one.told) }
-    ensures unread { OnErr result (reader.new ≡ reader.old) }
-    ensures unwritten { OnErr result (writer.new ≡ writer.old) }
+    ensures unread { OnErr result.0 (reader.new ≡ reader.old) }
+    ensures unwritten { OnErr result.0 (writer.new ≡ writer.old) }
 {
-    let told = machine.serve_one(rt, alloc, reader, writer)?;
-    Ok(Filed { told })
+    let (told, rest) = machine.serve_one(rt, rest, alloc, reader, writer);
+    match told {
+        Ok(told) => (Ok(Filed { told }), rest),
+        Err(refused) => (Err(refused), rest),
+    }
 }
 
-// Files it in the cell of its session's number. What has no cell is lost, and the machine finds that out when it is closed.
-fn file<R: Wait, M: Machine>(rt: &R, one: Filed<M>, filed: &[Mutex<Option<Filed<M>>>]) {
-    if let Some(cell) = filed.get(M::number(&one.told)) {
-        *cell.lock(rt) = Some(one);
-    }
+// Files it in the place of its session's number. What has no place is lost, and the machine finds that out when it is closed.
+fn file<R: Wait, M: Machine>(
+    rt: &R,
+    rest: Rest,
+    one: Filed<M>,
+    filed: &[RankedLock<Place<M>>],
+) -> Rest {
+    let Some(lock) = filed.get(M::number(&one.told)) else {
+        return rest;
+    };
+    let mut turn = rest.into_turn();
+    let mut value = hold(&mut turn, lock, rt);
+    let place: &mut Place<M> = &mut value;
+    place.filed = Some(one);
+    let_go(&mut turn, value);
+    Rest::of(turn)
 }

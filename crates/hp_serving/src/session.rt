@@ -3,6 +3,7 @@ ghost use Rattle.std.specs.Prelude.{◌≡◌, IfOk, OnErr};
 ghost use Rattle.hp_serving.specs.Session.{IsServed};
 
 use crate::host::Host;
+use hp_order::Rest;
 use hp_wire::ends::{Sink, Source};
 use hp_wire::running::{Rooms, run_lines_in};
 use std::alloc::{AllocError, Global};
@@ -13,18 +14,25 @@ use std::alloc::{AllocError, Global};
 /// then nothing is read or written.
 pub fn serve_session<H: Host, A: Source, B: Sink>(
     alloc: Global,
+    rest: Rest,
     host: &H,
     reader: &mut A,
     writer: &mut B,
-) -> Result<H::Told, AllocError>
-    ensures served { IfOk result (IsServed H.is_opened H.was_told H.Session.may_answer
+) -> (Result<H::Told, AllocError>, Rest)
+    ensures served { IfOk result.0 (IsServed H.is_opened H.was_told H.Session.may_answer
         H.Session.page (A.remaining reader.old) (A.remaining reader.new)
         (B.contents writer.old) (B.contents writer.new)) }
-    ensures unread { OnErr result (reader.new ≡ reader.old) }
-    ensures unwritten { OnErr result (writer.new ≡ writer.old) }
+    ensures unread { OnErr result.0 (reader.new ≡ reader.old) }
+    ensures unwritten { OnErr result.0 (writer.new ≡ writer.old) }
 {
-    let rooms = Rooms::new(alloc)?;
-    let mut session = host.open(alloc)?;
+    let Ok(rooms) = Rooms::new(alloc) else {
+        return (Err(AllocError), rest);
+    };
+    let mut session = match host.open(alloc, rest) {
+        Ok(session) => session,
+        Err(rest) => return (Err(AllocError), rest),
+    };
     let _ended = run_lines_in(rooms, reader, writer, &mut session);
-    Ok(H::finish(session))
+    let (told, rest) = H::finish(session);
+    (Ok(told), rest)
 }

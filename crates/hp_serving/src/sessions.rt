@@ -7,15 +7,16 @@ ghost use Rattle.hp_serving.specs.declared.sessions.Ended.{Ended as TheEnd};
 
 use crate::connections::Connections;
 use crate::fault::ServeFault;
-use crate::filed::{Filed, all_told};
+use crate::filed::{Place, all_told};
 use crate::host::{Closed, Machine};
 use crate::serving::serve;
+use hp_order::RankedLock;
 use hp_text::meminfo::meminfo_text;
 use hp_wire::ends::{Sink, write_whole};
 use hp_wire::fault::RunFault;
 use std::alloc::{AllocError, Global};
 use std::io::Write;
-use std::sync::{Mutex, Wait};
+use std::sync::Wait;
 use std::thread::Threads;
 
 /// How the serving of all sessions ended.
@@ -69,9 +70,9 @@ pub fn serve_sessions<
     }
 }
 
-// Cells for what the sessions are told, a list of it, and a text.
+// Places for what the sessions are told, a list of it, and a text.
 type Rooms<M> = (
-    Vec<Mutex<Option<Filed<M>>>>,
+    Vec<RankedLock<Place<M>>>,
     Vec<<M as Machine>::Told>,
     Vec<u8>,
 );
@@ -83,16 +84,19 @@ fn rooms<M: Machine>(alloc: Global, sessions: usize) -> Result<Rooms<M>, AllocEr
 {
     let text = Vec::with_capacity(alloc, 256)?;
     let told = Vec::with_capacity(alloc, sessions)?;
-    let filed = cells(alloc, sessions)?;
+    let filed = places(alloc, sessions)?;
     Ok((filed, told, text))
 }
 
-fn cells<T: Drop>(alloc: Global, sessions: usize) -> Result<Vec<Mutex<Option<T>>>, AllocError> {
-    let mut cells = Vec::new(alloc);
+fn places<M: Machine>(
+    alloc: Global,
+    sessions: usize,
+) -> Result<Vec<RankedLock<Place<M>>>, AllocError> {
+    let mut places = Vec::new(alloc);
     for _ in 0..sessions {
-        cells.push(Mutex::new(None))?;
+        places.push(RankedLock::new(Place { filed: None }))?;
     }
-    Ok(cells)
+    Ok(places)
 }
 
 fn run<R: Threads + Wait + Sync, M: Machine + Sync, C: Connections, W: Sink>(

@@ -1,53 +1,40 @@
 //! Connections over TCP.
-
-ghost use Rattle.std.specs.Io.{ReadsAtMost};
+ghost use Rattle.std.specs.Io.{WritesAtMost};
 
 use crate::connections::Connections;
 use crate::endings::Endings;
-use crate::http::{is_request, read_line};
+use crate::first_line::{FirstLine, read_on};
 use hp_wire::ends::{Sink, Source};
 use std::alloc::Global;
 use std::io;
-use std::io::{Read, Write};
+use std::io::{ErrorKind, Read, Write};
 use std::net::{TcpListener, TcpStream};
 use std::sync::{Arc, Wait};
-use std::time::Clock;
+use std::time::{Clock, Duration};
+
+// Replies wait no longer, once work goes on, in milliseconds.
+const LONGEST_WAIT: u64 = 5;
 
 // The first pause after an error of `accept` that passes, and the longest, in milliseconds.
 const FIRST_PAUSE: u64 = 10;
 
 const LONGEST_PAUSE: u64 = 1000;
 
-/// The end of a connection that is read. Where it begins with a request of HTTP it is at its end, and gives no byte.
+/// The end of a connection that is read. A connection whose first line is none of the protocol fails to be read, before any of
+/// its lines has ended.
 #[derive(Drop)]
 pub struct Incoming {
     stream: Arc<TcpStream>,
-    begun: bool,
-}
-
-impl Incoming {
-    // What was sent up to the end of the first line at least, or nothing where that is a request of HTTP.
-    fn begin(&mut self, buf: &mut [u8]) -> io::Result<usize>
-        ensures { ReadsAtMost result buf.new }
-    {
-        self.begun = true;
-        let mut stream: &TcpStream = &self.stream;
-        let len = read_line(&mut stream, buf)?;
-        if is_request(&buf[..len]) {
-            Ok(0)
-        } else {
-            Ok(len)
-        }
-    }
+    first: FirstLine,
 }
 
 impl Read for Incoming {
     fn read(&mut self, buf: &mut [u8]) -> io::Result<usize> {
-        if !self.begun {
-            return self.begin(buf);
-        }
         let mut stream: &TcpStream = &self.stream;
-        stream.read(buf)
+        match read_on(&mut self.first, &mut stream, buf)? {
+            Some(len) => Ok(len),
+            None => Err(ErrorKind::InvalidData.into()),
+        }
     }
 }
 
@@ -57,16 +44,31 @@ impl Source for Incoming {
     }
 }
 
-/// The end of a connection that is written to.
+/// The end of a connection that is written to. Where it has a clock, replies are due once work behind the last of them has gone on for
+/// a while; then it is found out too whether the client has gone.
 #[derive(Drop)]
 pub struct Outgoing {
+    // (of one type: what is known of a type that is a parameter may be known of one thread alone)
+    clock: Option<HostRuntime>,
     stream: Arc<TcpStream>,
+    // When work began behind the last write, or behind the last time when replies were due.
+    since: Option<Duration>,
+    // Whether the next write is one that was due.
+    due: bool,
 }
 
 impl Write for Outgoing {
     fn write(&mut self, buf: &[u8]) -> io::Result<usize> {
-        let mut stream: &TcpStream = &self.stream;
-        stream.write(buf)
+        let written = write_again(&self.stream, buf)?;
+        if !self.due {
+            self.since = None;
+            return Ok(written);
+        }
+        self.due = false;
+        match self.stream.take_error() {
+            Ok(Some(gone)) => Err(gone),
+            _ => Ok(written),
+        }
     }
 
     fn flush(&mut self) -> io::Result<()> {
@@ -78,12 +80,48 @@ impl Sink for Outgoing {
     fn write_some(&mut self, buf: &[u8]) -> io::Result<usize> {
         self.write(buf)
     }
+
+    fn is_due(&mut self) -> bool {
+        let Some(clock) = self.clock else {
+            return false;
+        };
+        let Ok(now) = clock.monotonic() else {
+            return true;
+        };
+        let since = self.since.unwrap_or(now);
+        self.due = now.saturating_sub(since) >= Duration::from_millis(LONGEST_WAIT);
+        self.since = Some(if self.due { now } else { since });
+        self.due
+    }
+}
+
+// Writes as `write` does, and again after a signal.
+fn write_again(mut stream: &TcpStream, buf: &[u8]) -> io::Result<usize>
+    ensures { WritesAtMost result buf.now }
+{
+    for _ in 0..u64::MAX {
+        match stream.write(buf) {
+            Err(error) if error.kind() == ErrorKind::Interrupted => {}
+            written => return written,
+        }
+    }
+    Err(ErrorKind::Interrupted.into())
 }
 
 // Both ends of a connection, over one descriptor; none where memory for them is refused.
-fn ends_of(alloc: Global, stream: TcpStream) -> Option<(Incoming, Outgoing)> {
+fn ends_of(
+    clock: Option<HostRuntime>,
+    alloc: Global,
+    stream: TcpStream,
+    idle: u64,
+) -> Option<(Incoming, Outgoing)> {
     // Without it a reply may wait until the one before is acknowledged.
     let _ = stream.set_nodelay(true);
+    if idle > 0 {
+        let longest = Some(Duration::from_secs(idle));
+        let _ = stream.set_read_timeout(longest);
+        let _ = stream.set_write_timeout(longest);
+    }
     let Ok(stream) = Arc::new(alloc, stream) else {
         return None;
     };
@@ -93,9 +131,14 @@ fn ends_of(alloc: Global, stream: TcpStream) -> Option<(Incoming, Outgoing)> {
     Some((
         Incoming {
             stream,
-            begun: false,
+            first: FirstLine::new(),
         },
-        Outgoing { stream: again },
+        Outgoing {
+            clock,
+            stream: again,
+            since: None,
+            due: false,
+        },
     ))
 }
 
@@ -129,6 +172,8 @@ pub struct Listening<'a, R, P> {
     rt: &'a R,
     alloc: Global,
     listener: TcpListener,
+    clock: Option<HostRuntime>,
+    idle: u64,
     port_to: P,
 }
 
@@ -138,8 +183,20 @@ impl<'a, R, P> Listening<'a, R, P> {
             rt,
             alloc,
             listener,
+            clock: None,
+            idle: 0,
             port_to,
         }
+    }
+
+    /// From here on replies are due once work behind them has gone on for 5 ms by this clock.
+    pub fn write_by(&mut self, clock: HostRuntime) {
+        self.clock = Some(clock);
+    }
+
+    /// From here on a session is ended whose client sends nothing, or reads no replies, for so many seconds; at 0 none is.
+    pub fn end_silent(&mut self, idle: u64) {
+        self.idle = idle;
     }
 }
 
@@ -162,7 +219,7 @@ impl<'a, R: Wait + Clock, P: Sink> Connections for Listening<'a, R, P> {
         let mut pause = FIRST_PAUSE;
         for _ in rt.forever() {
             let error = match self.listener.accept() {
-                Ok((stream, _)) => return Ok(ends_of(self.alloc, stream)),
+                Ok((stream, _)) => return Ok(ends_of(self.clock, self.alloc, stream, self.idle)),
                 Err(error) => error,
             };
             match told_by(&error) {

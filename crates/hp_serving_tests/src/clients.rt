@@ -1,31 +1,9 @@
-//! A client that waits for replies, and writers that count.
+//! A client that waits for replies, and a writer that counts.
 
 use hp_wire::ends::{Sink, Source};
 use std::cell::Cell;
 use std::io;
 use std::io::{Read, Write};
-
-/// A writer that takes all and keeps nothing.
-#[derive(Drop)]
-pub struct Nowhere;
-
-impl Write for Nowhere {
-    fn write(&mut self, buf: &[u8]) -> io::Result<usize> {
-        Ok(buf.len())
-    }
-
-    fn flush(&mut self) -> io::Result<()> {
-        Ok(())
-    }
-}
-
-impl Sink for Nowhere {
-    ghost is_sure = { λ writer. Unit {0} };
-
-    fn write_some(&mut self, buf: &[u8]) -> io::Result<usize> {
-        Ok(buf.len())
-    }
-}
 
 /// A client that sends a piece at each read, and looks whether all replies to the lines before it
 /// are written.

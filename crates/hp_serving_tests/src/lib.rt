@@ -20,8 +20,4 @@ mod same;
 #[cfg(test)]
 mod sample;
 #[cfg(test)]
-mod sessions;
-#[cfg(test)]
-mod texts;
-#[cfg(test)]
 mod workers;

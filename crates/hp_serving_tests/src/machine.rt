@@ -7,6 +7,7 @@ use hp_model::answer::Counts;
 use hp_model::refusal::Refusal;
 use hp_model::step::Step;
 use hp_model::told::Told;
+use hp_order::Rest;
 use hp_serving::{Closed, Host, Machine, serve_session};
 use hp_wire::ends::{Sink, Source};
 use std::alloc::{AllocError, Global};
@@ -51,6 +52,7 @@ pub struct Waiting<'x, R> {
 pub struct Session<'x, R> {
     rt: &'x R,
     machine: &'x Small,
+    rest: Rest,
     number: usize,
     made: u64,
 }
@@ -98,11 +100,11 @@ impl<'x, R: Wait> Host for Waiting<'x, R> {
 
     ghost was_told = { λ made told. told.made ≡ made };
 
-    fn open(&self, _alloc: Global) -> Result<Plain<Session<'x, R>>, AllocError> {
+    fn open(&self, _alloc: Global, rest: Rest) -> Result<Plain<Session<'x, R>>, Rest> {
         let mut value = self.machine.opens.lock(self.rt);
         let opens: &mut u64 = &mut value;
         if *opens == 0 {
-            return Err(AllocError);
+            return Err(rest);
         }
         let number = self.machine.most.saturating_sub(*opens) as usize;
         *opens -= 1;
@@ -110,17 +112,22 @@ impl<'x, R: Wait> Host for Waiting<'x, R> {
             by: Session {
                 rt: self.rt,
                 machine: self.machine,
+                rest,
                 number,
                 made: 0,
             },
         })
     }
 
-    fn finish(session: Plain<Session<'x, R>>) -> Calls {
-        Calls {
-            number: session.by.number,
-            made: session.by.made,
-        }
+    fn finish(session: Plain<Session<'x, R>>) -> (Calls, Rest) {
+        let Plain { by } = session;
+        let Session {
+            rest,
+            number,
+            made,
+            ..
+        } = by;
+        (Calls { number, made }, rest)
     }
 }
 
@@ -156,11 +163,12 @@ impl Machine for Small {
     fn serve_one<R: Wait, A: Source, B: Sink>(
         &self,
         rt: &R,
+        rest: Rest,
         alloc: Global,
         reader: &mut A,
         writer: &mut B,
-    ) -> Result<Calls, AllocError> {
-        serve_session(alloc, &self.host(rt), reader, writer)
+    ) -> (Result<Calls, AllocError>, Rest) {
+        serve_session(alloc, rest, &self.host(rt), reader, writer)
     }
 
     fn number(told: &Calls) -> usize {

@@ -1,7 +1,6 @@
 //! Sessions over TCP.
 
 use crate::ends::Writer;
-use crate::in_memory::Onto;
 use crate::machine::Small;
 use crate::same::same;
 use hp_serving::{Listening, serve_sessions};
@@ -10,36 +9,9 @@ use std::alloc::Global;
 use std::io;
 use std::io::{Read, Write};
 use std::net::{Net, Shutdown, SocketAddr, TcpListener, TcpStream};
-use std::sync::{Mutex, Wait};
-use std::test::Fail;
+use std::sync::Wait;
 use std::thread::{Threads, join};
 use std::time::Clock;
-
-fn ask<R: Net<Stream = TcpStream>>(
-    rt: &R,
-    at: SocketAddr,
-    text: &[u8],
-    replies: &mut [u8],
-) -> io::Result<()> {
-    let stream = TcpStream::connect(rt, at)?;
-    (&stream).write_all(text)?;
-    stream.shutdown(Shutdown::Write)?;
-    (&stream).read_exact(replies)
-}
-
-// One that ends within a line, one that goes away at once, one that says nothing, and one that asks and is answered.
-fn clients<R: Net<Stream = TcpStream>>(rt: &R, at: SocketAddr) -> io::Result<(u8, u8)> {
-    let mut bad = [0u8; 17];
-    ask(rt, at, b"nr 4", &mut bad)?;
-    let gone = TcpStream::connect(rt, at)?;
-    (&gone).write_all(b"nr 4\nnr 5\n")?;
-    drop(gone);
-    let silent = TcpStream::connect(rt, at)?;
-    let mut ok = [0u8; 5];
-    ask(rt, at, b"nr 4\n", &mut ok)?;
-    drop(silent);
-    Ok((bad[6], ok[1]))
-}
 
 // The small machine serves so many sessions of these connections on two workers: the status.
 fn serves<R: Threads + Wait + Clock + Sync, P: Sink>(
@@ -60,22 +32,6 @@ fn serves<R: Threads + Wait + Clock + Sync, P: Sink>(
         &mut output,
         &mut faults,
     )
-}
-
-fn served<R: Threads + Wait + Clock + Net<Stream = TcpStream, Listener = TcpListener> + Sync>(
-    rt: &R,
-    alloc: Global,
-) -> Option<(u8, u8, u8, usize)> {
-    let listener = TcpListener::bind(rt, "127.0.0.1:0").ok()?;
-    let at = listener.local_addr().ok()?;
-    let port = Mutex::new(Vec::new(alloc));
-    let mut connections = Listening::new(rt, alloc, listener, Onto { rt, text: &port });
-    let serving = || serves(rt, alloc, &mut connections, 4);
-    let (told, status) = join(rt, || clients(rt, at), serving);
-    let (bad, ok) = told.ok()?;
-    drop(connections);
-    let said = port.into_inner();
-    Some((bad, ok, status, said.len()))
 }
 
 // Two sessions, of which the first to open ends once the other has.
@@ -109,16 +65,4 @@ fn outlasted<R: Threads + Wait + Clock + Net<Stream = TcpStream, Listener = TcpL
 #[test]
 fn what_sessions_were_told_is_in_the_order_of_their_numbers(rt: HostRuntime) {
     same!(rt; outlasted(&rt, rt.alloc()), Some(0));
-}
-
-#[test]
-fn sessions_over_tcp(rt: HostRuntime) -> Result<(), Fail> {
-    let Some((bad, ok, status, said)) = served(&rt, rt.alloc()) else {
-        panic!(rt; "no answer");
-    };
-    same!(rt; bad, b'2');
-    same!(rt; ok, b'k');
-    same!(rt; status, 0);
-    assert!(rt; (8..12).contains(&said));
-    Ok(())
 }

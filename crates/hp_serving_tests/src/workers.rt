@@ -108,28 +108,6 @@ fn three_sessions_on_two_workers(rt: HostRuntime) -> Result<(), Fail> {
 }
 
 #[test]
-fn no_trail_no_audit(rt: HostRuntime) -> Result<(), Fail> {
-    let alloc = rt.alloc();
-    let ran = ran(&rt, alloc, Small::new(9, None), &ALL, true, 1, 64, 9);
-    same!(rt; ran.status, 0);
-    has_printed(&rt, alloc, &ran, "", "2", "1")?;
-    Ok(())
-}
-
-#[test]
-fn a_failed_audit_is_3(rt: HostRuntime) -> Result<(), Fail> {
-    let alloc = rt.alloc();
-    let printed = ran(&rt, alloc, Small::new(9, Some(false)), &ALL, true, 3, 1, 9);
-    same!(rt; printed.status, 3);
-    has_printed(&rt, alloc, &printed, "audit failed\n", "5", "3")?;
-    assert!(rt; printed.faults.is_empty());
-    let unprinted = ran(&rt, alloc, Small::new(9, Some(false)), &ALL, true, 3, 1, 0);
-    same!(rt; unprinted.status, 3);
-    same!(rt; unprinted.faults.as_slice(), b"hugetlbd: write failed\n".as_slice());
-    Ok(())
-}
-
-#[test]
 fn those_that_cannot_be_opened_count_as_ended(rt: HostRuntime) -> Result<(), Fail> {
     let alloc = rt.alloc();
     let inputs = [None, Some(b"nr 4\n".as_slice()), None, Some(b"nr 4\n")];

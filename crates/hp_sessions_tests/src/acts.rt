@@ -25,6 +25,12 @@ pub enum Act {
     Exit,
     /// A mount ends whose file has a page.
     Umount,
+    /// Task 1 faults at two indices that follow one another, by lines that came together.
+    Run,
+    /// Task 1 has a child, which gets its maps slot by slot.
+    Fork,
+    /// A mount begins.
+    Mount,
 }
 
 fn store_queued<P: Parts>(session: &mut Session<P>) -> Reply {
@@ -46,11 +52,36 @@ fn store_queued<P: Parts>(session: &mut Session<P>) -> Reply {
     }
 }
 
+// Faults at the first indices of task 1's second map, in one queue.
+fn fault_run<P: Parts>(session: &mut Session<P>) -> Reply {
+    let access = |index| Access {
+        task: 1,
+        slot: 1,
+        map: 2,
+        index,
+        offset: 0,
+    };
+    let mut queue = [Queued::new(), Queued::new()];
+    queue[0].set(access(0), Wanted::Fault(Intent::Write));
+    queue[1].set(access(1), Wanted::Fault(Intent::Write));
+    let mut room = [0u8; MOST_BYTES];
+    session.do_queued(&mut queue, &mut room);
+    match (queue[0].reply(), queue[1].reply()) {
+        (Ok(_first), Ok(_second)) => Ok(Answer::Done),
+        (Err(refusal), _) | (_, Err(refusal)) => Err(refusal),
+    }
+}
+
 impl Act {
     /// What it wants to be there.
     pub fn prepare<R: Abort, P: Parts>(self, rt: &R, session: &mut Session<P>) {
         match self {
-            Act::Store | Act::Queue => {}
+            Act::Store | Act::Queue | Act::Fork | Act::Mount => {}
+            Act::Run => {
+                ask!(rt, session; create(1, b"b"));
+                let range = map(1, 1, b"b", 2, Sharing::Shared, Reserving::Reserve);
+                ask!(rt, session; range, Ok(Answer::MapNo(2)));
+            }
             Act::Fault => {
                 ask!(rt, session; create(1, b"b"));
                 let hole = map(1, 1, b"b", 1, Sharing::Shared, Reserving::NoReserve);
@@ -79,6 +110,12 @@ impl Act {
             Act::Fill => session.call(&preallocate(1, b"b", 0, 1)),
             Act::Exit => session.call(&Step::Exit { task: 1 }),
             Act::Umount => session.call(&Step::Umount { slot: 3 }),
+            Act::Run => fault_run(session),
+            Act::Fork => session.call(&Step::Fork {
+                parent: 1,
+                child: 9,
+            }),
+            Act::Mount => session.call(&mount(3, b"min_size=1K")),
         }
     }
 
@@ -87,7 +124,9 @@ impl Act {
         match self {
             Act::Store | Act::Queue => [4, 2, 0, 0],
             Act::Fault | Act::Fill => [4, 2, 1, 0],
-            Act::Exit | Act::Umount => [4, 3, 1, 0],
+            Act::Exit | Act::Umount | Act::Fork => [4, 3, 1, 0],
+            Act::Run => [4, 1, 1, 0],
+            Act::Mount => [4, 3, 2, 0],
         }
     }
 }

@@ -11,28 +11,6 @@ pub struct Free {}
 
 impl Gate for Free {}
 
-/// Lets other threads go on at each lock, so that their events mix.
-#[derive(Drop)]
-pub struct Slow<'a, R> {
-    rt: &'a R,
-}
-
-impl<'a, R: Clock> Slow<'a, R> {
-    pub fn new(rt: &'a R) -> Slow<'a, R> {
-        Slow { rt }
-    }
-}
-
-impl<'a, R: Clock> Gate for Slow<'a, R> {
-    fn enter(&self, _slot: u64) {
-        thread::sleep(self.rt, Duration::from_nanos(1));
-    }
-
-    fn frame(&self, _node: u64) {
-        thread::sleep(self.rt, Duration::from_nanos(1));
-    }
-}
-
 /// Counts how often a slot's lock was taken.
 #[derive(Drop)]
 pub struct Counted {

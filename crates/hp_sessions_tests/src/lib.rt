@@ -6,8 +6,6 @@ mod acts;
 #[cfg(test)]
 mod asking;
 #[cfg(test)]
-mod closing;
-#[cfg(test)]
 mod draws;
 #[cfg(test)]
 mod filling;
@@ -23,8 +21,6 @@ mod lines;
 mod machine;
 #[cfg(test)]
 mod making;
-#[cfg(test)]
-mod many;
 #[cfg(test)]
 mod playing;
 #[cfg(test)]

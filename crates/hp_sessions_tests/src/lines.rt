@@ -1,7 +1,7 @@
 //! Where a lock lies.
 
 use crate::same::same;
-use hp_locked::LineLock;
+use hp_order::LineLock;
 use std::mem::{align_of, size_of};
 
 // Its word and the next 8 bytes then never lie on two cache lines.

@@ -9,6 +9,7 @@ use hp_locked::Gate;
 use hp_model::answer::Counts;
 use hp_model::entry::Receipt;
 use hp_model::naming::Naming;
+use hp_order::Rest;
 use hp_sessions::Session;
 use hp_shared::{Finished, Shared, Trails};
 use std::alloc::{AllocError, Global};
@@ -51,12 +52,6 @@ pub trait Machine {
     /// What a session leaves.
     type Left: Drop + Send;
 
-    /// The bytes of a page.
-    fn page_bytes(&self) -> u64;
-
-    /// How many slots there are.
-    fn slots(&self) -> usize;
-
     /// A session that a gate may hold: all that it does, once it waited.
     fn session<R: Runs, G: Gate, S: Script>(&self, rt: &R, gate: &G, script: S) -> Self::Left;
 
@@ -95,25 +90,26 @@ fn opened<'a, N: Naming + Places, R: Wait + Abort, G: Gate, const K: usize>(
     gate: &'a G,
     room: usize,
 ) -> Session<Entrance<'a, N, R, G, K>> {
-    Session::open(Entrance::open(rt, shared, gate, room).expect(rt, "memory"))
+    let entrance = Entrance::open(rt, shared, gate, room, Rest::begin());
+    Session::open(entrance.ok().expect(rt, "out of memory"))
+}
+
+// What a session left that is over.
+fn left<N: Naming + Places, R: Wait, G: Gate, const K: usize>(
+    session: Session<Entrance<'_, N, R, G, K>>,
+) -> Finished<N, K> {
+    let (finished, _rest) = session.finish().into_finished();
+    finished
 }
 
 impl<N: Naming + Places + Send + Sync, const K: usize> Machine for Shared<N, K> {
     type Left = Finished<N, K>;
 
-    fn page_bytes(&self) -> u64 {
-        self.page_bytes()
-    }
-
-    fn slots(&self) -> usize {
-        self.count()
-    }
-
     fn session<R: Runs, G: Gate, S: Script>(&self, rt: &R, gate: &G, script: S) -> Finished<N, K> {
         script.wait();
         let mut session = opened(rt, self, gate, script.room());
         script.run(rt, &mut session);
-        session.finish().into_finished()
+        left(session)
     }
 
     fn after<R: Runs, S: Script, T: Script>(
@@ -127,8 +123,8 @@ impl<N: Naming + Places + Send + Sync, const K: usize> Machine for Shared<N, K> 
         script.run(rt, &mut first);
         let mut second = opened(rt, self, &free, then.room());
         then.run(rt, &mut second);
-        let first = first.finish().into_finished();
-        (first, second.finish().into_finished())
+        let first = left(first);
+        (first, left(second))
     }
 
     fn three<R: Runs, S: Script, T: Script>(
@@ -143,9 +139,9 @@ impl<N: Naming + Places + Send + Sync, const K: usize> Machine for Shared<N, K> 
         let third = opened(rt, self, &free, 0);
         script.run(rt, &mut first);
         then.run(rt, &mut second);
-        let third = third.finish().into_finished();
-        let first = first.finish().into_finished();
-        (first, second.finish().into_finished(), third)
+        let third = left(third);
+        let first = left(first);
+        (first, left(second), third)
     }
 
     fn number(left: &Finished<N, K>) -> u64 {

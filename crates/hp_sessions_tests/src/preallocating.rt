@@ -95,40 +95,18 @@ fn refuses<R: Abort, P: Parts>(rt: &R, session: &mut Session<P>) {
     same!(rt; counts(session), Some([4, 0, 0, 0]));
 }
 
-// The pool's trail has no place for the section, and no page is taken.
-fn pool_full<R: Abort, P: Parts>(rt: &R, session: &mut Session<P>) {
-    nr(rt, session, 4);
-    ask!(rt, session; create(0, b"a"));
-    same!(rt; counts(session), Some([4, 4, 0, 0]));
-    ask!(rt, session; fill(0, 0, 2), Err(Refusal::TraceFull));
-    ask!(rt, session; stat(0), numbers(0, 0, 0, 0));
-}
-
 #[derive(Clone, Copy, Drop)]
-pub enum Range {
-    Filled,
-    Refused,
-}
+pub struct Range {}
 
 impl Script for Range {
     fn run<R: Abort, P: Parts>(self, rt: &R, session: &mut Session<P>) {
-        match self {
-            Range::Filled => {
-                fills(rt, session);
-                fills_again(rt, session);
-                refuses(rt, session);
-            }
-            Range::Refused => pool_full(rt, session),
-        }
+        fills(rt, session);
+        fills_again(rt, session);
+        refuses(rt, session);
     }
 }
 
 #[test]
 fn a_range_gets_its_pages(rt: HostRuntime) {
-    traced(&rt, rt.alloc(), small(100), Scene::Range(Range::Filled));
-}
-
-#[test]
-fn no_page_is_taken_where_the_pool_has_no_place(rt: HostRuntime) {
-    traced(&rt, rt.alloc(), small(2), Scene::Range(Range::Refused));
+    traced(&rt, rt.alloc(), small(100), Scene::Range);
 }

@@ -1,7 +1,7 @@
 //! Limits that are set anew over a session.
 
 use crate::asking::{ask, connect, counts, create, map_at, mount, nr};
-use crate::machine::{Runs, Script};
+use crate::machine::Script;
 use crate::same::same;
 use crate::stage::{Scene, small, traced};
 use hp_events::Parts;
@@ -10,7 +10,6 @@ use hp_model::lent::Lent;
 use hp_model::refusal::Refusal;
 use hp_model::step::Step;
 use hp_sessions::Session;
-use std::alloc::Global;
 use std::process::Abort;
 
 const DF: Step<'static> = Step::Df { slot: 2 };
@@ -72,61 +71,17 @@ fn minimum<R: Abort, P: Parts>(rt: &R, session: &mut Session<P>) {
     same!(rt; counts(session), Some([4, 4, 0, 0]));
 }
 
-// The pool's trail has no place for the section.
-fn pool_full<R: Abort, P: Parts>(rt: &R, session: &mut Session<P>) {
-    nr(rt, session, 4);
-    ask!(rt, session; mount(2, b"min_size=1K"));
-    same!(rt; counts(session), Some([4, 4, 1, 0]));
-    ask!(rt, session; remount(2, b"min_size=2K"), Err(Refusal::TraceFull));
-    ask!(rt, session; DF, usage(None, 1, 0, 0));
-}
-
-// The slot's trail has no place for the event.
-fn slot_full<R: Abort, P: Parts>(rt: &R, session: &mut Session<P>) {
-    nr(rt, session, 4);
-    ask!(rt, session; mount(2, b"min_size=1K"));
-    ask!(rt, session; DF, usage(None, 1, 0, 0));
-    ask!(rt, session; DF, usage(None, 1, 0, 0));
-    ask!(rt, session; remount(2, b"min_size=2K"), Err(Refusal::TraceFull));
-    same!(rt; counts(session), Some([4, 4, 1, 0]));
-}
-
 #[derive(Clone, Copy, Drop)]
-pub enum Limits {
-    Anew,
-    PoolFull,
-    SlotFull,
-}
+pub struct Limits {}
 
 impl Script for Limits {
     fn run<R: Abort, P: Parts>(self, rt: &R, session: &mut Session<P>) {
-        match self {
-            Limits::Anew => {
-                below_usage(rt, session);
-                minimum(rt, session);
-            }
-            Limits::PoolFull => pool_full(rt, session),
-            Limits::SlotFull => slot_full(rt, session),
-        }
+        below_usage(rt, session);
+        minimum(rt, session);
     }
-}
-
-// On a machine whose trails have three places.
-fn with_few_places<R: Runs>(rt: &R, alloc: Global, limits: Limits) {
-    traced(rt, alloc, small(3), Scene::Limits(limits));
 }
 
 #[test]
 fn limits_are_set_anew(rt: HostRuntime) {
-    traced(&rt, rt.alloc(), small(100), Scene::Limits(Limits::Anew));
-}
-
-#[test]
-fn no_limit_changes_where_the_pool_has_no_place(rt: HostRuntime) {
-    with_few_places(&rt, rt.alloc(), Limits::PoolFull);
-}
-
-#[test]
-fn no_limit_changes_where_the_slot_has_no_place(rt: HostRuntime) {
-    with_few_places(&rt, rt.alloc(), Limits::SlotFull);
+    traced(&rt, rt.alloc(), small(100), Scene::Limits);
 }

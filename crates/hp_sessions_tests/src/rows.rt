@@ -6,9 +6,10 @@ use crate::gates::{Free, Hold, Place};
 use crate::machine::{Machine, Runs, Script};
 use crate::playing::{all_three, beside, pages_left};
 use crate::same::same;
-use crate::stage::{Scene, Stage, both, small};
+use crate::stage::{Scene, Stage, both, small, untraced};
 use hp_events::Parts;
 use hp_model::answer::Answer;
+use hp_model::step::Step;
 use hp_sessions::Session;
 use std::alloc::Global;
 use std::process::Abort;
@@ -46,7 +47,7 @@ impl Script for Acts {
     }
 }
 
-// Once the other is held: stores, adds a task, looks at the counts and lets it go.
+// Once the other is held: stores, adds a task and finds it, sets nr, makes a file, looks at the counts and lets the other go.
 #[derive(Drop)]
 struct GoesOn<'a, R> {
     hold: &'a Hold<'a, R>,
@@ -61,6 +62,9 @@ impl<C: Clock> Script for GoesOn<'_, C> {
     fn run<R: Abort, P: Parts>(self, rt: &R, session: &mut Session<P>) {
         ask!(rt, session; store(2, 2, &[0x22]));
         ask!(rt, session; connect(3, 1));
+        ask!(rt, session; Step::Attach { task: 3 }, Ok(Answer::Home(1)));
+        nr(rt, session, 4);
+        ask!(rt, session; create(2, b"z"));
         same!(rt; counts(session), Some(self.wanted));
         self.hold.open();
     }
@@ -134,4 +138,33 @@ fn pages_of_a_task_go_back_with_no_pool_held(rt: HostRuntime) {
 #[test]
 fn pages_of_a_mount_go_back_with_no_pool_held(rt: HostRuntime) {
     held(&rt, rt.alloc(), Place::Node(0), Act::Umount, [4, 2, 1, 0]);
+}
+
+// Without a trace both pages are taken in one hold of the pool.
+#[test]
+fn a_run_of_faults_is_drawn_with_no_pool_held(rt: HostRuntime) {
+    let held_at = HeldAt {
+        place: Place::Node(0),
+        act: Act::Run,
+        wanted: [4, 1, 1, 0],
+    };
+    untraced(&rt, rt.alloc(), small(100), Scene::Held(held_at));
+}
+
+#[test]
+fn a_fork_holds_one_slot_at_a_time(rt: HostRuntime) {
+    for slot in [0, 1, 3] {
+        held(&rt, rt.alloc(), Place::Slot(slot), Act::Fork, [4, 3, 1, 0]);
+    }
+}
+
+#[test]
+fn an_exit_holds_one_slot_at_a_time(rt: HostRuntime) {
+    held(&rt, rt.alloc(), Place::Slot(0), Act::Exit, [4, 2, 1, 0]);
+    held(&rt, rt.alloc(), Place::Slot(3), Act::Exit, [4, 3, 1, 0]);
+}
+
+#[test]
+fn a_mount_holds_its_slot_alone(rt: HostRuntime) {
+    held(&rt, rt.alloc(), Place::Slot(3), Act::Mount, [4, 3, 1, 0]);
 }

@@ -3,19 +3,17 @@ ghost use Rattle.std.specs.Prelude.{◌≡◌, ◌≤◌, ◌==◌, ◌∷◌, [
 ghost use Rattle.hp_model.specs.Profile.{most_places};
 ghost use Rattle.hp_sessions_tests.specs.Machines.{AreMade, AreNamed, IsFit};
 
-use crate::closing::{closes, parts};
 use crate::filling::filled;
 use crate::following::followed;
 use crate::full::{Fills, left};
 use crate::machine::{Machine, Runs};
 use crate::making::made;
-use crate::many::three;
-use crate::playing::{Lengths, alone};
+use crate::playing::alone;
 use crate::preallocating::Range;
 use crate::remounting::Limits;
 use crate::rows::HeldAt;
 use crate::stress::eight;
-use crate::whole::{Closes, numbered};
+use crate::whole::{closed_whole, numbered};
 use hp_history::{Opened, Places, Shape};
 use hp_model::naming::Naming;
 use hp_pool::Blanks;
@@ -59,17 +57,13 @@ pub enum Scene {
     Filled,
     Followed,
     Made,
-    Range(Range),
-    Limits(Limits),
+    Range,
+    Limits,
     Fills(Fills),
     Left,
-    Closed(Closes),
+    Whole,
     Numbered,
-    Closes,
-    Parts(Option<Lengths>),
     Eight,
-    /// With this seed.
-    Three(u64),
 }
 
 fn play<R: Runs, M: Machine + Sync>(rt: &R, stage: Stage<M>, scene: Scene) {
@@ -78,16 +72,13 @@ fn play<R: Runs, M: Machine + Sync>(rt: &R, stage: Stage<M>, scene: Scene) {
         Scene::Filled => filled(rt, stage),
         Scene::Followed => followed(rt, stage),
         Scene::Made => made(rt, stage),
-        Scene::Range(range) => alone(rt, stage, range),
-        Scene::Limits(limits) => alone(rt, stage, limits),
+        Scene::Range => alone(rt, stage, Range {}),
+        Scene::Limits => alone(rt, stage, Limits {}),
         Scene::Fills(fills) => fills.play(rt, stage),
         Scene::Left => left(rt, stage),
-        Scene::Closed(closed) => closed.play(rt, stage),
+        Scene::Whole => closed_whole(rt, stage),
         Scene::Numbered => numbered(rt, stage),
-        Scene::Closes => closes(rt, stage),
-        Scene::Parts(trails) => parts(rt, stage, trails),
         Scene::Eight => eight(rt, stage),
-        Scene::Three(seed) => three(rt, stage, seed),
     }
 }
 

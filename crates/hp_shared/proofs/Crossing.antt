@@ -8,11 +8,11 @@ use Rattle.atomic_table.proofs.shared.Seat.TheSendSync as seat
 use Rattle.atomic_table.proofs.shared.Shared.TheSendSync as whole
 use Rattle.hp_history.specs.contracts.history.History as History
 use Rattle.hp_history.specs.declared.law.Places as law
-use Rattle.hp_locked.proofs.Crossing.{line_lock_send, line_lock_sync}
 use Rattle.hp_locked.specs.contracts.nodes.NodeLocks as NodeLocks
 use Rattle.hp_locked.specs.contracts.pool_core.Core as Core
 use Rattle.hp_laws.proofs.Variants.{Ghosts, PoolEntry, SlotEntry, TableEntry}
 use Rattle.hp_nodes.proofs.Crossing.{node_frames_send}
+use Rattle.hp_order.proofs.Crossing.{line_lock_send, line_lock_sync, ranked_lock_send, ranked_lock_sync}
 use Rattle.hp_pool.proofs.Crossing.{pool_send}
 use Rattle.hp_shared.proofs.CrossingEntries.{pool_entry_send, slot_entry_send, table_entry_send, trace_send}
 use Rattle.hp_shared.proofs.CrossingMounts.{mount_send}
@@ -80,9 +80,9 @@ module _ (N : RattleType) (names : Ghosts N.Denot) (places : law.Ghosts N.Denot)
               (
                 nodes_send,
                 (
-                  search (sendable, crosses, opener_send) depth 30,
+                  search (sendable, crosses, ranked_lock_send, opener_send) depth 30,
                   (
-                    search (sendable, crosses, spare_send) depth 30,
+                    search (sendable, crosses, ranked_lock_send, spare_send) depth 30,
                     tt,
                   ),
                 ),
@@ -110,9 +110,9 @@ module _ (N : RattleType) (names : Ghosts N.Denot) (places : law.Ghosts N.Denot)
               (
                 nodes_sync,
                 (
-                  search (sendable, crosses, opener_send) depth 30,
+                  search (sendable, crosses, ranked_lock_sync, opener_send) depth 30,
                   (
-                    search (sendable, crosses, spare_send) depth 30,
+                    search (sendable, crosses, ranked_lock_sync, spare_send) depth 30,
                     tt,
                   ),
                 ),

@@ -13,11 +13,11 @@ ghost use Rattle.hp_trail.specs.Keeping.{extra_if, kept_if, left_if, most_extra}
 use crate::opener::Opener;
 use crate::seated_slot::SeatedSlot;
 use hp_history::{History, Opened, Places, Token};
-use hp_locked::LineLock;
 use hp_model::entry::SlotEntry;
 use hp_model::naming::Naming;
 use hp_model::profile::MOST_TASKS;
 use hp_mount::Mount;
+use hp_order::LineLock;
 use hp_own_pool::OwnPool;
 use hp_trail::trace::Trace;
 use std::alloc::{AllocError, Global};

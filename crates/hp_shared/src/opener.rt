@@ -5,6 +5,7 @@ ghost use Rattle.hp_history.specs.History.{IsOpener, IsSession, number_in, recei
 ghost use Rattle.hp_shared.specs.Ended.{IsCount};
 
 use hp_history::{History, Places, Token};
+use hp_order::Ordered;
 use std::marker::PhantomData;
 
 // The seat that may open sessions, and how many it opened. They are numbered from 0 on.
@@ -17,6 +18,15 @@ pub(crate) struct Opener<N: Places> {
     ghost opens: { IsOpener seat.me.0 },
     ghost alone: { seat.me.1 ≡ [] },
     ghost count: { IsCount sessions (sessions_in seat.me.0) },
+}
+
+impl<N: Places> Ordered for Opener<N> {
+    ghost rank = { 1 };
+
+    #[inline(always)]
+    fn rank() -> u64 {
+        1
+    }
 }
 
 impl<N: Places> Opener<N> {

@@ -6,10 +6,10 @@ ghost use Rattle.hp_trail.specs.Walk.{lists};
 
 use crate::seated_slot::SeatedSlot;
 use hp_history::{History, Places, Token};
-use hp_locked::LineLock;
 use hp_model::entry::SlotEntry;
 use hp_model::naming::Naming;
 use hp_mount::Mount;
+use hp_order::LineLock;
 use hp_trail::trace::Trace;
 
 // Takes the slots from under their locks: their mounts and their trails, for which there is room, and their seats behind this

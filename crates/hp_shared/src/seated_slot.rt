@@ -35,6 +35,7 @@ use hp_model::service::Access;
 use hp_model::step::Intent;
 use hp_model::told::Told;
 use hp_mount::Mount;
+use hp_order::{Ordered, Turn};
 use hp_trail::trail::Trail;
 use std::alloc::Global;
 use std::marker::{Brand, Model};
@@ -59,6 +60,15 @@ impl<N: Naming + Places, T: Trail<SlotEntry>> Model for SeatedSlot<N, T> {
 
     ghost invariant = { λ s. IsSeatedSlot N.history N.page_bytes s.seat.table_id s.seat.views
         s.slot };
+}
+
+impl<N: Naming + Places, T: Trail<SlotEntry>> Ordered for SeatedSlot<N, T> {
+    ghost rank = { 1 };
+
+    #[inline(always)]
+    fn rank() -> u64 {
+        1
+    }
 }
 
 impl<N: Naming + Places, T: Trail<SlotEntry>> SeatedSlot<N, T> {
@@ -126,13 +136,15 @@ impl<N: Naming + Places, T: Trail<SlotEntry>> SeatedSlot<N, T> {
     pub fn work<'a, R: Wait, G: Gate, const K: usize>(
         &mut self,
         ways: &Ways<'_, N, R, G, K>,
+        turn: Turn,
         mine: Token,
         alloc: Global,
         page_bytes: u64,
         event: &LentEvent<'_>,
         copies: Option<Copies>,
         room: &'a mut [u8],
-    ) -> (Token, Result<Told<'a>, Refusal>, Option<Receipt>)
+    ) -> (Token, Result<Told<'a>, Refusal>, Option<Receipt>, Turn)
+        requires turn { turn.held ≡ 1 ∷ [] }
         requires named { mine.table_id ≡ N.history }
         requires session { IsSession mine.me.0 }
         requires alone { mine.me.1 ≡ [] }
@@ -144,6 +156,7 @@ impl<N: Naming + Places, T: Trail<SlotEntry>> SeatedSlot<N, T> {
         requires another { IsAnother event.now }
         requires has { has_maps_for event.now self.old.slot.mount ≡ true }
         requires copies { T.keeps ≡ true → AreCopiesFor event.now copies }
+        ensures turn { result.3.held ≡ 1 ∷ [] }
         ensures named { result.0.table_id ≡ N.history }
         ensures alone { result.0.me.1 ≡ [] }
         ensures done { IsSeatedEvent (full_for (T.keeps ≡ true) event.now) T.keeps N.page_bytes
@@ -157,11 +170,11 @@ impl<N: Naming + Places, T: Trail<SlotEntry>> SeatedSlot<N, T> {
         let SeatedSlot { slot, seat } = self;
         let mut mine = mine;
         join(ways.history, seat, &mut mine);
-        let mut door: Door<'_, N, R, G, Noted, K> = Door::new(ways, mine);
+        let mut door: Door<'_, N, R, G, Noted, K> = Door::new(ways, turn, mine);
         let (told, receipt) = slot.work(&mut door, alloc, page_bytes, event, copies, room);
-        let mut mine = door.into_mine();
+        let (mut mine, turn) = door.into_mine();
         *seat = leave(ways.history, &mut mine, event, &told);
-        (mine, told, receipt)
+        (mine, told, receipt, turn)
     }
 
     /// An event of a mount but a list of names, where no entries are kept: the session's seat, the reply, with bytes in the
@@ -170,11 +183,13 @@ impl<N: Naming + Places, T: Trail<SlotEntry>> SeatedSlot<N, T> {
     pub fn event_unnoted<'a, R: Wait, G: Gate, const K: usize>(
         &mut self,
         ways: &Ways<'_, N, R, G, K>,
+        turn: Turn,
         mine: Token,
         page_bytes: u64,
         event: LentEvent<'_>,
         room: &'a mut [u8],
-    ) -> (Token, Result<Told<'a>, Refusal>, bool)
+    ) -> (Token, Result<Told<'a>, Refusal>, bool, Turn)
+        requires turn { turn.held ≡ 1 ∷ [] }
         requires named { mine.table_id ≡ N.history }
         requires session { IsSession mine.me.0 }
         requires alone { mine.me.1 ≡ [] }
@@ -184,6 +199,7 @@ impl<N: Naming + Places, T: Trail<SlotEntry>> SeatedSlot<N, T> {
         requires of_mount { is_of_mount event ≡ true }
         requires room { shows_bytes event ≡ true → most_bytes ≤ length room.old }
         requires apart { lists_names event ≡ false }
+        ensures turn { result.3.held ≡ 1 ∷ [] }
         ensures named { result.0.table_id ≡ N.history }
         ensures alone { result.0.me.1 ≡ [] }
         ensures done { IsSeatedDone T.keeps N.page_bytes self.old self.new
@@ -195,12 +211,12 @@ impl<N: Naming + Places, T: Trail<SlotEntry>> SeatedSlot<N, T> {
         let SeatedSlot { slot, seat } = self;
         let mut mine = mine;
         join(ways.history, seat, &mut mine);
-        let mut door: Door<'_, N, R, G, Entered, K> = Door::new(ways, mine);
+        let mut door: Door<'_, N, R, G, Entered, K> = Door::new(ways, turn, mine);
         let told = slot.event_unnoted(&event, &mut door, page_bytes, room);
         let entered = door.is_entered();
-        let mut mine = door.into_mine();
+        let (mut mine, turn) = door.into_mine();
         *seat = ways.history.leave::<Brand, _>(&mut mine, (&event, &told));
-        (mine, told, entered)
+        (mine, told, entered, turn)
     }
 
     /// Faults of a session through one map, at an index and at those behind it, where no entries are kept: the first of them, at
@@ -210,17 +226,20 @@ impl<N: Naming + Places, T: Trail<SlotEntry>> SeatedSlot<N, T> {
     pub fn fault_run<R: Wait, G: Gate, const K: usize>(
         &mut self,
         ways: &Ways<'_, N, R, G, K>,
+        turn: Turn,
         mine: Token,
         access: &Access,
         intent: Intent,
         most: u64,
-    ) -> (Token, u64)
+    ) -> (Token, u64, Turn)
+        requires turn { turn.held ≡ 1 ∷ [] }
         requires named { mine.table_id ≡ N.history }
         requires session { IsSession mine.me.0 }
         requires alone { mine.me.1 ≡ [] }
         requires keeps { (K == 1) ≡ T.keeps }
         requires unkept { T.keeps ≡ false }
         requires looks { N.shape.looks ≡ true }
+        ensures turn { result.2.held ≡ 1 ∷ [] }
         ensures named { result.0.table_id ≡ N.history }
         ensures session { IsSession result.0.me.0 }
         ensures alone { result.0.me.1 ≡ [] }
@@ -233,11 +252,11 @@ impl<N: Naming + Places, T: Trail<SlotEntry>> SeatedSlot<N, T> {
     {
         let SeatedSlot { slot, seat } = self;
         let own = mem::replace(seat, Badge::blank());
-        let mut door: Run<'_, N, R, G, K> = Run::new(ways, access, intent, mine, own);
+        let mut door: Run<'_, N, R, G, K> = Run::new(ways, access, intent, turn, mine, own);
         let done = slot.fault_run(&mut door, access, most);
-        let (mine, own) = door.into_seats();
+        let (mine, own, turn) = door.into_seats();
         *seat = own;
-        (mine, done)
+        (mine, done, turn)
     }
 
     /// The names of the slot's files, in order of creation, and the receipt where entries are kept. Refused as NoSuchSlot, or

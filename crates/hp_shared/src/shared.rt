@@ -22,17 +22,18 @@ use crate::seated_slot::SeatedSlot;
 use crate::spare::Spare;
 use crate::table::Table;
 use hp_history::{History, Opened, Places, Token};
-use hp_locked::{Core, Gate, LineLock, NodeLocks, Ways};
+use hp_locked::{Core, Gate, NodeLocks, Ways};
 use hp_model::entry::{PoolEntry, SlotEntry, TableEntry};
 use hp_model::naming::Naming;
 use hp_mount::Mount;
+use hp_order::{LineLock, RankedLock, Turn, hold, let_go};
 use hp_own_pool::OwnPool;
 use hp_pool::Blanks;
 use hp_tasks::TaskTable;
 use hp_trail::trace::Trace;
 use std::alloc::{AllocError, Global};
 use std::marker::Model;
-use std::sync::{Mutex, Wait};
+use std::sync::Wait;
 
 /// The machine that threads share: the task table, the pool and each slot under a lock of its own, and the frames of each
 /// node under one. Where K is 1 each part keeps a trail of its events, where K is 0 none.
@@ -49,8 +50,8 @@ pub struct Shared<N: Naming + Places, const K: usize> {
     table: LineLock<Table<N, Trace<TableEntry, K>>>,
     core: LineLock<Core<N, Trace<PoolEntry, K>>>,
     nodes: NodeLocks<N>,
-    opener: Mutex<Opener<N>>,
-    spare: Mutex<Spare<N>>,
+    opener: RankedLock<Opener<N>>,
+    spare: RankedLock<Spare<N>>,
 }
 
 impl<N: Naming + Places, const K: usize> Model for Shared<N, K> {
@@ -152,8 +153,8 @@ impl<N: Naming + Places, const K: usize> Shared<N, K> {
             core: LineLock::new(Core::new(pool, of_pool, core)),
             nodes: NodeLocks::new(stocks),
             slots: locks,
-            opener: Mutex::new(opener),
-            spare: Mutex::new(spare),
+            opener: RankedLock::new(opener),
+            spare: RankedLock::new(spare),
         })
     }
 
@@ -184,8 +185,8 @@ impl<N: Naming + Places, const K: usize> Shared<N, K> {
 
     /// The task table under its lock.
     #[inline(always)]
-    pub fn table(&self) -> &Mutex<Table<N, Trace<TableEntry, K>>> {
-        self.table.mutex()
+    pub fn table(&self) -> &RankedLock<Table<N, Trace<TableEntry, K>>> {
+        self.table.lock()
     }
 
     /// The history of the machine. Where K is not 1 homes of tasks are looked up in its words, without a lock.
@@ -197,14 +198,20 @@ impl<N: Naming + Places, const K: usize> Shared<N, K> {
     }
 
     /// A session more, which was told nothing yet: its number, and its seat in the history.
-    pub fn open_session<R: Wait>(&self, rt: &R) -> (u64, Token)
+    pub fn open_session<R: Wait>(&self, turn: &mut Turn, rt: &R) -> (u64, Token)
+        requires { turn.old.held ≡ [] }
+        ensures turn { turn.new.held ≡ [] }
         ensures number { IsCount result.0 (number_in result.1.me.0) }
         ensures named { result.1.table_id ≡ N.history }
         ensures session { IsSession result.1.me.0 }
         ensures none { receipts_in result.1.me.0 ≡ [] }
         ensures alone { result.1.me.1 ≡ [] }
     {
-        self.opener.lock(rt).open(&self.history)
+        let mut value = hold(turn, &self.opener, rt);
+        let opener: &mut Opener<N> = &mut value;
+        let opened = opener.open(&self.history);
+        let_go(turn, value);
+        opened
     }
 
     /// The ways from a slot to the pool and to the frames.
@@ -213,7 +220,7 @@ impl<N: Naming + Places, const K: usize> Shared<N, K> {
         Ways {
             rt,
             gate,
-            core: self.core.mutex(),
+            core: self.core.lock(),
             nodes: &self.nodes,
             history: &self.history,
         }
@@ -221,8 +228,8 @@ impl<N: Naming + Places, const K: usize> Shared<N, K> {
 
     /// The pool under its lock.
     #[inline(always)]
-    pub fn core(&self) -> &Mutex<Core<N, Trace<PoolEntry, K>>> {
-        self.core.mutex()
+    pub fn core(&self) -> &RankedLock<Core<N, Trace<PoolEntry, K>>> {
+        self.core.lock()
     }
 
     /// The frames of each node under a lock.
@@ -234,10 +241,10 @@ impl<N: Naming + Places, const K: usize> Shared<N, K> {
     /// The slot at this place under its lock. A lock tells nothing of its value: that it is the slot of this number is asked
     /// of the slot itself.
     #[inline(always)]
-    pub fn slot(&self, at: usize) -> &Mutex<SeatedSlot<N, Trace<SlotEntry, K>>>
+    pub fn slot(&self, at: usize) -> &RankedLock<SeatedSlot<N, Trace<SlotEntry, K>>>
         requires { at < self.now.slots }
     {
-        self.slots[at].mutex()
+        self.slots[at].lock()
     }
 
     /// What the machine is made of, with all that is on it, the trails where K is 1, and its history. These are runs of its parts,

@@ -22,6 +22,7 @@ use hp_model::entry::{Part, Receipt, TableEntry};
 use hp_model::event::{Event, TableEvent};
 use hp_model::naming::Naming;
 use hp_model::refusal::Refusal;
+use hp_order::Ordered;
 use hp_tasks::TaskTable;
 use hp_trail::trail::Trail;
 use std::marker::{Brand, Model, PhantomData};
@@ -55,6 +56,15 @@ impl<N: Naming + Places, T: Trail<TableEntry>> Model for Table<N, T> {
         × (t.seat.views ≡ table_view t.seat.views ∷ [])
         × IsLockedTable t.nodes (table_in t.seat.views) (T.entries t.trail) (T.left t.trail)
         (T.extra t.trail) t.tasks };
+}
+
+impl<N: Naming + Places, T: Trail<TableEntry>> Ordered for Table<N, T> {
+    ghost rank = { 1 };
+
+    #[inline(always)]
+    fn rank() -> u64 {
+        1
+    }
 }
 
 impl<N: Naming + Places, T: Trail<TableEntry>> Table<N, T> {

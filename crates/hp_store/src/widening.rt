@@ -31,6 +31,17 @@ pub(crate) fn widen<T>(list: &mut Vec<T>, count: usize, most: usize) -> Result<(
         mem::replace(list, more).destroy_empty();
         return Ok(());
     }
+    if is_much(capacity, list.len()) {
+        // (few values move alone, and no room that nothing was written to)
+        let more = Vec::with_capacity(*list.allocator(), wanted)?;
+        let mut values = mem::replace(list, more);
+        values.reverse();
+        while let Some(value) = values.pop() {
+            list.push_reserved(value);
+        }
+        values.destroy_empty();
+        return Ok(());
+    }
     list.reserve_exact(wanted - list.len())?;
     Ok(())
 }

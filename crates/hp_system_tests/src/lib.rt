@@ -1,12 +1,6 @@
-//! Tests of a mount and of the machine: each public call, step by step.
+//! Tests of the machine for one thread: it gets along with ample memory, and gives back all that it held.
 #![tactic(auto)]
 
-#[cfg(test)]
-mod calls;
-#[cfg(test)]
-mod mount;
-#[cfg(test)]
-mod noting;
 #[cfg(test)]
 mod same;
 #[cfg(test)]

@@ -1,18 +1,8 @@
-//! Tests of the crates below a mount: each public call, on values from outside, and what no contract says.
+//! Tests of the crates below a mount: what no contract of theirs says.
 #![tactic(auto)]
 
 #[cfg(test)]
 mod frames;
-#[cfg(test)]
-mod inode;
-#[cfg(test)]
-mod mapping;
-#[cfg(test)]
-mod marks;
-#[cfg(test)]
-mod nodes;
-#[cfg(test)]
-mod options;
 #[cfg(test)]
 mod permit;
 #[cfg(test)]
@@ -21,11 +11,5 @@ mod pool;
 mod region;
 #[cfg(test)]
 mod same;
-#[cfg(test)]
-mod store;
-#[cfg(test)]
-mod subpool;
-#[cfg(test)]
-mod text;
 #[cfg(test)]
 mod trail;

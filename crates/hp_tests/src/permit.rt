@@ -1,4 +1,4 @@
-//! A book, and permits that are split, joined and handed on.
+//! A book, and permits that threads hand on to each other.
 ghost use Rattle.std.specs.Prelude.{◌≡◌};
 
 use crate::same::same;
@@ -9,24 +9,6 @@ use std::sync::ledger::Blank;
 use std::sync::{Mutex, Wait};
 use std::thread;
 use std::thread::Threads;
-
-fn halves<N: Naming>(blank: Blank) -> u64
-    requires name { blank.name ≡ N.permits }
-    requires parts { blank.parts ≡ 18446744073709551615 }
-    ensures { result ≡ 7 }
-{
-    let mut book = Book::<N>::new(blank);
-    let mut one = book.issue(10);
-    let two = one.split(3);
-    book.check(&mut one);
-    book.retire(two);
-    let three = book.issue(0);
-    one.join(three);
-    let left = book.outstanding();
-    book.retire(one);
-    let end = book.close();
-    left + end
-}
 
 // Two holders and the book, each under a lock of its own.
 struct Shared<N: Naming> {
@@ -74,9 +56,4 @@ fn crosses_threads(rt: HostRuntime) {
         share_out::<Brand, HostRuntime>(&rt, Blank::new(u64::MAX)),
         0
     );
-}
-
-#[test]
-fn splits(rt: HostRuntime) {
-    same!(rt; halves::<Brand>(Blank::new(u64::MAX)), 7);
 }

@@ -11,7 +11,6 @@ use hp_model::step::{Reserving, Sharing};
 use hp_trail::audit::audit;
 use hp_trail::kept::Kept;
 use hp_trail::trail::Trail;
-use hp_trail::unkept::Unkept;
 use std::alloc::{AllocError, Global};
 use std::test::Fail;
 
@@ -243,102 +242,6 @@ fn each_change_of_them_differs(rt: HostRuntime) -> Result<(), Fail> {
     Ok(())
 }
 
-/// Two slots whose maps have their sections at places 1 and 2, told to two sessions.
-fn two_slots(
-    alloc: Global,
-    first: &[Told],
-    second: &[Told],
-) -> Result<Option<Vec<Event>>, AllocError> {
-    let mut slots = Vec::new(alloc);
-    slots.push(slot(alloc, 1)?)?;
-    slots.push(slot(alloc, 2)?)?;
-    let mut receipts = Vec::new(alloc);
-    receipts.push(session(alloc, first, 1)?)?;
-    receipts.push(session(alloc, second, 1)?)?;
-    audited(alloc, &tasks(alloc)?, &pool(alloc, 2, 1)?, &slots, receipts)
-}
-
-#[test]
-fn events_that_wait_for_each_other_in_a_circle_differ(rt: HostRuntime) -> Result<(), Fail> {
-    let alloc = rt.alloc();
-    let first = [
-        Told::Nr,
-        Told::Add,
-        Told::Find,
-        Told::Create(1),
-        Told::Map(0),
-    ];
-    let second = [Told::Create(0), Told::Map(1)];
-    assert!(rt; two_slots(alloc, &first, &second)?.is_some());
-    // The map in slot 0 waits in the pool for nr, which its session was told of after it.
-    let late = [
-        Told::Add,
-        Told::Find,
-        Told::Create(1),
-        Told::Map(0),
-        Told::Nr,
-    ];
-    assert!(rt; two_slots(alloc, &late, &second)?.is_none());
-    // The map in slot 0 waits for its file's creation, told of after the map in slot 1, which waits
-    // in the pool for the one in slot 0.
-    let circle = [Told::Map(1), Told::Create(0)];
-    assert!(rt; two_slots(alloc, &first, &circle)?.is_none());
-    Ok(())
-}
-
-#[test]
-fn nothing_joins(rt: HostRuntime) -> Result<(), Fail> {
-    let alloc = rt.alloc();
-    let events = audited(alloc, &[], &[], &[], Vec::new(alloc))?;
-    assert!(rt; events == Some(Vec::new(alloc)));
-    Ok(())
-}
-
-/// As many sessions as there may be workers, each of which was told of one event of the pool.
-fn many_sessions(alloc: Global, sessions: u64) -> Result<Option<Vec<Event>>, AllocError> {
-    let mut trail = Vec::new(alloc);
-    let mut receipts = Vec::new(alloc);
-    for place in 0..sessions {
-        trail.push(PoolEntry::OfPool {
-            event: PoolEvent::Nr { pages: 4 },
-            reply: Ok(Answer::Number(4)),
-        })?;
-        let mut told = Vec::new(alloc);
-        told.push(Receipt {
-            part: Part::Pool,
-            place,
-            event: event_of(alloc, Told::Nr)?,
-            reply: Ok(Answer::Number(4)),
-        })?;
-        receipts.push(told)?;
-    }
-    audited(alloc, &[], &trail, &[], receipts)
-}
-
-#[test]
-fn receipts_of_64_sessions_join(rt: HostRuntime) -> Result<(), Fail> {
-    let alloc = rt.alloc();
-    let mut expected = Vec::new(alloc);
-    for _ in 0..64 {
-        expected.push(event_of(alloc, Told::Nr)?)?;
-    }
-    assert!(rt; many_sessions(alloc, 64)? == Some(expected));
-    Ok(())
-}
-
-#[test]
-fn a_trail_of_a_million_places_takes_them(rt: HostRuntime) -> Result<(), Fail> {
-    let mut trail = Kept::open(rt.alloc(), 1_000_000, 256)?;
-    for entry in 0..1_000_000u64 {
-        assert!(rt; trail.has_room(false));
-        trail.push(entry);
-    }
-    same!(rt; trail.has_room(false), false);
-    same!(rt; trail.has_room(true), true);
-    same!(rt; trail.place(), 1_000_000);
-    Ok(())
-}
-
 #[test]
 fn closing_entries_have_places_of_their_own(rt: HostRuntime) -> Result<(), Fail> {
     let mut trail = Kept::open(rt.alloc(), 1, 1)?;
@@ -351,15 +254,5 @@ fn closing_entries_have_places_of_their_own(rt: HostRuntime) -> Result<(), Fail>
     same!(rt; trail.has_room(true), false);
     same!(rt; trail.place(), 2);
     assert!(rt; trail.into_entries().as_slice() == [7, 8].as_slice());
-    Ok(())
-}
-
-#[test]
-fn a_trail_that_keeps_nothing_has_room(rt: HostRuntime) -> Result<(), Fail> {
-    let mut trail = Unkept {};
-    trail.push(7u64);
-    same!(rt; Trail::<u64>::has_room(&trail, false), true);
-    same!(rt; Trail::<u64>::place(&trail), 0);
-    same!(rt; Trail::<u64>::is_kept(&trail), false);
     Ok(())
 }

@@ -102,7 +102,12 @@ impl Replies {
         ensures ready { S.is_ready service.new }
     {
         match step_of_word(word, words) {
-            Ok(step) => self.add_answer(&step, room, service),
+            Ok(step) => {
+                if touches_much(&step) {
+                    self.weigh();
+                }
+                self.add_answer(&step, room, service);
+            }
             Err(refusal) => self.add_refusal(refusal),
         }
     }
@@ -151,4 +156,25 @@ impl Replies {
         self.send(writer)?;
         Ok(lines)
     }
+}
+
+// Whether a step may touch more than a constant: maps and pages, however many.
+fn touches_much(step: &Step<'_>) -> bool {
+    matches!(
+        step,
+        Step::Fork { .. }
+            | Step::Exit { .. }
+            | Step::Mount { .. }
+            | Step::Remount { .. }
+            | Step::Umount { .. }
+            | Step::Unlink { .. }
+            | Step::Truncate { .. }
+            | Step::Punch { .. }
+            | Step::Preallocate { .. }
+            | Step::Map { .. }
+            | Step::Anon { .. }
+            | Step::Unmap { .. }
+            | Step::Nr { .. }
+            | Step::Ls { .. }
+    )
 }

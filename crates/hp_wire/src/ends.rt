@@ -39,6 +39,16 @@ pub trait Sink: Write {
         ensures some { is_sure self.old → 0 < length buf.now → IfOk result (λ n. 0 < n) }
         ensures stays { is_sure self.old → is_sure self.new }
         ensures lent { lent self.new ≡ lent self.old };
+
+    /// Whether replies that wait are to be written before more lines are done. It is asked before the first work behind a
+    /// write, and as work goes on.
+    fn is_due(&mut self) -> bool
+        ensures bytes { Self.contents self.new ≡ Self.contents self.old }
+        ensures stays { is_sure self.old → is_sure self.new }
+        ensures lent { lent self.new ≡ lent self.old }
+    {
+        false
+    }
 }
 
 impl Source for &[u8] {

@@ -20,11 +20,16 @@ use std::marker::Model;
 
 const ROOM: usize = 131_072;
 
+// The writer is asked whether replies are due once so many bytes of them have come, and behind each line that may touch much.
+const STEP: usize = 1024;
+
 /// The text of replies, where a page has `page` bytes.
 #[derive(Drop)]
 pub struct Replies {
     page: u64,
     waiting: Vec<u8>,
+    // The writer is asked before the next line once so many bytes wait.
+    ask_at: usize,
 }
 
 impl Model for Replies {
@@ -36,7 +41,8 @@ impl Model for Replies {
 
     ghost view = { λ r. record { page = r.page; text = r.waiting.items } };
 
-    ghost invariant = { λ r. (r.page ≤ most_page_bytes) × (131072 ≤ vec_capacity r.waiting) };
+    ghost invariant = { λ r. (r.page ≤ most_page_bytes) × (131072 ≤ vec_capacity r.waiting)
+        × (r.ask_at ≤ 64487) };
 }
 
 impl Replies {
@@ -46,7 +52,11 @@ impl Replies {
         ensures { IfOk result (λ replies. (replies.page ≡ page) × (replies.text ≡ [])) }
     {
         let waiting = Vec::with_capacity(alloc, ROOM)?;
-        Ok(Replies { page, waiting })
+        Ok(Replies {
+            page,
+            waiting,
+            ask_at: 0,
+        })
     }
 
     /// From here on a page has so many bytes.
@@ -101,8 +111,24 @@ impl Replies {
         line_of_refusal(refusal, &mut self.waiting);
     }
 
-    /// Makes room for one reply more: where there is none, writes out those that wait.
+    /// Makes room for one reply more: where there is none, or where they are due, writes out those that wait.
+    #[inline(always)]
     pub fn make_room<W: Sink>(&mut self, writer: &mut W) -> Result<(), RunFault>
+        ensures room { OnOk result (HasRoomForOne self.new) }
+        ensures page { self.new.page ≡ self.old.page }
+        ensures kept { OnOk result (LosesNone W.contents writer.old writer.new self.old self.new) }
+        ensures cut { IfErr result (WritesFront W.contents writer.old writer.new self.old.text) }
+        ensures writer { KeepsWriter W.is_sure W.lent writer.old writer.new result }
+    {
+        if self.waiting.len() < self.ask_at {
+            return Ok(());
+        }
+        self.ask(writer)
+    }
+
+    // Writes out the replies that wait where there is no room for one more, or where the writer says that they are due.
+    #[inline(never)]
+    fn ask<W: Sink>(&mut self, writer: &mut W) -> Result<(), RunFault>
         ensures room { OnOk result (HasRoomForOne self.new) }
         ensures page { self.new.page ≡ self.old.page }
         ensures kept { OnOk result (LosesNone W.contents writer.old writer.new self.old self.new) }
@@ -112,7 +138,19 @@ impl Replies {
         if self.waiting.len() > ROOM - LONGEST {
             return self.send(writer);
         }
-        Ok(())
+        self.ask_at = (self.waiting.len() + STEP).min(ROOM - LONGEST + 1);
+        if !writer.is_due() {
+            return Ok(());
+        }
+        self.send(writer)
+    }
+
+    /// The line that comes may touch much: behind it the writer is asked whether replies are due.
+    #[inline(always)]
+    pub fn weigh(&mut self)
+        ensures { self.new ≡ self.old }
+    {
+        self.ask_at = 0;
     }
 
     /// Writes out the replies that wait.
@@ -125,6 +163,7 @@ impl Replies {
     {
         write_whole(writer, self.waiting.as_slice())?;
         self.waiting.clear();
+        self.ask_at = 0;
         Ok(())
     }
 }

@@ -13,7 +13,7 @@ use Rattle.hp_words.proofs.Commands.{Found, is_right, options_are}
 use Rattle.hp_model.proofs.Words.{most_places, number_read}
 use Rattle.hp_words.specs.Asked.{AsksForScript, AsksToServe, CanBe, HasBadValue, IsGood, IsRefusedFor, IsRight, IsWrongIn, IsWrongOf, Sets, SetsServing, Setting}
 use Rattle.hp_words.specs.Asked.{comma_pieces, has_options, hugetlbd, is_serve, machine_options, node_frames, options_given, serving_options, settings_of}
-use Rattle.hp_words.specs.Config.{IsFrames, IsMachineWithin, IsPageSize, IsServing, IsWithin, MachineChoice, most_port, most_sessions, most_workers}
+use Rattle.hp_words.specs.Config.{IsFrames, IsMachineWithin, IsPageSize, IsServing, IsWithin, MachineChoice, most_idle, most_port, most_sessions, most_workers}
 use Rattle.hp_words.specs.declared.settings.Serving.{Serving}
 use Rattle.hp_words.specs.declared.settings.Wrong.{Wrong}
 use Rattle.hp_words.specs.declared.settings.Wrong.TheVariants.{Memory, Parse, BadValue, OptionFirst}
@@ -124,7 +124,8 @@ good_serving options s sets fits =
     let sessions = good_given _ s.sessions (IsWithin 1 most_sessions) sets.sessions fits.sessions in
     let workers = good_given _ s.workers (IsWithin 1 most_workers) sets.workers fits.workers in
     let room = good_given _ s.room (IsWithin 0 most_places) sets.room fits.room in
-    (port, (sessions, (workers, (room, tt))))
+    let idle = good_number _ s.idle 0 (IsWithin 0 most_idle) sets.idle fits.idle in
+    (port, (sessions, (workers, (room, (idle, tt)))))
 
 right_memory : (words : List Text) (w : Wrong) → IsRefusedFor words w → IsRight words → AllGood (settings_of words) (options_given words) → w ≡ Memory
 right_memory words Memory refused right good = refl

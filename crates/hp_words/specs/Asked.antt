@@ -19,7 +19,7 @@ use Rattle.clap.specs.Words.{found_of, rows_of}
 use Rattle.std.specs.Borrow.{Bor}
 use Rattle.hp_model.specs.text.Words.{number_read}
 use Rattle.hp_model.specs.Profile.{most_places, most_slots}
-use Rattle.hp_words.specs.Config.{IsFrames, IsPageSize, IsWithin, MachineChoice, choice_of, usual, most_port, most_sessions, most_workers}
+use Rattle.hp_words.specs.Config.{IsFrames, IsPageSize, IsWithin, MachineChoice, choice_of, usual, most_idle, most_port, most_sessions, most_workers}
 use Rattle.hp_words.specs.declared.settings.Config.{Config}
 use Rattle.hp_words.specs.declared.settings.Config.TheVariants.{Script, Serve}
 use Rattle.hp_words.specs.declared.settings.Serving.{Serving}
@@ -64,7 +64,8 @@ abbrev pub serving_options : List Setting
 serving_options = required (codes "port") (between 0 most_port)
     ∷ required (codes "sessions") (between 1 most_sessions)
     ∷ required (codes "workers") (between 1 most_workers)
-    ∷ required (codes "trace") (between 0 most_places) ∷ []
+    ∷ required (codes "trace") (between 0 most_places)
+    ∷ optional (codes "idle") (between 0 most_idle) ∷ []
 
 -- ---- the command line, as clap reads it
 
@@ -127,6 +128,7 @@ pub record SetsServing (options : List Row) (s : Serving) : Type 0 where
   pub sessions : IsOptionGiven (codes "sessions") options s.sessions
   pub workers : IsOptionGiven (codes "workers") options s.workers
   pub room : IsOptionGiven (codes "trace") options s.room
+  pub idle : IsGivenOr 0 (codes "idle") options s.idle
 
 -- one of these options is given
 abbrev pub has_options : List Setting → List Row → Bool

@@ -54,12 +54,17 @@ most_sessions = 65535
 abbrev pub most_workers : ℕ
 most_workers = 64
 
+-- the seconds of a client's silence
+abbrev pub most_idle : ℕ
+most_idle = 4294967295
+
 -- what a server is asked for
 pub record IsServing (s : Serving) : Type 0 where
   pub port : IsWithin 0 most_port s.port
   pub sessions : IsWithin 1 most_sessions s.sessions
   pub workers : IsWithin 1 most_workers s.workers
   pub room : IsWithin 0 most_places s.room
+  pub idle : IsWithin 0 most_idle s.idle
 
 abbrev pub IsConfigWithin : Config → Type 0
 IsConfigWithin (Script m) = IsMachineWithin (choice_of m)

@@ -34,6 +34,9 @@ const MOST_SESSIONS: u64 = 65_535;
 
 const MOST_WORKERS: u64 = 64;
 
+// The seconds of a silence.
+const MOST_IDLE: u64 = 4_294_967_295;
+
 /// What is printed where the words ask for help.
 pub const HELP: &str = "\
 Usage: hugetlbd [script] [OPTIONS] < FILE
@@ -63,6 +66,10 @@ Options that serve must have:
       --trace <ROOM>   entries that each trail has room for, and receipts each session:
                        0 to 16777216; at 0 none are kept, and nothing is audited at the end.
                        Each takes 608 bytes, 512 more for each slot, 464 more for each session
+
+Options that serve may have:
+      --idle <SECONDS> end a session that sends nothing, or reads no replies, for so long:
+                       0 to 4294967295; at 0 none is ended so [default: 0]
 ";
 
 /// What is printed where the words ask for the version.
@@ -74,7 +81,7 @@ pub const VERSION: &str = "hugetlbd 0.2.0\n";
 /// - `Parse`: `clap` refuses the words, or they ask for help or the version.
 /// - `OptionFirst`: an option stands before the subcommand.
 /// - `BadValue`: an option has a value that it can't have, the first in the order frames, page, slots, port,
-///   sessions, workers, trace.
+///   sessions, workers, trace, idle.
 /// - `Memory`: memory was refused. This one may stand in place of any answer.
 pub fn config<'a, S: AsStr>(alloc: Global, words: &'a [S]) -> Result<Config, Wrong>
     ensures limits { IfOk result IsConfigWithin }
@@ -144,7 +151,8 @@ fn serve_command<'a>(alloc: Global) -> Result<Command<'a>, AllocError>
     .arg(required(alloc, "port"))?
     .arg(required(alloc, "sessions"))?
     .arg(required(alloc, "workers"))?
-    .arg(required(alloc, "trace"))
+    .arg(required(alloc, "trace"))?
+    .arg(optional(alloc, "idle"))
 }
 
 // The command with the options of the machine.
@@ -227,11 +235,13 @@ fn serving_of(matches: &ArgMatches<'_>) -> Result<Serving, Wrong>
     let sessions = number(text_of(matches, "sessions"), "sessions", 1, MOST_SESSIONS)?;
     let workers = number(text_of(matches, "workers"), "workers", 1, MOST_WORKERS)?;
     let room = number(text_of(matches, "trace"), "trace", 0, MOST_PLACES)?;
+    let idle = number_or(text_of(matches, "idle"), "idle", 0, 0, MOST_IDLE)?;
     Ok(Serving {
         port: port as u16,
         sessions: sessions as usize,
         workers: workers as usize,
         room: room as usize,
+        idle,
     })
 }
 

@@ -39,6 +39,8 @@ pub struct Serving {
     pub workers: usize,
     /// For how many entries each trail has room, and for how many receipts each session; at 0 none are kept.
     pub room: usize,
+    /// The seconds after which a session is ended whose client sends nothing, or reads no replies; at 0 it is not.
+    pub idle: u64,
 }
 
 /// A form of the program.

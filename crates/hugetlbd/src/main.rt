@@ -24,6 +24,7 @@ fn main(rt: HostRuntime) -> ExitCode {
             words.as_slice(),
             OverTcp {
                 rt: &rt,
+                clock: rt,
                 port_to: rt.stdout(),
             },
             &mut input,

@@ -23,10 +23,12 @@ use std::sync::Wait;
 use std::thread::Threads;
 use std::time::Clock;
 
-/// A server over TCP. It listens at 127.0.0.1, and tells its port to `port_to`.
+/// A server over TCP. It listens at 127.0.0.1, and tells its port to `port_to`; its replies wait no longer than some milliseconds by
+/// the clock.
 #[derive(Drop)]
 pub struct OverTcp<'a, R, P> {
     pub rt: &'a R,
+    pub clock: HostRuntime,
     pub port_to: P,
 }
 
@@ -49,6 +51,8 @@ impl<
             return report(Ended::Failed(ServeFault::Network), faults);
         };
         let mut connections = Listening::new(self.rt, alloc, listener, self.port_to);
+        connections.write_by(self.clock);
+        connections.end_silent(serving.idle);
         serve_over(
             self.rt,
             alloc,

@@ -9,10 +9,12 @@ ghost use Rattle.hp_lookup.specs.Places.{IsFirstTask, IsFound, all_maps};
 
 use super::Files;
 use crate::lookup::Lookup;
-use hp_file::{drop_maps_of, sweep_file};
+use hp_file::{drop_maps_of, numbers_tried, sweep_file};
 use hp_lookup::MapPlace;
 use hp_model::naming::Naming;
-use hp_model::profile::MOST_MAPS;
+
+// So many maps of a task go one by one. Where it has more, the files are gone over once.
+const FEW_MAPS: u64 = 8;
 
 impl<N: Naming> Files<N> {
     /// The least number of a task that has a map, if there is a map. It takes a step for each file and map.
@@ -62,8 +64,8 @@ impl<N: Naming> Files<N> {
 
     /// All maps of a task go, with their private copies and what their owners have not consumed. Files that are left
     /// without name and maps go, with their pages and entries, and the others move down. Answers how many reservations
-    /// went. It takes a step for each number up to the greatest of the task's maps, for each index that they had, and for
-    /// each page that went; and no memory.
+    /// went. It takes a step for each index that the maps had, and for each page that went. A few maps are found by low
+    /// numbers. More, and those of other numbers, by a step for each file and map of the slot. It takes no memory.
     pub fn exit(&mut self, task: u64) -> u64
         requires { sum_by file_reserves self.old.files < 2 ^ 64 }
         ensures files { self.new.files ≡ filter is_kept (map (file_without task) self.old.files) }
@@ -71,7 +73,13 @@ impl<N: Naming> Files<N> {
     {
         let mut reserves = 0;
         let mut number = 1;
-        while number <= MOST_MAPS && self.has_maps(task) {
+        let count = self.counts.count(task);
+        let last = if count > FEW_MAPS {
+            0
+        } else {
+            numbers_tried(count)
+        };
+        while number <= last && self.has_maps(task) {
             reserves += self.exit_map(task, number);
             number += 1;
         }

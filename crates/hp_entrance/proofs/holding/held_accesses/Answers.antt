@@ -69,4 +69,5 @@ loop-done-preserved g c =
       left = next.left;
       number = c.held_access.ensures.number ∙ some.ensures.number;
       room = c.held_access.ensures.room ∙ some.ensures.room ∙ i.room;
+      turn = c.held_access.ensures.turn;
     }

@@ -1,4 +1,4 @@
-use Rattle.std.proofs.Common.{◌≡◌, take, drop}
+use Rattle.std.proofs.Common.{◌≡◌, ◌∷◌, [], take, drop}
 use Rattle.hp_events.specs.Queues.{AreAccessesHanded}
 use Rattle.hp_entrance.proofs.holding.held_accesses.Given as goal
 
@@ -8,4 +8,5 @@ invariant-loop-done g l = record {
   left : drop l.done l.queue ≡ drop l.done l.fn.queue;
   number : l.slot.slot.number ≡ l.at;
   room : l.member.room ≡ l.fn.member.room;
+  turn : l.turn.held ≡ 1 ∷ [];
 }

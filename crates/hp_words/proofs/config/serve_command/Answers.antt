@@ -10,7 +10,8 @@ returns-clause-app c =
     let port = adds_rule _ _ _ _ _ c.in_ok-arg.ensures c.required.ensures.local machine c.required.ensures.rule in
     let sessions = adds_rule _ _ _ _ _ c.in_ok-arg-2.ensures c.required-2.ensures.local port c.required-2.ensures.rule in
     let workers = adds_rule _ _ _ _ _ c.in_ok-arg-3.ensures c.required-3.ensures.local sessions c.required-3.ensures.rule in
-    IfOk-weaker c.arg-4.result _ _ (λ b h. adds_rule _ _ _ _ _ h c.required-4.ensures.local workers c.required-4.ensures.rule) c.arg-4.ensures
+    let trace = adds_rule _ _ _ _ _ c.in_ok-arg-4.ensures c.required-4.ensures.local workers c.required-4.ensures.rule in
+    IfOk-weaker c.arg-5.result _ _ (λ b h. adds_rule _ _ _ _ _ h c.optional.ensures.local trace c.optional.ensures.rule) c.arg-5.ensures
 
 pub returns-clause-local : goal.returns-clause-local
 returns-clause-local c =
@@ -18,4 +19,5 @@ returns-clause-local c =
     let port = keeps_local _ _ _ c.in_ok-arg.ensures c.required.ensures.local machine in
     let sessions = keeps_local _ _ _ c.in_ok-arg-2.ensures c.required-2.ensures.local port in
     let workers = keeps_local _ _ _ c.in_ok-arg-3.ensures c.required-3.ensures.local sessions in
-    IfOk-weaker c.arg-4.result _ _ (λ b h. keeps_local _ _ _ h c.required-4.ensures.local workers) c.arg-4.ensures
+    let trace = keeps_local _ _ _ c.in_ok-arg-4.ensures c.required-4.ensures.local workers in
+    IfOk-weaker c.arg-5.result _ _ (λ b h. keeps_local _ _ _ h c.optional.ensures.local trace) c.arg-5.ensures

@@ -21,10 +21,10 @@ module _ (g : Over) (c : After-leave g) where
   at_door = ap (λ d. d.mine) c.new-door.ensures ∙ (ap (λ m. m.0) c.join.ensures.both
       ∙ ap (λ h. h ∷ session_view c.args.mine.me.0 ∷ []) (ap (λ vs. free_slot (first_of vs)) c.self.invariant.one))
 
-  entered : IsEntered g.T.Trail.keeps (held c.self.inside.slot.number run c.args.mine.me.0 None) c.event_unnoted-told.new.door.asked c.into_mine-mine.result.me.0
+  entered : IsEntered g.T.Trail.keeps (held c.self.inside.slot.number run c.args.mine.me.0 None) c.event_unnoted-told.new.door.asked c.into_mine-mine.result.0.me.0
   entered =
-      subst (λ (b : Bool). IsEntered b (held c.self.inside.slot.number run c.args.mine.me.0 None) c.event_unnoted-told.new.door.asked c.into_mine-mine.result.me.0) c.requires.keeps
-      (subst (λ (v : List Held). IsEntered (g.row.K == 1) v c.event_unnoted-told.new.door.asked c.into_mine-mine.result.me.0) at_door
+      subst (λ (b : Bool). IsEntered b (held c.self.inside.slot.number run c.args.mine.me.0 None) c.event_unnoted-told.new.door.asked c.into_mine-mine.result.0.me.0) c.requires.keeps
+      (subst (λ (v : List Held). IsEntered (g.row.K == 1) v c.event_unnoted-told.new.door.asked c.into_mine-mine.result.0.me.0) at_door
       (subst (λ (w : List Held). IsEntered (g.row.K == 1) c.new-door.result.mine c.event_unnoted-told.new.door.asked w) (sym (ap (λ m. m.0) c.into_mine-mine.ensures.mine))
       c.event_unnoted-told.ensures.entered))
 
@@ -39,12 +39,12 @@ module _ (g : Over) (c : After-leave g) where
   done = never_true (is_trace_full (told_reply c.event_unnoted-told.result))
       (λ full. false≢true (sym c.requires.unkept ∙ (sym c.requires.keeps ∙ (c.event_unnoted-told.ensures.keeps full).1)))
 
-  views : c.leave.result.views ≡ (slot_left c.args.event (told_reply c.event_unnoted-told.result) c.into_mine-mine.result.me.0 ∷ []) ∷ []
-  views = c.leave.ensures.trail ∙ ap (λ h. (h ∷ []) ∷ []) (slot_went c.args.event (told_reply c.event_unnoted-told.result) c.into_mine-mine.result.me.0 done)
+  views : c.leave.result.views ≡ (slot_left c.args.event (told_reply c.event_unnoted-told.result) c.into_mine-mine.result.0.me.0 ∷ []) ∷ []
+  views = c.leave.ensures.trail ∙ ap (λ h. (h ∷ []) ∷ []) (slot_went c.args.event (told_reply c.event_unnoted-told.result) c.into_mine-mine.result.0.me.0 done)
 
-  session : c.leave.new.mine.me.0 ≡ session_left c.args.event (told_reply c.event_unnoted-told.result) c.into_mine-mine.result.me.0 ∷ []
+  session : c.leave.new.mine.me.0 ≡ session_left c.args.event (told_reply c.event_unnoted-told.result) c.into_mine-mine.result.0.me.0 ∷ []
   session = ap (λ m. m.0) c.leave.ensures.told
-      ∙ ap (λ h. h ∷ []) (session_went c.args.event (told_reply c.event_unnoted-told.result) c.into_mine-mine.result.me.0 done)
+      ∙ ap (λ h. h ∷ []) (session_went c.args.event (told_reply c.event_unnoted-told.result) c.into_mine-mine.result.0.me.0 done)
 
 pub join-requires-clause-one : goal.join-requires-clause-one
 join-requires-clause-one g c = one_free c.self.inside.slot.number c.self.inside.seat.views c.self.invariant.one
@@ -54,7 +54,7 @@ invariant_of-self g c =
     let a = (goal.at.invariant_of-self g c).After-leave in
     let s = c.self.inside.slot in
     seat_next g.T.Trail.keeps ⊥ g.N.Naming.page_bytes s c.event_unnoted-told.new.self (run g a) c.args.event
-    (told_reply c.event_unnoted-told.result) c.event_unnoted-told.new.door.asked None c.args.mine.me.0 c.into_mine-mine.result.me.0 (entered g a) (does g a)
+    (told_reply c.event_unnoted-told.result) c.event_unnoted-told.new.door.asked None c.args.mine.me.0 c.into_mine-mine.result.0.me.0 (entered g a) (does g a)
     (λ full. sym c.requires.unkept) c.self.invariant.kept c.leave.result.views (views g a) g.N.Places.history c.leave.result.table_id c.leave.ensures.slot
     c.event_unnoted-told.ensures.number (mount_event s.mount c.args.event c.requires.of_mount) c.self.invariant.ends
 
@@ -68,7 +68,7 @@ returns-clause-done g c =
     (seated_done ⊥ g.T.Trail.keeps g.N.Naming.page_bytes (record { slot = s; run = run g a }) new c.args.event (told_reply c.event_unnoted-told.result)
     c.args.mine.me.0 c.leave.new.mine.me.0 None (done g a)
     (event_seated g.T.Trail.keeps ⊥ g.N.Naming.page_bytes s c.event_unnoted-told.new.self (run g a) c.args.event
-    (told_reply c.event_unnoted-told.result) c.event_unnoted-told.new.door.asked None c.args.mine.me.0 c.into_mine-mine.result.me.0 (entered g a) (does g a)
+    (told_reply c.event_unnoted-told.result) c.event_unnoted-told.new.door.asked None c.args.mine.me.0 c.into_mine-mine.result.0.me.0 (entered g a) (does g a)
     (λ full. sym c.requires.unkept) c.self.invariant.kept c.leave.result.views (views g a) c.leave.new.mine.me.0 c.requires.session (session g a)))
 
 pub returns-clause-keeps : goal.returns-clause-keeps

@@ -20,10 +20,10 @@ module _ (g : Over) (c : After-leave g) where
   at_door = ap (λ d. d.mine) c.new-door.ensures ∙ (ap (λ m. m.0) c.join.ensures.both
       ∙ ap (λ h. h ∷ session_view c.args.mine.me.0 ∷ []) (ap (λ vs. free_slot (first_of vs)) c.self.invariant.one))
 
-  entered : IsEntered g.T.Trail.keeps (held c.self.inside.slot.number run c.args.mine.me.0 None) c.work-told.new.door.asked c.into_mine-mine.result.me.0
+  entered : IsEntered g.T.Trail.keeps (held c.self.inside.slot.number run c.args.mine.me.0 None) c.work-told.new.door.asked c.into_mine-mine.result.0.me.0
   entered =
-      subst (λ (b : Bool). IsEntered b (held c.self.inside.slot.number run c.args.mine.me.0 None) c.work-told.new.door.asked c.into_mine-mine.result.me.0) c.requires.keeps
-      (subst (λ (v : List Held). IsEntered (g.row.K == 1) v c.work-told.new.door.asked c.into_mine-mine.result.me.0) at_door
+      subst (λ (b : Bool). IsEntered b (held c.self.inside.slot.number run c.args.mine.me.0 None) c.work-told.new.door.asked c.into_mine-mine.result.0.me.0) c.requires.keeps
+      (subst (λ (v : List Held). IsEntered (g.row.K == 1) v c.work-told.new.door.asked c.into_mine-mine.result.0.me.0) at_door
       (subst (λ (w : List Held). IsEntered (g.row.K == 1) c.new-door.result.mine c.work-told.new.door.asked w) (sym (ap (λ m. m.0) c.into_mine-mine.ensures.mine)) c.work-told.ensures.entered))
 
   does : IsSlotEvent (full_for (g.T.Trail.keeps ≡ true) c.args.event.now) g.N.Naming.page_bytes c.self.inside.slot c.work-told.new.self c.args.event.now
@@ -40,7 +40,7 @@ invariant_of-self g c =
     let a = (goal.at.invariant_of-self g c).After-leave in
     let s = c.self.inside.slot in
     seat_next g.T.Trail.keeps (full_for (g.T.Trail.keeps ≡ true) c.args.event.now) g.N.Naming.page_bytes s c.work-told.new.self (run g a) c.args.event.now
-    (told_reply c.work-told.result.0) c.work-told.new.door.asked c.work-told.result.1 c.args.mine.me.0 c.into_mine-mine.result.me.0 (entered g a) (does g a)
+    (told_reply c.work-told.result.0) c.work-told.new.door.asked c.work-told.result.1 c.args.mine.me.0 c.into_mine-mine.result.0.me.0 (entered g a) (does g a)
     c.work-told.ensures.given c.self.invariant.kept c.leave.result.views c.leave.ensures.trail g.N.Places.history c.leave.result.table_id c.leave.ensures.slot
     c.work-told.ensures.number (work_event s.mount c.args.event.now (ap (λ (x : SeatedView). has_maps_for c.args.event.now x.slot.mount) c.self.view_is ∙ c.requires.has))
     c.self.invariant.ends
@@ -53,5 +53,5 @@ returns-clause-done g c =
     (record { slot = c.work-told.new.self; run = run_in c.leave.result.views }) c.args.event.now (told_reply c.work-told.result.0) c.args.mine.me.0
     c.leave.new.mine.me.0 c.work-told.result.1) c.self.view_is
     (event_seated g.T.Trail.keeps (full_for (g.T.Trail.keeps ≡ true) c.args.event.now) g.N.Naming.page_bytes s c.work-told.new.self (run g a) c.args.event.now
-    (told_reply c.work-told.result.0) c.work-told.new.door.asked c.work-told.result.1 c.args.mine.me.0 c.into_mine-mine.result.me.0 (entered g a) (does g a)
+    (told_reply c.work-told.result.0) c.work-told.new.door.asked c.work-told.result.1 c.args.mine.me.0 c.into_mine-mine.result.0.me.0 (entered g a) (does g a)
     c.work-told.ensures.given c.self.invariant.kept c.leave.result.views c.leave.ensures.trail c.leave.new.mine.me.0 c.requires.session (ap (λ m. m.0) c.leave.ensures.told))

@@ -5,4 +5,4 @@ pub invariant_of-self : goal.invariant_of-self
 invariant_of-self c =
     let kept = c.self.invariant.1 in
     let grown = (c.line_of_load.ensures 0).capacity in
-    (c.self.invariant.0, omega (arith, kept, grown))
+    (c.self.invariant.0, omega (arith, kept, grown), c.self.invariant.2)
