@@ -17,10 +17,11 @@ _hugetlbd() {
         --port) _hugetlbd_words "0 7070" "$now" ;;
         --workers) _hugetlbd_words "4 8 64" "$now" ;;
         --trace) _hugetlbd_words "0 65536" "$now" ;;
+        --idle) _hugetlbd_words "0 600" "$now" ;;
         --sessions) COMPREPLY=() ;;
         *)
             local words="--frames --page --slots --help"
-            [ "${COMP_WORDS[1]}" = serve ] && words="--port --sessions --workers --trace $words"
+            [ "${COMP_WORDS[1]}" = serve ] && words="--port --sessions --workers --trace --idle $words"
             [ "$COMP_CWORD" = 1 ] && words="script serve help --version $words"
             _hugetlbd_words "$words" "$now"
             ;;
@@ -31,16 +32,17 @@ _hugetlbctl() {
     local now=${COMP_WORDS[COMP_CWORD]} before=${COMP_WORDS[COMP_CWORD - 1]}
     case $before in
         --page) _hugetlbd_words "1024 4096 65536 2097152" "$now" ;;
-        --program | --svg | --html) _hugetlbd_files "$now" ;;
+        --program | --svg | --html | --from | --root) _hugetlbd_files "$now" ;;
         --frames | --slots | --port | --listen | --watch | --end | --within | --pid | --seconds | --times) COMPREPLY=() ;;
         *)
             case ${COMP_WORDS[1]}:$now in
-                plan:-*) _hugetlbd_words "--program --svg --html --json --lines --sysctl --fstab --help" "$now" ;;
-                observe:-*) _hugetlbd_words "--page --help" "$now" ;;
+                plan:-*) _hugetlbd_words "--program --from --root --worst --svg --html --json --lines --sysctl --cmdline --fstab --help" "$now" ;;
+                observe:-*) _hugetlbd_words "--page --root --help" "$now" ;;
+                who:-*) _hugetlbd_words "--page --root --json --help" "$now" ;;
                 *:-*) _hugetlbd_words "--program --port --frames --page --slots --svg --prometheus --listen --watch --end --within --pid --seconds --times --version --help" "$now" ;;
                 *)
                     _hugetlbd_files "$now"
-                    [ "$COMP_CWORD" = 1 ] && mapfile -t -O "${#COMPREPLY[@]}" COMPREPLY < <(compgen -W "plan observe" -- "$now")
+                    [ "$COMP_CWORD" = 1 ] && mapfile -t -O "${#COMPREPLY[@]}" COMPREPLY < <(compgen -W "plan observe who help" -- "$now")
                     ;;
             esac
             ;;

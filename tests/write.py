@@ -1,4 +1,5 @@
-"""Makes anew what is stored of the tools and of the kernel's answers: transcripts, blocks of documents, pictures."""
+"""Makes anew what is stored of the tools and of the kernel's answers: transcripts, blocks of documents,
+pictures."""
 import sys
 from pathlib import Path
 

@@ -1,131 +1,182 @@
-"""Refuses each call for memory in turn, in the tests and in the program, as `rt ci` built them; what is tried goes side by side.
+"""Refuses each call for memory in turn, in the tests and in the program, as `rt ci` built them.
 
-A test must pass all the same, or stop and name the want of memory. The program is given the worked rows and the examples, line by
-line: each reply is the row's own, or `error 1 OutOfMemory`, and then the counts, what each mount uses and what its files hold are as
-before and the same line, given again, gets the row's reply. Or memory was refused before the first line was read,
-and the program ends with status 1. With words that are wrong or ask for help it says what it says else, or that memory is
-out, with status 1 and no output. A server tells no port then; or one session of its three gets `error 1 OutOfMemory` alone, as its buffers or, with a trace, its
-receipts have no room, or a line of it is answered so, or it has no reply where its connection could not be held; and the others are served by the one worker. Or the audit is
-refused, with status 1. Nothing may be left held at the end.
+- A test must pass all the same, or stop and name the want of memory.
+- The program is given the worked rows and the examples, line by line. Each reply is the row's own, or `error
+  1 OutOfMemory`. Then counts, mounts and files are as before, and the same line given again gets the row's
+  reply. Or memory was refused before the first line was read, and the program ends with status 1.
+- With words that are wrong or ask for help it says what it says else, or that memory is out, with status 1.
+- A server tells no port. Or one session of its three gets `error 1 OutOfMemory` alone, for its buffers, its
+  receipts or a line; or no reply, where its connection could not be held. The others are served by the one
+  worker. Or the audit is refused, with status 1.
+
+Nothing may be left held at the end. What is tried goes side by side.
 """
 import os
 import re
 import socket
 import subprocess
-from concurrent.futures import ThreadPoolExecutor
+from collections.abc import Callable, Iterator
+from concurrent.futures import Future, ThreadPoolExecutor
 from contextlib import suppress
+from dataclasses import dataclass
+from pathlib import Path
+from typing import Any
 
 import built
 import pytest
-from built import PROGRAM, SECONDS, TOP, Client, Memory, cases, replies_in
+from built import PROGRAM, SECONDS, TOP, Case, Client, Memory, Ran, Words, cases, replies_in
 
 OUT_OF_MEMORY = b"error 1 OutOfMemory\n"
 # How a test that stops names what it wanted.
 NAMES_IT = re.compile(r"AllocError|AllocFailed|OutOfMemory|\bMemory\b|out of memory")
-# Where memory is refused to a run's own buffers nothing is read, and these want replies: so they are run with no call refused, and the
-# program tries the others.
+# Where memory is refused to a run's own buffers nothing is read, and these want replies: so they are run with
+# no
+# call refused, and the program tries the others.
 OUTER = ("hp_serving_tests", "hp_server_tests")
-# In these several threads meet: where one is refused memory the others have other replies. They are run once, too.
-TOGETHER = ("rows::", "stress::", "many::", "filling::", "making::")
-WORDS = [["--help"], ["--version"], ["script", "--help"], ["--page", "3"], ["--frames", "4,4,4,4,4"], ["--slots", "4", "script"], ["serve"], ["serve", "--help"],
-         ["serve", "--port", "0", "--sessions", "1", "--workers", "1", "--trace", "x"], ["a", "b"]]
+# In these several threads meet: where one is refused memory the others have other replies. They are run once,
+# too.
+TOGETHER = ("rows::", "stress::", "filling::", "making::")
+WORDS = [
+    ["--help"],
+    ["--version"],
+    ["script", "--help"],
+    ["--page", "3"],
+    ["--frames", "4,4,4,4,4"],
+    ["--slots", "4", "script"],
+    ["serve"],
+    ["serve", "--help"],
+    ["serve", "--port", "0", "--sessions", "1", "--workers", "1", "--trace", "x"],
+    ["a", "b"],
+]
 # The commands that ask for no memory, neither as their line is read nor as their step is done.
-WITHOUT_MEMORY = {b"connect", b"attach", b"exit", b"unmap", b"mount", b"umount", b"unlink", b"truncate", b"punch", b"read", b"stat", b"df",
-                  b"nr", b"overcommit", b"meminfo", b"nodes"}
+WITHOUT_MEMORY = {
+    b"connect",
+    b"attach",
+    b"exit",
+    b"unmap",
+    b"mount",
+    b"umount",
+    b"unlink",
+    b"truncate",
+    b"punch",
+    b"read",
+    b"stat",
+    b"df",
+    b"nr",
+    b"overcommit",
+    b"meminfo",
+    b"nodes",
+}
 # So many of the files made last are looked at after a refusal.
 LAST_FILES = 8
 
+# A file, by its slot and its name.
+File = tuple[bytes, bytes]
 
-def run_test(program, test, memory, refused):
+
+def run_test(program: Path, test: str, memory: Memory, refused: int) -> int:
     """Runs one test with this call refused, and answers how many calls it made."""
-    run = subprocess.run([program, test], env=memory.environment(refused), capture_output=True, timeout=3 * SECONDS)
+    run = subprocess.run(
+        [program, test], env=memory.environment(refused), capture_output=True, timeout=3 * SECONDS
+    )
     said = (run.stdout + run.stderr).decode(errors="replace")
     calls, held, _ = memory.told()
-    assert not run.returncode or refused and NAMES_IT.search(said), f"call {refused} refused: status {run.returncode}: {said.strip()[-400:]}"
+    assert (
+        not run.returncode or refused and NAMES_IT.search(said)
+    ), f"call {refused} refused: status {run.returncode}: {said.strip()[-400:]}"
     assert held == 0, f"call {refused} refused: blocks are still held at the end"
     return calls
 
 
-def try_test(memory, program, test):
+def try_test(memory: Memory, program: Path, test: str) -> None:
     calls = run_test(program, test, memory, 0)
     if program.stem.removesuffix("_tests") not in OUTER and not test.startswith(TOGETHER):
         for refused in range(1, calls + 1):
             run_test(program, test, memory, refused)
 
 
-def shown(client, slots):
+def shown(client: Client, slots: int) -> list[bytes]:
     """The counts, and what each slot's mount uses."""
     return [client.ask(b"meminfo\n")] + [client.ask(b"df %d\n" % slot) for slot in range(slots)]
 
 
-def files_shown(client, made):
+def files_shown(client: Client, made: list[File]) -> list[bytes]:
     """What the files that were made last hold, and the names on their slots."""
     slots = sorted({slot for slot, _ in made})
-    return [client.ask(b"stat %s %s\n" % file) for file in made] + [client.ask(b"ls %s\n" % slot) for slot in slots]
+    return [client.ask(b"stat %s %s\n" % file) for file in made] + [
+        client.ask(b"ls %s\n" % slot) for slot in slots
+    ]
 
 
-def must_show_files(where, words, client, lines):
+def must_show_files(where: str, words: Words, client: Client, lines: list[bytes]) -> None:
     """The files are as in a program that got these lines with no refusal."""
     twin = Client(PROGRAM, words)
     for line in lines:
         twin.ask(line)
-    made = [tuple(line.split()[1:3]) for line in lines if line.startswith(b"create ") and line.count(b" ") == 2][-LAST_FILES:]
-    assert files_shown(client, made) == files_shown(twin, made), f"{where}: a line was refused memory, and the files differ"
+    created = [line.split() for line in lines if line.startswith(b"create ") and line.count(b" ") == 2]
+    made = [(words[1], words[2]) for words in created if len(words) == 3][-LAST_FILES:]
+    same = files_shown(client, made) == files_shown(twin, made)
+    assert same, f"{where}: a line was refused memory, and the files differ"
     twin.close()
 
 
-def run_case(case, memory, refused):
+def run_case(case: Case, memory: Memory, refused: int) -> int:
     """Gives the program the case's lines with this call refused, and answers how many calls it made."""
     slots = int(case.words[case.words.index("--slots") + 1]) if "--slots" in case.words else 4
     given = ["script", *case.words] if case.words else []
     client = Client(PROGRAM, given, memory.environment(refused))
     where = f"call {refused} refused"
-    again, earlier = 0, []
+    again, earlier = 0, list[bytes]()
     for line, expected in case.lines():
         if not line.endswith(b"\n"):
-            client.program.stdin.write(line)
+            client.input.write(line)
             break
         before = shown(client, slots)
         reply = client.ask(line)
         if before[0] == b"":
-            _, status, faults = client.close()
-            assert refused and (status, faults) == (1, built.OUT_OF_MEMORY), f"{where}: an end before the first line"
+            status, _, faults = client.close()
+            end = (status, faults)
+            assert refused and end == (1, built.OUT_OF_MEMORY), f"{where}: an end before the first line"
             return memory.told()[0]
         if reply == OUT_OF_MEMORY and refused:
             again += 1
             assert line.split()[0] not in WITHOUT_MEMORY, f"{where}: {line!r} was refused memory"
-            assert shown(client, slots) == before, f"{where}: {line!r} was refused memory, and the counts moved"
+            after = shown(client, slots)
+            assert after == before, f"{where}: {line!r} was refused memory, and the counts moved"
             must_show_files(where, given, client, earlier)
             reply = client.ask(line)
         assert reply == expected, f"{where}: {line!r}"
         earlier.append(line)
     wanted = b"" if case.script.endswith(b"\n") else case.lines()[-1][1]
-    assert client.close() == (wanted, 0, b"") and again <= 1, f"{where}: {again} lines refused memory"
+    assert client.close() == (0, wanted, b"") and again <= 1, f"{where}: {again} lines refused memory"
     calls, held, _ = memory.told()
     assert held == 0, f"{where}: blocks are still held at the end"
     return calls
 
 
-def try_case(memory, case):
+def try_case(memory: Memory, case: Case) -> None:
     for refused in range(1, run_case(case, memory, 0) + 1):
         run_case(case, memory, refused)
 
 
-def run_words(words, memory, refused):
-    run = subprocess.run([PROGRAM, *words], env=memory.environment(refused), input=b"", capture_output=True, timeout=SECONDS)
+def run_words(words: Words, memory: Memory, refused: int) -> Ran:
+    run = subprocess.run(
+        [PROGRAM, *words], env=memory.environment(refused), input=b"", capture_output=True, timeout=SECONDS
+    )
     return run.returncode, run.stdout, run.stderr
 
 
-def try_words(memory, words):
+def try_words(memory: Memory, words: Words) -> None:
     """Wrong words, and those that ask for help."""
     expected = run_words(words, memory, 0)
     for refused in range(1, memory.told()[0] + 1):
-        assert run_words(words, memory, refused) in (expected, (1, b"", built.OUT_OF_MEMORY)), f"call {refused} refused"
+        wanted = (expected, (1, b"", built.OUT_OF_MEMORY))
+        assert run_words(words, memory, refused) in wanted, f"call {refused} refused"
         assert memory.told()[1] == 0, f"call {refused} refused: blocks are still held at the end"
 
 
-def replies_of(port, script):
-    """The replies that a session gets to a script; a session that could not be opened is reset, or ends with none, as where nobody listens."""
+def replies_of(port: int, script: bytes) -> list[bytes]:
+    """The replies that a session gets to a script; one that was not opened is reset, or has none."""
     got = b""
     with suppress(OSError), socket.create_connection(("127.0.0.1", port), timeout=SECONDS) as link:
         link.sendall(script)
@@ -135,18 +186,39 @@ def replies_of(port, script):
     return replies_in(got)
 
 
-SCRIPT = b"nr 4\nconnect 1 0\ncreate 0 a\nmap 1 0 a 0 2 shared\nstore 1 0 1 0 0 ff\nfork 1 2\nls 0\nexit 2\nexit 1\n"
+SCRIPT = built.text_of(
+    ["nr 4", "connect 1 0", "create 0 a", "map 1 0 a 0 2 shared", "store 1 0 1 0 0 ff"]
+    + ["fork 1 2", "ls 0", "exit 2", "exit 1"]
+)
 REPLIES = [b"ok 4\n", b"ok\n", b"ok\n", b"ok 1\n", b"ok\n", b"ok\n", b"text 1\na\n", b"ok\n", b"ok\n"]
 
 
-def run_server(trace, memory, refused):
-    """A server of three sessions with this call refused: how many calls it made, whether a session was told that it had no memory, and whether one was told nothing."""
+@dataclass(frozen=True)
+class Served:
+    """How many calls a server made, whether a session was told that it had no memory, and whether one was
+    told nothing."""
+
+    calls: int
+    was_told: bool
+    was_left: bool
+
+
+def run_server(trace: int, memory: Memory, refused: int) -> Served:
+    """A server of three sessions with this call refused."""
     where = f"call {refused} refused"
     words = ["serve", "--port", "0", "--sessions", "3", "--workers", "1", "--trace", str(trace)]
-    with subprocess.Popen([PROGRAM, *words], stdin=subprocess.DEVNULL, stdout=subprocess.PIPE, stderr=subprocess.PIPE, env=memory.environment(refused)) as server:
+    with subprocess.Popen(
+        [PROGRAM, *words],
+        stdin=subprocess.DEVNULL,
+        stdout=subprocess.PIPE,
+        stderr=subprocess.PIPE,
+        env=memory.environment(refused),
+    ) as server:
         try:
+            assert server.stdout
             port = server.stdout.readline()
-            sessions = [replies_of(int(port.split()[1]), script) for script in (SCRIPT, b"nr 3\n", b"nr 2\n")] if port else []
+            scripts = (SCRIPT, b"nr 3\n", b"nr 2\n") if port else ()
+            sessions = [replies_of(int(port.split()[1]), script) for script in scripts]
             output, faults = server.communicate(timeout=SECONDS)
         finally:
             server.kill()
@@ -156,26 +228,29 @@ def run_server(trace, memory, refused):
     else:
         wants = sum(OUT_OF_MEMORY in replies or not replies for replies in sessions) + (end == out_of_memory)
         right = [REPLIES, [b"ok 3\n"], [b"ok 2\n"]]
-        assert end in [(0, b""), out_of_memory] and wants <= bool(refused) and (wants or sessions == right), f"{where}: {end}, {output!r}, {sessions}"
+        is_right = (
+            end in [(0, b""), out_of_memory] and wants <= bool(refused) and (wants or sessions == right)
+        )
+        assert is_right, f"{where}: {end}, {output!r}, {sessions}"
         assert server.returncode or output.startswith(b"audit ok\n" if trace else b"HugePages_Total:"), where
     calls, held, _ = memory.told()
     assert held == 0, f"{where}: blocks are still held at the end"
-    return calls, [OUT_OF_MEMORY] in sessions, [] in sessions
+    return Served(calls, [OUT_OF_MEMORY] in sessions, [] in sessions)
 
 
-def try_server(memory, trace):
-    calls = run_server(trace, memory, 0)[0]
+def try_server(memory: Memory, trace: int) -> None:
+    calls = run_server(trace, memory, 0).calls
     tries = [run_server(trace, memory, refused) for refused in range(1, calls + 1)]
-    told, untold = sum(it[1] for it in tries), sum(it[2] for it in tries)
-    assert told == (9 if trace else 6), "sessions that were told that their two buffers, or their receipts, had no room"
-    assert untold == 3, "sessions whose connection could not be held"
+    told = sum(it.was_told for it in tries)
+    assert told == (9 if trace else 6), "sessions that were told of their two buffers, or their receipts"
+    assert sum(it.was_left for it in tries) == 3, "sessions whose connection could not be held"
 
 
-def is_built(_, program):
+def is_built(_: Memory, program: Path) -> None:
     assert program.exists(), "it is not there: rt ci builds it, and rt test in its crate"
 
 
-def of_tests(crate):
+def of_tests(crate: Path) -> Iterator[Any]:
     """What is tried of a crate: each of its tests."""
     program = crate / f"out/{crate.name}_tests"
     if any("#[test]" in file.read_text() for file in (crate / "src").rglob("*.rt")):
@@ -187,26 +262,35 @@ def of_tests(crate):
             yield pytest.param((try_test, program, test), id=f"{crate.name}-{test}")
 
 
-def attempts():
+def attempts() -> Iterator[Any]:
     """What is tried with its words; the names of those of the program begin with hugetlbd."""
     for crate in sorted((TOP / "crates").iterdir()):
         yield from of_tests(crate)
     yield from (pytest.param((try_case, case), id=f"hugetlbd-{case.name}") for case in cases())
     yield from (pytest.param((try_words, words), id=f"hugetlbd-{' '.join(words)}") for words in WORDS)
-    yield from (pytest.param((try_server, trace), id=f"hugetlbd-a server with room {trace}") for trace in (0, 100))
+    yield from (
+        pytest.param((try_server, trace), id=f"hugetlbd-a server with room {trace}") for trace in (0, 100)
+    )
 
 
 @pytest.fixture(scope="module")
-def begun(request, refuse, tmp_path_factory):
-    """The tries that this run has of this file, begun side by side, by the names of the tests that wait for them."""
-    folder, items = tmp_path_factory.mktemp("reports"), [it for it in request.session.items if it.module is request.module]
+def begun(
+    request: pytest.FixtureRequest, refuse: Path, tmp_path_factory: pytest.TempPathFactory
+) -> Iterator[dict[str, Future[None]]]:
+    """The tries that this run has of this file, begun side by side, by the names of the tests that wait."""
+    folder = tmp_path_factory.mktemp("reports")
+    items: list[Any] = [it for it in request.session.items if getattr(it, "module", None) is request.module]
     with ThreadPoolExecutor(len(os.sched_getaffinity(0))) as pool:
-        def begin(at, tries, *given):
+
+        def begin(at: int, tries: Callable[..., None], *given: object) -> Future[None]:
             return pool.submit(tries, Memory(refuse, folder / str(at)), *given)
+
         yield {it.name: begin(at, *it.callspec.params["attempt"]) for at, it in enumerate(items)}
         pool.shutdown(cancel_futures=True)
 
 
 @pytest.mark.parametrize("attempt", attempts())
-def test_bears_each_refusal(begun, attempt, request):
+def test_bears_each_refusal(
+    begun: dict[str, Future[None]], attempt: object, request: pytest.FixtureRequest
+) -> None:
     begun[request.node.name].result()

@@ -1,14 +1,15 @@
 """Inputs and outputs that fail, at once and in the middle."""
 import os
+from pathlib import Path
 
 import pytest
-from built import SECONDS, Client, cases
+from built import SECONDS, Client, Memory, Run, cases
 
 STORED = next(case for case in cases() if case.name == "stored_run")
 
 
-def test_tells_of_failed_ends(run):
-    """An output that takes nothing and an input that can't be read end with status 1 and a line that says so."""
+def test_tells_of_failed_ends(run: Run) -> None:
+    """An output that takes nothing and an input that can't be read: status 1, and a line that says so."""
     with open("/dev/full", "wb") as full:
         assert run([], STORED.script, full)[::2] == (1, b"hugetlbd: write failed\n")
         assert run(["--help"], b"", full)[::2] == (1, b"hugetlbd: write failed\n")
@@ -23,8 +24,9 @@ def test_tells_of_failed_ends(run):
 
 
 @pytest.mark.parametrize("call", ["read", "write"])
-def test_tells_of_ends_that_fail_later(program, memory, call):
-    """A read or a write that fails in the middle: the lines before it are answered, and status and words say what failed."""
+def test_tells_of_ends_that_fail_later(program: Path, memory: Memory, call: str) -> None:
+    """A read or a write that fails in the middle: the lines before it are answered, and status and words say
+    what failed."""
     lines = STORED.lines()
     for at in range(1, len(lines) + 1):
         client = Client(program, [], {**memory.environment(), f"REFUSE_{call.upper()}_AT": str(at)})
@@ -32,4 +34,4 @@ def test_tells_of_ends_that_fail_later(program, memory, call):
             assert client.ask(line) == reply, f"{line!r} before {call} {at} fails"
         if call == "write":
             assert client.ask(lines[at - 1][0]) == b""
-        assert client.close() == (b"", 1, f"hugetlbd: {call} failed\n".encode()), at
+        assert client.close() == (1, b"", f"hugetlbd: {call} failed\n".encode()), at

@@ -1,5 +1,6 @@
 """Servers of the program that is tested."""
 from functools import partial
+from pathlib import Path
 
 import pytest
 
@@ -8,6 +9,6 @@ import serving
 
 
 @pytest.fixture
-def serve(program):
+def serve(program: Path) -> serving.Serve:
     """Starts a server at a port that the system chooses."""
     return partial(serving.Server, program)

@@ -3,6 +3,7 @@ import io
 import re
 
 import pytest
+from pathlib import Path
 from common import EXAMPLES, PROGRAM, TOP, answer_of, run
 
 from hugetlb import command, refusals, talk
@@ -35,44 +36,68 @@ def transcript(name, first, last):
 
 def made(text):
     """A document with its blocks made anew."""
-    text = TRANSCRIPT.sub(lambda found: found[1] + transcript(found[2], int(found[3]), int(found[4])) + found[5], text)
+    text = TRANSCRIPT.sub(
+        lambda found: found[1] + transcript(found[2], int(found[3]), int(found[4])) + found[5], text
+    )
     text = PLAN.sub(lambda found: found[1] + run(["plan", found[2]], cwd=TOP)[1] + found[3], text)
     return FILE.sub(lambda found: found[1] + (TOP / found[2]).read_text() + found[3], text)
 
 
 @pytest.mark.parametrize("document", DOCUMENTS, ids=lambda it: it.name)
-def test_blocks_are_what_is_printed(document):
+def test_blocks_are_what_is_printed(document: Path) -> None:
     assert made(document.read_text()) == document.read_text()
 
 
-def test_there_are_blocks():
+def test_there_are_blocks() -> None:
     texts = [document.read_text() for document in DOCUMENTS]
     assert len(PLAN.findall(texts[0])) == 1
-    assert (len(PLAN.findall(texts[1])), len(TRANSCRIPT.findall(texts[1])), len(FILE.findall(texts[1]))) == (1, 3, 1)
+    assert (len(PLAN.findall(texts[1])), len(TRANSCRIPT.findall(texts[1])), len(FILE.findall(texts[1]))) == (
+        1,
+        3,
+        1,
+    )
 
 
-def test_pictures_are_there():
+def test_pictures_are_there() -> None:
     for document in DOCUMENTS:
         for picture in re.findall(r"\]\(([\w./-]+\.svg)\)", document.read_text()):
             assert (document.parent / picture).exists(), picture
 
 
-@pytest.mark.parametrize("words", re.findall(r"^    tools/hugetlbctl (plan .+|observe.*|examples.+)$", TUTORIAL.read_text(), re.MULTILINE))
-def test_commands(words, tmp_path):
+@pytest.mark.parametrize(
+    "words",
+    re.findall(
+        r"^    tools/hugetlbctl (plan .+|observe.*|who|examples.+)$", TUTORIAL.read_text(), re.MULTILINE
+    ),
+)
+def test_commands(words: list[str], tmp_path: Path) -> None:
     """The commands of the tutorial run, one after another as they stand."""
     words = words.split(" > ")[0]
     (tmp_path / "host.toml").write_text((EXAMPLES / "plan.toml").read_text())
     words = [TOP / word if word.startswith("examples/") else word for word in words.split()]
     status, _, faults = run(words, cwd=tmp_path)
-    assert (status, faults) == (0, "")
+    # (a node of the example can't hold its guests and all else)
+    assert (status, faults) == (1 if "--worst" in words else 0, "")
 
 
-def test_what_a_snapshot_costs():
-    """A store has written six of its eight pages, rewrites them, and its child reads all: 16 pages are whole, and 15 lose."""
-    lines = ["connect 1 0", "anon 1 8 private", *(f"store 1 0 1 {at} 0 61" for at in range(6)), "fork 1 2", *(f"load 2 0 1 {at} 0 1" for at in range(8)),
-             *(f"store 1 0 1 {at} 0 62" for at in range(6)), *(f"load 2 0 1 {at} 0 1" for at in range(8))]
+def test_what_a_snapshot_costs() -> None:
+    """A store has written six of its eight pages, rewrites them, and its child reads all: 16 pages are
+    whole, and 15 lose."""
+    lines = [
+        "connect 1 0",
+        "anon 1 8 private",
+        *(f"store 1 0 1 {at} 0 61" for at in range(6)),
+        "fork 1 2",
+        *(f"load 2 0 1 {at} 0 1" for at in range(8)),
+        *(f"store 1 0 1 {at} 0 62" for at in range(6)),
+        *(f"load 2 0 1 {at} 0 1" for at in range(8)),
+    ]
     for pages, refused in ((16, []), (15, ["error 5 TakenByOwner"]), (14, 2 * ["error 5 TakenByOwner"])):
-        replies = answer_of("".join(f"{line}\n" for line in [f"nr {pages}", *lines]).encode(), ["--frames", "16"]).decode().splitlines()
+        replies = (
+            answer_of("".join(f"{line}\n" for line in [f"nr {pages}", *lines]).encode(), ["--frames", "16"])
+            .decode()
+            .splitlines()
+        )
         assert [reply for reply in replies if reply.startswith("error ")] == refused
 
 

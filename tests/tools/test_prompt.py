@@ -7,6 +7,7 @@ import sys
 import time
 
 import built
+from pathlib import Path
 from common import PROGRAM, TOOL, must_hold
 
 
@@ -15,7 +16,13 @@ class Terminal:
         pid, self.terminal = pty.fork()
         if pid == 0:
             signal.signal(signal.SIGINT, signal.SIG_DFL)
-            environment = {"PATH": os.environ["PATH"], "HUGETLBD": str(PROGRAM), "HOME": str(home), "TERM": "dumb", "XDG_STATE_HOME": str(home)}
+            environment = {
+                "PATH": os.environ["PATH"],
+                "HUGETLBD": str(PROGRAM),
+                "HOME": str(home),
+                "TERM": "dumb",
+                "XDG_STATE_HOME": str(home),
+            }
             os.execve(sys.executable, [sys.executable, str(TOOL)], environment)
         self.pid, self.seen = pid, ""
 
@@ -23,7 +30,9 @@ class Terminal:
         """What was written up to this text."""
         until = time.monotonic() + built.SECONDS
         while text not in self.seen:
-            assert select.select([self.terminal], [], [], max(0, until - time.monotonic()))[0], f"{text!r} did not come at the prompt, but {self.seen!r}"
+            assert select.select([self.terminal], [], [], max(0, until - time.monotonic()))[
+                0
+            ], f"{text!r} did not come at the prompt, but {self.seen!r}"
             try:
                 more = os.read(self.terminal, 65536).decode(errors="replace")
             except OSError:
@@ -42,8 +51,9 @@ class Terminal:
         return os.waitstatus_to_exitcode(os.waitpid(self.pid, 0)[1])
 
 
-def test_prompts(tmp_path):
-    """Replies with counts, completion of commands, words and names, history of the session before, help, and its ends."""
+def test_prompts(tmp_path: Path) -> None:
+    """Replies with counts, completion of commands, words and names, history of the session before, help, and
+    its ends."""
     terminal = Terminal(tmp_path)
     terminal.wait("26 commands, `help` lists them")
     terminal.type("nr 4\n", "ok 4                     Total 4  Free 4  Rsvd 0  Surp 0")
@@ -64,7 +74,7 @@ def test_prompts(tmp_path):
     assert again.end() == 0
 
 
-def test_interrupt_keeps_the_machine(tmp_path):
+def test_interrupt_keeps_the_machine(tmp_path: Path) -> None:
     """Ctrl-C at the prompt gives a new prompt, and the machine stands as it was."""
     terminal = Terminal(tmp_path)
     terminal.type("nr 3\n", "ok 3")

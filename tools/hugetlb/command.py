@@ -1,74 +1,168 @@
-"""Speaks with hugetlbd: a plan with its answer, a prompt, or a script with its replies and counts; tells why a line was refused; draws and exports the counts.
+"""Speaks with hugetlbd: a plan with its answer, a prompt, or a script with its replies and counts.
+
+It tells why a line was refused, and draws and exports the counts.
 
     hugetlbctl plan host.toml                   does it fit, with how many pages, and who is refused if not
     hugetlbctl observe                          a plan from the Linux host that it runs on
+    hugetlbctl who                              who holds the huge pages of this host
     hugetlbctl                                  a prompt to a program of its own; `help` lists the lines
     hugetlbctl examples/guests.script           a script, each line with its reply, Total, Free, Rsvd and Surp
     hugetlbctl --svg guests.svg guests.script   the same, and a picture
     hugetlbctl --port 7070                      a prompt to a server
     hugetlbctl --watch 7070                     a line of counts a second
-    hugetlbctl --end 7070                       ends a server: opens and closes the sessions that are left of its number
+    hugetlbctl --end 7070                       ends a server: uses up the sessions that are left
     hugetlbctl --port 7070 --prometheus         the counts for Prometheus; with --listen PORT as an exporter
 
-Beside the service's lines a script may have empty lines, comments from a `#` on, and one range in a line: `fault 1 0 1 0..8191 write` is 8,192
-lines. Where NAME.words stands beside NAME.script, its words are the machine's options; those given here go before them.
+Beside the service's lines a script may have empty lines, comments from a `#` on, and one range in a line:
+`fault 1 0 1 0..8191 write` is 8,192 lines. Where NAME.words stands beside NAME.script, its words are the
+machine's options; those given here go before them.
 """
 import argparse
 import gc
+import io
 import os
 import re
+import signal
 import sys
+from collections.abc import Callable
+from dataclasses import dataclass
 from pathlib import Path
 
 from hugetlb_session import Ended, Session, Unreadable
 
-from . import exporter, observe, plan
+from . import exporter, observe, plan, who
 from .picture import Picture
-from .program import NoProgram, program, version
+from .program import NoProgram, program, proof, version
 from .prompt import prompts
 from .refusals import Machine
 from .server import ends
 from .talk import Prompt, Script, Talk
 
 MACHINE = {"frames": "4,4", "page": "1024", "slots": "4"}
-SUBCOMMANDS = {"plan": plan.main, "observe": observe.main}
+SUBCOMMANDS: dict[str, Callable[[list[str]], int]] = {
+    "plan": plan.main,
+    "observe": observe.main,
+    "who": who.main,
+}
+MOST_PORTS = 65_535
+WAITS = "waits for a worker that is free: all workers of the server have other sessions"
 
 
-def a_port(text):
-    number = int(text) if re.fullmatch(r"[0-9]{1,5}", text) else 65_536
-    if number > 65_535:
-        raise argparse.ArgumentTypeError(f"a port is a number from 0 to 65535, and not {text!r}")
+@dataclass(frozen=True)
+class Words:
+    """The words of the command line, where they name no subcommand."""
+
+    script: Path | None
+    program: str | None
+    port: int | None
+    machine: dict[str, str]
+    svg: Path | None
+    prometheus: bool
+    listen: int | None
+    watch: int | None
+    end: int | None
+    within: float
+    pid: int | None
+    seconds: float
+    times: int | None
+
+    @classmethod
+    def of(cls, given: argparse.Namespace) -> "Words":
+        values = vars(given)
+        machine = {name: value for name in MACHINE if (value := values.pop(name))}
+        return cls(machine=machine, **values)
+
+    @property
+    def server(self) -> int | None:
+        """The port of the server that is spoken with."""
+        return next((it for it in (self.port, self.watch, self.end) if it is not None), None)
+
+
+def a_port(text: str) -> int:
+    number = int(text) if re.fullmatch(r"[0-9]{1,5}", text) else MOST_PORTS + 1
+    if number > MOST_PORTS:
+        raise argparse.ArgumentTypeError(f"a port is a number from 0 to {MOST_PORTS}, and not {text!r}")
     return number
 
 
-def parser():
-    parser = argparse.ArgumentParser(prog="hugetlbctl", description=__doc__, formatter_class=argparse.RawDescriptionHelpFormatter)
-    parser.add_argument("script", nargs="?", type=Path, help="a file of lines; `-`, or none where standard input is no terminal: standard input")
-    parser.add_argument("--version", action="version", version=f"hugetlbctl {version()}")
-    parser.add_argument("--program", help="the program to start (HUGETLBD in the environment; else the one beside this tool, or what ./run starts)")
-    parser.add_argument("--port", type=a_port, help="the port of a server on this machine, to speak with it in place of a program")
-    parser.add_argument("--frames", help="the machine's frames, as hugetlbd takes them; with --port those of the server, to tell a want of frames")
-    parser.add_argument("--page", help="the machine's bytes of a page, as hugetlbd takes them")
-    parser.add_argument("--slots", help="the machine's slots, as hugetlbd takes them")
-    parser.add_argument("--svg", type=Path, metavar="FILE",
-                        help="draws the counts over the lines into this file; of more than 400 lines only those that were refused or changed a count")
-    parser.add_argument("--prometheus", action="store_true",
-                        help="writes the counts as Prometheus' textfile collector reads them, after the script if there is one")
-    parser.add_argument("--listen", type=a_port, metavar="PORT", help="with --prometheus: answers /metrics at this port of 127.0.0.1, over one session")
-    parser.add_argument("--watch", type=a_port, metavar="PORT", help="writes a line of counts a second, until the server ends or Ctrl-C")
-    parser.add_argument("--end", type=a_port, metavar="PORT",
-                        help="ends a server gracefully, with its audit: opens and closes the sessions that are left of its number")
-    parser.add_argument("--within", type=float, default=60, metavar="SECONDS", help="how long --end waits for sessions that stay open (60)")
-    parser.add_argument("--pid", type=int, help="the server's process, which --end sends SIGTERM after that")
-    parser.add_argument("--seconds", type=float, default=1, help="how long to wait between two lines of --watch")
-    parser.add_argument("--times", type=int, help="how many lines --watch writes")
-    return parser
+def parser() -> argparse.ArgumentParser:
+    made = argparse.ArgumentParser(
+        prog="hugetlbctl", description=__doc__, formatter_class=argparse.RawDescriptionHelpFormatter
+    )
+    add = made.add_argument
+    add(
+        "script",
+        nargs="?",
+        type=Path,
+        help="a file of lines; `-`, or none where standard input is no terminal: standard input",
+    )
+    add("--version", action="version", version=f"hugetlbctl {version()}{proof()}")
+    add(
+        "--program",
+        help="the program to start (HUGETLBD in the environment; else the one beside this tool, or what "
+        "./run starts)",
+    )
+    add(
+        "--port",
+        type=a_port,
+        help="the port of a server on this machine, to speak with it in place of a program",
+    )
+    add(
+        "--frames",
+        help="the machine's frames, as hugetlbd takes them; with --port those of the server, to tell a want "
+        "of frames",
+    )
+    add("--page", help="the machine's bytes of a page, as hugetlbd takes them")
+    add("--slots", help="the machine's slots, as hugetlbd takes them")
+    add(
+        "--svg",
+        type=Path,
+        metavar="FILE",
+        help="draws the counts over the lines into this file; of more than 400 lines only those that were "
+        "refused or changed a count",
+    )
+    add(
+        "--prometheus",
+        action="store_true",
+        help="writes the counts as Prometheus' textfile collector reads them, after the script if there is "
+        "one",
+    )
+    add(
+        "--listen",
+        type=a_port,
+        metavar="PORT",
+        help="with --prometheus: answers /metrics at this port of 127.0.0.1, over one session",
+    )
+    add(
+        "--watch",
+        type=a_port,
+        metavar="PORT",
+        help="writes a line of counts a second, until the server ends or Ctrl-C",
+    )
+    add(
+        "--end",
+        type=a_port,
+        metavar="PORT",
+        help="ends a server gracefully, with its audit: opens and closes the sessions that are left of its "
+        "number",
+    )
+    add(
+        "--within",
+        type=float,
+        default=60,
+        metavar="SECONDS",
+        help="how long --end waits for sessions that stay open (60)",
+    )
+    add("--pid", type=int, help="the server's process, which --end sends SIGTERM after that")
+    add("--seconds", type=float, default=1, help="how long to wait between two lines of --watch")
+    add("--times", type=int, help="how many lines --watch writes")
+    return made
 
 
-def words_of(arguments):
+def words_of(arguments: list[str]) -> Words:
     made = parser()
-    words = made.parse_args(arguments)
-    if words.port is not None and (words.page or words.slots):
+    words = Words.of(made.parse_args(arguments))
+    if words.port is not None and words.machine.keys() - {"frames"}:
         made.error("--page and --slots are a program's own: a server has its own")
     if words.listen is not None and (words.port is None or not words.prometheus):
         made.error("--listen goes with --prometheus and the --port of a server")
@@ -77,50 +171,67 @@ def words_of(arguments):
     return words
 
 
-def machine_words(words):
+def machine_words(words: Words) -> dict[str, str]:
     """The options of the machine: those given, before those that stand beside the script."""
-    given = {name: getattr(words, name) for name in MACHINE if getattr(words, name)}
     file = words.script.with_suffix(".words") if words.script and words.script.suffix == ".script" else None
     texts = re.split(r"[ =\n]+", file.read_text().strip()) if file and file.exists() else []
     beside = {name.removeprefix("--"): value for name, value in zip(texts[::2], texts[1::2])}
-    return MACHINE | beside | given
+    return MACHINE | beside | words.machine
 
 
-def opened(words, machine):
+def tell_of_waiting() -> None:
+    print(f"hugetlbctl: {WAITS}", file=sys.stderr, flush=True)
+
+
+def over_socket(port: int) -> Session:
+    """A session with a server; one that waits for a worker says so."""
+    return Session.over_socket(port, on_wait=tell_of_waiting)
+
+
+def opened(words: Words, machine: dict[str, str]) -> Session:
     if words.port is not None:
-        return Session.over_socket(words.port)
+        return over_socket(words.port)
     options = [word for name, value in machine.items() for word in (f"--{name}", value)]
     return Session.over_pipe([program(words.program), "script", *options])
 
 
-def lines_of(script):
+def lines_of(script: Path | None) -> list[str]:
     """The lines of a script as they are: an end of DOS is part of a line, and the service's to refuse."""
-    data = sys.stdin.buffer.read() if script in (None, Path("-")) else script.read_bytes()
+    is_input = script is None or script == Path("-")
+    data = sys.stdin.buffer.read() if script is None or is_input else script.read_bytes()
     return data.removesuffix(b"\n").decode(errors="surrogateescape").split("\n") if data else []
 
 
-def serves(words):
+def serves(words: Words) -> int:
     if words.watch is not None:
-        with Session.over_socket(words.watch) as session:
+        with over_socket(words.watch) as session:
             exporter.watches(session, words.seconds, words.times)
         return 0
     if words.end is not None:
         return 0 if ends(words.end, words.within, words.pid) else 1
-    if words.listen is not None:
-        exporter.exports(lambda: Session.over_socket(words.port), words.listen)
+    if words.listen is not None and words.port is not None:
+        port = words.port
+        exporter.exports(lambda: Session.over_socket(port), words.listen)
         return 0
+    talks(words)
+    return 0
+
+
+def talks(words: Words) -> None:
+    """A script, or a prompt."""
     machine = machine_words(words)
     at_prompt = words.script is None and sys.stdin.isatty()
     lines = [] if at_prompt or words.prometheus and words.script is None else lines_of(words.script)
     session = opened(words, machine)
-    frames = words.frames if words.port is not None else machine["frames"]
+    frames = words.machine.get("frames") if words.port is not None else machine["frames"]
     out = open(os.devnull, "w") if words.prometheus else sys.stdout
-    talk = Talk(session, Machine(frames, words.port is None), Prompt(out) if at_prompt else Script(out))
+    say = Prompt(out) if at_prompt else Script(out)
+    talk = Talk(session, Machine(frames, words.port is None), say)
     if at_prompt and not words.prometheus:
-        talk.say.head()
+        say.head()
         prompts(talk)
     elif lines:
-        talk.say.head()
+        say.head()
     # (a million rows are kept, and none of them is garbage)
     gc.disable()
     talk.take_all(enumerate(lines, 1))
@@ -130,12 +241,11 @@ def serves(words):
     if words.svg:
         words.svg.write_text(Picture(talk.rows, words.script.name if words.script else "hugetlbd").text())
     session.close()
-    return 0
 
 
-def what_failed(error, words):
+def what_failed(error: Exception, words: Words | None) -> str:
     """An error in words for people."""
-    port = next((it for it in (words.port, words.watch, words.end) if it is not None), None) if words else None
+    port = words.server if words else None
     if isinstance(error, ConnectionRefusedError) and port is not None:
         return f"no server listens at port {port} of this machine: the connection was refused"
     if isinstance(error, OSError) and error.strerror:
@@ -143,13 +253,26 @@ def what_failed(error, words):
     return str(error)
 
 
-def main(arguments):
+def helps(words: list[str]) -> int:
+    """Tells of the tool, or of one of its subcommands."""
+    if words and words[0] in SUBCOMMANDS:
+        return SUBCOMMANDS[words[0]](["--help"])
+    parser().print_help()
+    print(f"\nhugetlbctl help {'|'.join(SUBCOMMANDS)}: tells of one of these.")
+    return 0
+
+
+def main(arguments: list[str]) -> int:
+    signal.signal(signal.SIGINT, signal.default_int_handler)
     for stream in (sys.stdout, sys.stderr):
-        stream.reconfigure(errors="backslashreplace")
+        if isinstance(stream, io.TextIOWrapper):
+            stream.reconfigure(errors="backslashreplace")
     words = None
     try:
         if arguments[:1] and arguments[0] in SUBCOMMANDS:
             return SUBCOMMANDS[arguments[0]](arguments[1:])
+        if arguments[:1] == ["help"]:
+            return helps(arguments[1:])
         words = words_of(arguments)
         return serves(words)
     except BrokenPipeError:

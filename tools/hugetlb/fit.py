@@ -1,165 +1,370 @@
-"""Answers a plan: each number is what the program itself answers, run again and again."""
-import subprocess
+"""Answers a plan: each number is what the program itself answers, run again and again.
 
-from hugetlb_session import Session
+Each size of page is a pool of its own, the largest first. In a pool each node is a machine of its own for
+what is bound to it; what is not bound takes what is left. All numbers are pages of the pool.
+"""
+from collections.abc import Sequence
+from dataclasses import dataclass, field, replace
 
-from .kinds import MOST_FRAMES, Scale, Script
-from .lines import expanded
-from .program import NoProgram, program
-
-SECONDS = 120
-OUT_OF_MEMORY = "hugetlbd: out of memory"
-
-
-class MachineRefused(Exception):
-    """The machine could not be had at this scale."""
+from .bound import Bound, Nodes, Placement, spread
+from .machine import Question
+from .model import WORSE, Consumer, Plan, Pool, State
+from .program import program
+from .runs import Outcome, Runs
 
 
-class Outcome:
-    """What one program or mount gets: `whole`, `lost` (its snapshot), `killed` at a touch, `refused`, or `small` pages in place of huge ones."""
+@dataclass
+class Hazard:
+    """What programs that are not bound here may take here before those that are bound come."""
 
-    def __init__(self, name, kind, asked, mount=None):
-        self.name, self.kind, self.asked, self.mount = name, kind, asked, mount
-        self.state, self.got, self.what, self.line, self.reply = "whole", asked, "", None, None
+    short: int
+    takers: list[Consumer]
+    bound: list[Consumer]
 
 
+@dataclass
+class Node:
+    """A node of a pool.
+
+    The pages that it has room for, those that must stand on it, and those that are set.
+    """
+
+    number: int
+    memory: int
+    room: int
+    asked: int = 0
+    nr: int = 0
+    worst: int | None = None
+    hazard: Hazard | None = None
+
+    def fits(self) -> bool:
+        return self.asked <= self.nr
+
+
+@dataclass
+class NodeSet:
+    """Nodes that hold together what is bound to them: what is asked of them, and how much finds its place."""
+
+    nodes: Nodes
+    asked: int
+    placed: int = 0
+    room: int = 0
+    nr: int = 0
+    worst: int | None = None
+    hazard: Hazard | None = None
+
+    def fits(self) -> bool:
+        return self.asked <= self.placed and (self.worst is None or self.worst <= self.room)
+
+    @property
+    def name(self) -> str:
+        """As `nodes 0, 1 and 3`."""
+        *first, last = map(str, self.nodes)
+        return f"nodes {', '.join(first)} and {last}"
+
+
+@dataclass
+class PoolAnswer:
+    """Whether a pool's programs fit, the smallest numbers of pages, and what each gets."""
+
+    pool: Pool
+    runs: Runs
+    nodes: list[Node]
+    bound: Bound
+    sets: list[NodeSet] = field(default_factory=list)
+    smallest: int | None = None
+    smallest_with: int | None = None
+    fits: bool = False
+    # what is set, and what the rows below are told at
+    nr: int = 0
+    overcommit: int = 0
+    at: int = 0
+    at_overcommit: int = 0
+    outcomes: list[Outcome] = field(default_factory=list)
+    one_less: list[Outcome] = field(default_factory=list)
+
+    @property
+    def capacity(self) -> int:
+        return sum(it.room for it in self.nodes)
+
+    @property
+    def binds(self) -> bool:
+        """Whether anything is bound to nodes."""
+        return self.bound.total() > 0
+
+
+def freely(one: Consumer) -> Consumer:
+    """A program without its mount: a promise of a mount takes no page of a node."""
+    return replace(one, mount=None, is_file=False, bound={}, among=())
+
+
+def parts_of(consumers: Sequence[Consumer], nodes: Nodes) -> list[Consumer]:
+    """What is bound to these nodes, or to some of them: it has no other room."""
+    made: list[Consumer] = []
+    for one in consumers:
+        made += [one.part(node) for node in nodes if node in one.bound]
+        made += [freely(one)] if one.among and set(one.among) <= set(nodes) else []
+    return made
+
+
+def takers_of(consumers: Sequence[Consumer], nodes: Nodes) -> list[Consumer]:
+    """What may take pages of these nodes, and has room elsewhere."""
+    return [
+        one
+        for one in consumers
+        if one.is_free() or set(one.among) & set(nodes) and not set(one.among) <= set(nodes)
+    ]
+
+
+@dataclass
 class Answer:
-    """Whether the plan fits, the smallest numbers of pages, and what each program gets."""
+    """The answers of all pools. With `worst` the numbers are those with which no order of touching hurts."""
 
-    def __init__(self, plan, named=None):
-        self.plan, self.program, self.runs = plan, program(named), 0
-        most = MOST_FRAMES
-        while True:
-            try:
-                self.compute(Scale(plan, most))
-                return
-            except MachineRefused:
-                most //= 2
-                if most < 4_096:
-                    raise NoProgram("not even a machine of 4,096 pages of 1 KiB could be had: there is too little memory") from None
+    plan: Plan
+    worst: bool
+    pools: list[PoolAnswer]
 
-    def compute(self, scale):
-        plan = self.plan
-        self.scale, self.script = scale, Script(plan, scale)
-        self.body = "".join(f"{one}\n" for line in self.script.phases() for one in expanded(line)).encode()
-        allowed = scale.up(plan.overcommit) if plan.overcommit is not None else None
-        self.capacity = scale.host_frames
-        self.smallest = self.bisected(0)
-        self.smallest_with = self.bisected(allowed) if allowed is not None and self.smallest is not None else None
-        given = plan.host.nr
-        if given is not None:
-            self.at, self.at_overcommit = min(given // scale.unit, self.capacity), allowed or 0
-            beyond = max(self.capacity - self.at, 0)
-            self.at_overcommit = min(self.at_overcommit, beyond)
-            self.fits = self.smallest is not None and self.is_whole(self.at, self.at_overcommit)
-        else:
-            self.fits = self.smallest is not None and self.smallest <= self.capacity
-            self.at, self.at_overcommit = (self.smallest if self.fits else self.capacity), 0
-        self.outcomes = self.outcomes_at(self.at, self.at_overcommit)
-        self.one_less = []
-        if self.smallest:
-            self.one_less = [it for it in self.outcomes_at(self.smallest - 1, 0) if it.state != "whole"]
+    @property
+    def fits(self) -> bool:
+        return all(it.fits for it in self.pools)
 
-    # ---- runs of the program
 
-    def is_whole(self, nr, overcommit):
-        """Whether nothing is refused, and no snapshot loses a page."""
-        self.runs += 1
-        head = f"nr {nr}\novercommit {overcommit}\n".encode()
-        ran = subprocess.run([self.program, "script", *self.script.words()], input=head + self.body, capture_output=True, timeout=SECONDS)
-        if ran.returncode:
-            said = ran.stderr.decode(errors="replace").strip()
-            raise MachineRefused if said == OUT_OF_MEMORY else NoProgram(f"the program ended with status {ran.returncode}: {said}")
-        return b"error " not in ran.stdout
+def answer_of(plan: Plan, named: str | None = None, worst: bool = False) -> Answer:
+    """The answer of a plan, by runs of the program that is named, or of the usual one."""
+    return Fit(plan, program(named), worst).answer()
 
-    def bisected(self, overcommit):
-        """The smallest nr with which all is whole; none where no number will do. The sum of what is asked is tried first: it is often the answer."""
-        low, high = -1, self.scale.frames
-        guess = min(max(self.scale.most - overcommit, 0), high)
-        if self.is_whole(guess, overcommit):
-            high = guess
-            if guess and not self.is_whole(guess - 1, overcommit):
-                low = guess - 1
-        elif self.is_whole(high, overcommit):
-            low = guess
-        else:
-            return None
-        while high - low > 1:
-            middle = (low + high) // 2
-            if self.is_whole(middle, overcommit):
-                high = middle
+
+class Fit:
+    """Runs the program for the pools of a plan, one after another."""
+
+    def __init__(self, plan: Plan, program: str, worst: bool):
+        self.plan, self.program, self.worst = plan, program, worst
+        self.left = [plan.host.room(node) for node in range(len(plan.host.node_bytes))]
+
+    def answer(self) -> Answer:
+        pools = self.plan.pools()
+        asked = [self.bound_of(pool) for pool in pools]
+        made = Answer(self.plan, self.worst, [])
+        for at, pool in enumerate(pools):
+            made.pools.append(self.answered(pool, asked[at], list(zip(pools[at + 1 :], asked[at + 1 :]))))
+        return made
+
+    def runs(self, consumers: Sequence[Consumer], pool: Pool | None = None) -> Runs:
+        return Runs(Question(consumers, pool.mounts if pool else ()), self.program)
+
+    def bound_of(self, pool: Pool) -> Bound:
+        """How many pages must stand on each node, and on several together, by a machine with these alone."""
+        nodes = range(len(self.plan.host.node_bytes))
+        bound = [[one.part(node) for one in pool.consumers if node in one.bound] for node in nodes]
+        sets = sorted({one.among for one in pool.consumers if one.among})
+        return Bound(
+            [self.number(parts) if parts else 0 for parts in bound],
+            {it: self.number([freely(one) for one in pool.consumers if one.among == it]) for it in sets},
+        )
+
+    def number(self, consumers: Sequence[Consumer]) -> int:
+        """The smallest number of pages for programs without mounts."""
+        found = self.runs(consumers).smallest()
+        assert found is not None, "programs without mounts fit into some number of pages"
+        return found
+
+    # ---- a pool
+
+    def answered(self, pool: Pool, asked: Bound, later: list[tuple[Pool, Bound]]) -> PoolAnswer:
+        made = PoolAnswer(pool, self.runs(pool.consumers, pool), self.nodes(pool, asked.alone, later), asked)
+        made.sets = [
+            NodeSet(it, pages, room=sum(made.nodes[node].room for node in it))
+            for it, pages in asked.together.items()
+        ]
+        made.smallest = made.runs.smallest()
+        if made.smallest is not None:
+            made.smallest = max(made.smallest, asked.total())
+            if pool.overcommit is not None:
+                allowed = min(pool.overcommit, made.capacity)
+                found = made.runs.smallest(allowed)
+                made.smallest_with = None if found is None else max(found, asked.total())
+        if self.worst and made.binds:
+            self.find_worst(made)
+        self.choose(made)
+        self.tell(made)
+        if made.binds and made.fits:
+            self.find_hazards(made)
+        for node in made.nodes:
+            self.left[node.number] -= node.nr * pool.page_bytes
+        return made
+
+    def wanted_later(self, pool: Pool, bound: Bound) -> list[int]:
+        """How many bytes of each node what is bound of smaller pages wants."""
+        page = pool.page_bytes
+        room = [max(left // page - alone, 0) for left, alone in zip(self.left, bound.alone)]
+        placement = Placement(bound.together, room)
+        return [page * (alone + placement.share(node)) for node, alone in enumerate(bound.alone)]
+
+    def nodes(self, pool: Pool, asked: list[int], later: list[tuple[Pool, Bound]]) -> list[Node]:
+        """Nodes with the room that larger pages leave, and what is bound of smaller ones where both fit."""
+        made = []
+        wanted = [self.wanted_later(other, bound) for other, bound in later]
+        for number, left in enumerate(self.left):
+            of_later = sum(it[number] for it in wanted)
+            room = max(left - of_later, 0) // pool.page_bytes
+            if room < asked[number]:
+                room = max(left, 0) // pool.page_bytes
+            made.append(Node(number, self.plan.host.node_bytes[number], room, asked[number]))
+        return made
+
+    def choose(self, made: PoolAnswer) -> None:
+        """Whether it fits, and what is set on each node."""
+        pool, nodes = made.pool, made.nodes
+        if pool.nr is not None:
+            set_on = (
+                pool.nr if len(pool.nr) == len(nodes) else spread(sum(pool.nr), [it.room for it in nodes])
+            )
+            for node, pages in zip(nodes, set_on):
+                node.nr = min(pages, node.room)
+            made.at = made.nr = sum(it.nr for it in nodes)
+            made.overcommit = made.at_overcommit = min(pool.overcommit or 0, max(made.capacity - made.nr, 0))
+            self.place(made, [max(it.nr - it.asked, 0) for it in nodes])
+            made.fits = (
+                made.smallest is not None
+                and made.runs.is_whole_with(made.at, made.at_overcommit)
+                and all(it.fits() for it in nodes)
+                and all(it.fits() for it in made.sets)
+            )
+            return
+        wanted = made.smallest
+        if (
+            wanted is not None
+            and made.smallest_with is not None
+            and made.smallest_with < wanted
+            and not self.worst
+        ):
+            wanted, made.overcommit = made.smallest_with, min(
+                pool.overcommit or 0, made.capacity - made.smallest_with
+            )
+        floor = [it.asked if it.worst is None else it.worst for it in nodes]
+        shares = self.place(made, [max(it.room - pages, 0) for it, pages in zip(nodes, floor)])
+        floor = [pages + share for pages, share in zip(floor, shares)]
+        if self.worst:
+            self.raise_for_sets(made, floor)
+        made.fits = (
+            made.smallest is not None
+            and made.smallest <= made.capacity
+            and all(pages <= it.room for pages, it in zip(floor, nodes))
+            and all(it.fits() for it in made.sets)
+        )
+        if not made.fits or wanted is None:
+            made.overcommit = 0
+            for node in nodes:
+                node.nr = node.room
+            made.at = made.nr = made.capacity
+            return
+        rest = spread(
+            max(wanted - sum(floor), 0),
+            [it.room - pages for it, pages in zip(nodes, floor)],
+            self.homes(pool),
+        )
+        for node, pages, more in zip(nodes, floor, rest):
+            node.nr = pages + more
+        made.nr = sum(it.nr for it in nodes)
+        made.at = made.smallest or 0
+
+    @staticmethod
+    def place(made: PoolAnswer, room: list[int]) -> list[int]:
+        """Finds places for what is bound to several nodes, and answers how much of it each node has."""
+        placement = Placement(made.bound.together, room)
+        for it in made.sets:
+            it.placed = placement.placed(it.nodes)
+        return [placement.share(node) for node in range(len(room))]
+
+    @staticmethod
+    def raise_for_sets(made: PoolAnswer, floor: list[int]) -> None:
+        """Sets more on nodes that hold pages together, until no order of touching hurts there."""
+        for it in sorted(made.sets, key=lambda it: len(it.nodes)):
+            missing = max((it.worst or 0) - sum(floor[node] for node in it.nodes), 0)
+            room = [max(made.nodes[node].room - floor[node], 0) for node in it.nodes]
+            for node, more in zip(it.nodes, spread(missing, room)):
+                floor[node] += more
+            it.placed = it.asked if missing <= sum(room) else it.placed
+            if missing > sum(room):
+                it.room = sum(floor[node] for node in it.nodes)
+
+    @staticmethod
+    def homes(pool: Pool) -> dict[int, int]:
+        """The pages that programs would rather have on a node, and are not bound to it."""
+        made: dict[int, int] = {}
+        for one in pool.consumers:
+            if one.home is not None and one.is_free():
+                made[one.home] = made.get(one.home, 0) + one.pages
+        return made
+
+    def tell(self, made: PoolAnswer) -> None:
+        """What each gets: of the whole pool, and on its node."""
+        made.outcomes = made.runs.outcomes(made.at, made.at_overcommit)
+        of_order = {it.order: it for it in made.outcomes if it.order >= 0}
+        for it in made.sets:
+            it.nr = sum(made.nodes[node].nr for node in it.nodes)
+        for node in made.nodes:
+            if not node.fits():
+                parts = [one.part(node.number) for one in made.pool.consumers if node.number in one.bound]
+                self.tell_part(parts, node.nr, f"node {node.number} has", of_order)
+        for it in made.sets:
+            if it.asked > it.placed:
+                parts = [freely(one) for one in made.pool.consumers if one.among == it.nodes]
+                self.tell_part(parts, it.placed, f"{it.name} have", of_order)
+        if made.smallest:
+            less = max(made.smallest - made.runs.scale.unit, 0)
+            made.one_less = [it for it in made.runs.outcomes(less) if it.state is not State.WHOLE]
+
+    def tell_part(self, parts: list[Consumer], pages: int, who: str, of_order: dict[int, Outcome]) -> None:
+        """Who finds no page on nodes that have too few.
+
+        Linux promises of the whole pool: it is the touch that fails.
+        """
+        for part, found in zip(parts, self.runs(parts).outcomes(pages)):
+            row = of_order[part.order]
+            if found.state is State.WHOLE or WORSE.index(row.state) >= WORSE.index(State.KILLED):
+                continue
+            row.line, row.reply, row.got = found.line, found.reply, min(found.got, row.got)
+            on_node = f"{who} too few pages for what is bound to {'it' if who.endswith('has') else 'them'}"
+            if found.state is State.LOST:
+                row.state, row.what = State.LOST, f"{found.what}: {on_node}"
+            elif part.is_touched:
+                row.state, row.what = State.REFUSED, f"does not start: {on_node}"
             else:
-                low = middle
-        return high
+                row.state, row.what = State.KILLED, f"is killed (SIGBUS) at a touch: {on_node}"
 
-    # ---- who gets what
+    # ---- the order of touching
 
-    def outcomes_at(self, nr, overcommit):
-        """What each gets, in the order of starting. Who is refused gives back what it had."""
-        unit, found = self.scale.unit, {}
-        with Session.over_pipe([self.program, "script", *self.script.words()], seconds=SECONDS) as session:
-            session.nr(nr)
-            session.overcommit(overcommit)
-            refused_mounts = set()
-            rows = []
-            for mount, line in zip(self.plan.mounts, self.script.mounts):
-                reply = session.reply(line)[0]
-                if reply != "ok":
-                    refused_mounts.add(mount.slot)
-                if mount.consumer is None and mount.minimum:
-                    row = Outcome(f"mount {mount.name}", "mount", mount.minimum, mount.name)
-                    if reply != "ok":
-                        row.state, row.got, row.what, row.line, row.reply = "refused", 0, "its minimum can't be promised", line, reply
-                    rows.append(row)
-            session.replies(self.script.mounts[len(self.plan.mounts):])
-            for program in self.script.programs:
-                found[program.task] = self.starts(session, program, refused_mounts, unit)
-            running = [program for program in self.script.programs if found[program.task].state == "whole"]
-            for program in running:
-                self.uses(session, program, found[program.task], unit)
-            forked = [program for program in running if program.fork and found[program.task].state == "whole"]
-            for part in ("fork", "rewrites"):
-                for program in forked:
-                    session.replies([one for line in getattr(program, part) for one in expanded(line)])
-            for program in forked:
-                self.reads(session, program, found[program.task], unit)
-        return rows + [found[program.task] for program in self.script.programs]
+    def find_worst(self, made: PoolAnswer) -> None:
+        """The pages of nodes with which what is bound is whole, though all that is not came first."""
+        consumers = made.pool.consumers
+        for node in made.nodes:
+            if node.asked:
+                node.worst = self.number_here(consumers, (node.number,))
+        for it in made.sets:
+            it.worst = self.number_here(consumers, it.nodes)
 
-    def starts(self, session, program, refused_mounts, unit):
-        one = program.one
-        row = Outcome(one.name, one.kind, one.pages, one.mount and one.mount.name)
-        if one.mount and one.mount.slot in refused_mounts:
-            line = self.script.mounts[one.mount.slot - 1]
-            row.state, row.got, row.what, row.line, row.reply = "refused", 0, "its mount's minimum can't be promised", line, "error 2 NoPages"
-            return row
-        lines = [*program.start, *(it for line in program.touches for it in expanded(line))]
-        replies = session.replies(lines)
-        wrong = next((at for at, reply in enumerate(replies) if reply[0].startswith("error ")), None)
-        if wrong is not None:
-            row.line, row.reply = lines[wrong], replies[wrong][0]
-            row.state, row.got = ("small" if one.goes_on else "refused"), 0
-            why = f"mount {one.mount.name} is full" if row.reply == "error 3 MountFull" else "too few pages can be promised"
-            row.what = f"goes on with small pages: {why}" if one.goes_on else f"does not start: {why}"
-            if wrong >= len(program.start):
-                row.what = f"does not start: its touch of page {(wrong - len(program.start)) * unit:,} finds none"
-            session.replies(program.gives_back)
-        return row
+    def number_here(self, consumers: Sequence[Consumer], nodes: Nodes) -> int:
+        """The pages with which these nodes hold all that may come there."""
+        return self.number([*map(freely, takers_of(consumers, nodes)), *parts_of(consumers, nodes)])
 
-    def uses(self, session, program, row, unit):
-        if not program.uses:
-            return
-        lines = [it for line in program.uses for it in expanded(line)]
-        wrong = next(((at, reply[0]) for at, reply in enumerate(session.replies(lines)) if reply[0].startswith("error ")), None)
-        if wrong is None:
-            return
-        row.state, row.got, row.line, row.reply = "killed", wrong[0] * unit, lines[wrong[0]], wrong[1]
-        row.what = f"is killed (SIGBUS): its touch of page {wrong[0] * unit:,} finds none, and nothing was reserved"
-        session.replies(program.gives_back)
+    def find_hazards(self, made: PoolAnswer) -> None:
+        """On each node, or on several together, what programs with room elsewhere may take before."""
+        for node in made.nodes:
+            if node.asked and node.fits():
+                node.hazard = self.hazard(made.pool.consumers, (node.number,), node.nr)
+        for it in made.sets:
+            it.hazard = self.hazard(made.pool.consumers, it.nodes, it.nr)
 
-    def reads(self, session, program, row, unit):
-        """Looks through the child: a page that the owner took back is refused there, and nowhere else."""
-        lines = [it for line in program.reads for it in expanded(line)]
-        wrong = [(line, reply[0]) for line, reply in zip(lines, session.replies(lines)) if reply[0].startswith("error ")]
-        if wrong:
-            row.state, (row.line, row.reply) = "lost", wrong[0]
-            row.what = f"loses its snapshot: {len(wrong) * unit:,} of {len(lines) * unit:,} pages {'was' if len(wrong) * unit == 1 else 'were'} taken back from the child"
+    def hazard(self, consumers: Sequence[Consumer], nodes: Nodes, nr: int) -> Hazard | None:
+        bound = [
+            it
+            for it in consumers
+            if any(node in it.bound for node in nodes) or it.among and set(it.among) <= set(nodes)
+        ]
+        is_late, last = any(it.is_late() for it in bound), max(it.order for it in bound)
+        takers = [it for it in takers_of(consumers, nodes) if is_late or it.order < last]
+        if not takers:
+            return None
+        wanted = self.number([*map(freely, takers), *parts_of(consumers, nodes)])
+        return Hazard(wanted - nr, takers, bound) if wanted > nr else None

@@ -1,302 +1,452 @@
-"""Reads a plan: TOML, with each fault told by its line and key."""
-import difflib
+"""Reads a plan: TOML, with all faults told at once, each by its line and key."""
 import re
-import tomllib
+import sys
+from collections.abc import Callable
+from dataclasses import dataclass, field, fields, replace
+from pathlib import Path
 
-from .sizes import NoSize, in_pages, share_of, size_in_bytes
+from . import java, mysql, postgresql
+from .bound import Nodes
+from .model import MIB, Consumer, Host, Mount, Plan, default_keep, shared_out
+from .sizes import in_pages, size_in_bytes
+from .tables import Faults, PlanFault, Table, tables_of
 
-HEAD = re.compile(r"\s*\[(\[)?\s*([A-Za-z0-9_-]+)\s*\]\]?\s*(?:#.*)?")
-KEY = re.compile(r"\s*[\"']?([A-Za-z0-9_-]+)[\"']?\s*=")
-KINDS = ("postgresql", "guest", "redis", "java", "dpdk", "map")
-OF_ALL = ("name", "count", "node", "pages")
-KEYS = {
-    "host": ("memory", "nodes", "page", "nr", "keep"),
+KINDS = ("postgresql", "guest", "redis", "java", "dpdk", "oracle", "mysql", "map")
+OF_ALL = ("name", "count", "node", "bind", "page", "pages")
+# What goes with server = "mariadb" alone.
+OF_MARIADB = tuple(it.name for it in fields(mysql.Buffers))
+KEYS: dict[str, tuple[str, ...]] = {
+    "host": ("memory", "nodes", "page", "keep", "nr", "present"),
     "overcommit": ("at_most",),
-    "mount": ("name", "size", "minimum"),
-    "postgresql": (*OF_ALL, "shared_memory", "huge_pages"),
-    "guest": (*OF_ALL, "memory", "minimum", "share", "reserve", "prealloc", "used", "mount"),
+    "mount": ("name", "size", "minimum", "page"),
+    "postgresql": (
+        *OF_ALL,
+        "shared_memory",
+        *(it for it in postgresql.SIZES),
+        *postgresql.NUMBERS,
+        "data_directory",
+        "huge_pages",
+    ),
+    "guest": (*OF_ALL, "memory", "node_memory", "minimum", "share", "reserve", "prealloc", "used", "mount"),
     "redis": (*OF_ALL, "memory", "snapshot", "rewritten"),
-    "java": (*OF_ALL, "memory", "heap"),
+    "java": (*OF_ALL, "heap", "memory", "gc", "code_cache", "prealloc"),
     "dpdk": (*OF_ALL, "memory", "socket_memory", "mount"),
-    "map": (*OF_ALL, "memory", "shared", "reserve", "used", "mount"),
+    "oracle": (*OF_ALL, "sga", "prealloc"),
+    "mysql": (*OF_ALL, "buffer_pool", "memory", "server", *OF_MARIADB),
+    "map": (*OF_ALL, "memory", "shared", "reserve", "prealloc", "used", "mount"),
 }
 # by which key each kind tells its size, beside `pages`
-SIZES = {"postgresql": ("shared_memory",), "guest": ("memory",), "redis": ("memory",), "java": ("heap", "memory"), "dpdk": ("memory", "socket_memory"),
-         "map": ("memory",)}
+SIZES = {
+    "postgresql": ("shared_memory", "shared_buffers"),
+    "guest": ("memory", "node_memory"),
+    "redis": ("memory",),
+    "java": ("heap", "memory"),
+    "dpdk": ("memory", "socket_memory"),
+    "oracle": ("sga",),
+    "mysql": ("buffer_pool", "memory"),
+    "map": ("memory",),
+}
+BY_NODE = ("node_memory", "socket_memory")
 MOST_CONSUMERS = 4_096
 MOST_MOUNTS = 63
 
 
-class PlanFault(Exception):
-    """Why a plan can't be read: the file, the line, the key, and what is wrong."""
+def nodes_of(table: Table, nodes: int) -> Nodes:
+    """The nodes that a table names: one, or a list of some; none where it names none."""
+    value = table.values.get("node")
+    if not isinstance(value, list):
+        return (table.number("node", 0, 0, nodes - 1),) if table.has("node") else ()
+    wrong = [it for it in value if isinstance(it, bool) or not isinstance(it, int) or not 0 <= it < nodes]
+    if wrong or not value:
+        what = f"{wrong[0]!r} is no node of this host" if wrong else "the list names no node"
+        table.fault("node", f"{what}: its nodes are 0 to {nodes - 1}")
+        return ()
+    return tuple(sorted(set(value)))
 
 
-class Table:
-    """One table of the file, which knows the lines of its keys."""
-
-    def __init__(self, file, name, values, line, lines):
-        self.file, self.name, self.values, self.line, self.lines = file, name, values, line, lines
-
-    def fault(self, key, what):
-        place = f"{self.file}:{self.lines.get(key, self.line)}" if self.line else self.file
-        return PlanFault(f"{place}: {self.name}{'.' + key if key else ''}: {what}")
-
-    def knows(self, keys):
-        for key in self.values:
-            if key not in keys:
-                near = difflib.get_close_matches(key, keys, 1, 0.6)
-                raise self.fault(key, f"there is no such key; {f'{near[0]} is meant?' if near else 'there are ' + ', '.join(keys)}")
-
-    def of_type(self, key, default, kind, what):
-        value = self.values.get(key, default)
-        if not isinstance(value, kind) or isinstance(value, bool) and kind is not bool:
-            raise self.fault(key, f"{value!r} is not {what}")
-        return value
-
-    def truth(self, key, default):
-        return self.of_type(key, default, bool, "true or false")
-
-    def number(self, key, default, least, most):
-        value = self.of_type(key, default, int, "a whole number")
-        if not least <= value <= most:
-            raise self.fault(key, f"{value:,} is not from {least:,} to {most:,}")
-        return value
-
-    def text(self, key, default, choices=None):
-        value = self.of_type(key, default, str, "a text")
-        if choices and value not in choices:
-            raise self.fault(key, f"{value!r} is not {' or '.join(repr(it) for it in choices)}")
-        return value
-
-    def bytes(self, key, value=None, page_bytes=None):
-        try:
-            return size_in_bytes(self.values[key] if value is None else value, page_bytes)
-        except NoSize as error:
-            raise self.fault(key, str(error)) from None
-
-    def pages_of(self, key, page_bytes, whole=None):
-        """A size in pages; where there is a whole, a percentage of it too."""
-        try:
-            share = share_of(self.values[key], whole) if whole is not None else None
-        except NoSize as error:
-            raise self.fault(key, str(error)) from None
-        pages = in_pages(self.bytes(key, page_bytes=page_bytes), page_bytes) if share is None else share
-        if whole is not None and pages > whole:
-            raise self.fault(key, f"{self.values[key]!r} is more than the whole")
-        return pages
+def server_of(table: Table) -> mysql.Server:
+    """Whose server a table of [[mysql]] is."""
+    return mysql.Server(table.text("server", "mysql", [it.value for it in mysql.Server]))
 
 
-class Host:
-    def __init__(self, table):
-        table.knows(KEYS["host"])
-        self.page_bytes = table.bytes("page") if "page" in table.values else 2 << 20
-        if self.page_bytes < 4096 or self.page_bytes & (self.page_bytes - 1):
-            raise table.fault("page", f"{table.values['page']!r} is no size of a page: it is a power of two, as \"2MiB\" or \"1GiB\"")
-        if ("memory" in table.values) == ("nodes" in table.values):
-            raise table.fault(None, "it has either memory or nodes: memory = \"256GiB\", or nodes = [\"128GiB\", \"128GiB\"]")
-        if "nodes" in table.values:
-            sizes = table.of_type("nodes", None, list, "a list of sizes")
-            if not 1 <= len(sizes) <= 1024:
-                raise table.fault("nodes", f"{len(sizes)} nodes are not from 1 to 1,024")
-            self.node_bytes = [table.bytes("nodes", size) for size in sizes]
-        else:
-            self.node_bytes = [table.bytes("memory")]
-        self.nodes = [size // self.page_bytes for size in self.node_bytes]
-        self.keep = table.pages_of("keep", self.page_bytes) if "keep" in table.values else 0
-        self.pages = sum(self.nodes) - self.keep
-        if self.pages <= 0:
-            raise table.fault("keep" if self.keep else None, f"no page of {self.page_bytes:,} bytes is left of its memory")
-        self.nr = table.number("nr", None, 0, 1 << 40) if "nr" in table.values else None
+def page_of(table: Table, default: int) -> int:
+    """The size of page that a table names."""
+    size = table.bytes("page", default)
+    if size < 4096 or size & (size - 1):
+        table.fault(
+            "page",
+            f"{table.values['page']!r} is no size of a page: it is a power of two, as \"2MiB\" or \"1GiB\"",
+        )
+        return default
+    return size
 
 
-class Mount:
-    """A mount that the plan names, or one that a guest has for itself."""
+@dataclass
+class Reader:
+    """Reads the tables one after another."""
 
-    def __init__(self, name, size, minimum, consumer=None):
-        self.name, self.size, self.minimum, self.consumer, self.slot = name, size, minimum, consumer, None
+    file: str
+    text: str
+    faults: Faults = field(init=False)
+    plan: Plan = field(init=False)
 
+    def __post_init__(self) -> None:
+        self.faults = Faults(self.file)
 
-class Consumer:
-    """One program of the plan: its maps, and what it does with them."""
-
-    def __init__(self, table, kind, name, pages, node):
-        self.table, self.kind, self.name, self.pages, self.node = table, kind, name, pages, node
-        self.is_file, self.is_shared, self.has_reserve, self.is_touched = False, True, True, False
-        self.used, self.rewritten, self.mount, self.goes_on = pages, None, None, False
-
-
-class Plan:
-    """What was read: the host, mounts, consumers in the order of starting, and the overcommit allowed."""
-
-    def __init__(self, file, text):
-        self.file = file
-        try:
-            values = tomllib.loads(text)
-        except tomllib.TOMLDecodeError as error:
-            found = re.search(r" \(at line (\d+), column (\d+)\)", str(error))
-            line = found[1] if found else text.count("\n") + 1
-            raise PlanFault(f"{file}:{line}: {str(error).replace(found[0], '') if found else error}") from None
-        self.host, self.overcommit, self.mounts, self.consumers, self.remarks = None, None, [], [], []
-        tables = list(self.tables(values, text))
-        self.take_host(tables)
+    def read(self) -> Plan:
+        tables = tables_of(self.faults, self.text, KEYS, {"mount", *KINDS})
+        self.plan = Plan(self.file, self.host(tables), [], [])
         for table in tables:
+            if table.name == "overcommit":
+                self.take_overcommit(table)
             if table.name == "mount":
                 self.take_mount(table)
         for table in tables:
             if table.name in KINDS:
                 self.take_consumers(table)
-        if not self.consumers:
-            raise PlanFault(f"{file}: it has no program to start: add [[postgresql]], [[guest]], [[redis]], [[java]], [[dpdk]] or [[map]]")
-        asked = sum(1 + (it.rewritten is not None) for it in self.consumers)
+        if not any(table.name in KINDS for table in tables):
+            kinds = ", ".join(f"[[{it}]]" for it in KINDS[:-1])
+            self.faults.add(0, "", f"it has no program to start: add {kinds} or [[{KINDS[-1]}]]")
+        asked = sum(1 + (it.rewritten is not None) for it in self.plan.consumers)
         if asked > MOST_CONSUMERS:
-            raise PlanFault(f"{file}: {asked:,} programs and snapshots are too many for one plan: at most {MOST_CONSUMERS:,}")
-        self.share_mounts()
+            self.faults.add(
+                0,
+                "",
+                f"{asked:,} programs and snapshots are too many for one plan: at most {MOST_CONSUMERS:,}",
+            )
+        named = sum(not it.is_own for it in self.plan.mounts)
+        if named > MOST_MOUNTS - 5:
+            self.faults.add(0, "", f"{named} mounts are too many for one plan: at most {MOST_MOUNTS - 5}")
+        self.faults.end()
+        return self.plan
 
-    def tables(self, values, text):
-        """The tables in their order in the file, each with the lines of its keys."""
-        heads, current = [], None
-        for at, line in enumerate(text.splitlines(), 1):
-            if found := HEAD.fullmatch(line):
-                current = (found[2], at, {})
-                heads.append(current)
-            elif current and (found := KEY.match(line)):
-                current[2].setdefault(found[1], at)
-        known, several = [*KEYS], {"mount", *KINDS}
-        listed = []
-        for name, value in values.items():
-            line = next((at for head, at, _ in heads if head == name), None)
-            if name not in known:
-                near = difflib.get_close_matches(name, known, 1, 0.6)
-                place = f"{self.file}:{line}" if line else self.file
-                raise PlanFault(f"{place}: {name}: there is no such kind; {f'{near[0]} is meant?' if near else 'there are ' + ', '.join(known)}")
-            ones = value if isinstance(value, list) and name in several else [value]
-            if not all(isinstance(one, dict) for one in ones):
-                raise PlanFault(f"{self.file}:{line or 1}: {name}: it is a table: write [{name}]" if name not in several else
-                                f"{self.file}:{line or 1}: {name}: each is a table: write [[{name}]]")
-            of_name = [head for head in heads if head[0] == name]
-            of_name += [(name, line or 0, {})] * (len(ones) - len(of_name))
-            listed += [Table(self.file, name, one, at, lines) for one, (_, at, lines) in zip(ones, of_name)]
-        return sorted(listed, key=lambda table: table.line)
+    # ---- the host
 
-    def take_host(self, tables):
-        by_name = {table.name: table for table in tables}
-        if "host" not in by_name:
-            raise PlanFault(f"{self.file}: it has no [host]: add it, with memory = \"256GiB\"")
-        self.host = Host(by_name["host"])
-        if table := by_name.get("overcommit"):
-            table.knows(KEYS["overcommit"])
-            if "at_most" not in table.values:
-                raise table.fault(None, "it tells how much memory surplus pages may take: at_most = \"8GiB\"")
-            if self.host.page_bytes >= 1 << 30:
-                raise table.fault("at_most", "Linux makes no surplus pages of 1 GiB and more")
-            self.overcommit = table.pages_of("at_most", self.host.page_bytes)
+    def host(self, tables: list[Table]) -> Host:
+        found = next((it for it in tables if it.name == "host"), None)
+        if found is None:
+            self.faults.add(0, "", 'it has no [host]: add it, with memory = "256GiB"')
+            return Host([1 << 50], [0], 2 * MIB)
+        table = found
+        table.knows(KEYS["host"])
+        page = page_of(table, 2 * MIB)
+        if table.has("memory") == table.has("nodes"):
+            table.fault(
+                None, 'it has either memory or nodes: memory = "256GiB", or nodes = ["128GiB", "128GiB"]'
+            )
+            return Host([1 << 50], [0], page)
+        sizes = table.sizes("nodes") if table.has("nodes") else [table.bytes("memory", 1 << 50)]
+        if table.has("nodes") and not 1 <= len(sizes) <= 1024:
+            if isinstance(table.values["nodes"], list) and len(table.values["nodes"]) == len(sizes):
+                table.fault("nodes", f"{len(sizes)} nodes are not from 1 to 1,024")
+            return Host(
+                [1 << 50] * (len(table.values["nodes"]) if isinstance(table.values["nodes"], list) else 1024),
+                [0] * 1024,
+                page,
+            )
+        host = Host(sizes, self.keep(table, sizes, page), page, not table.has("keep"))
+        if sum(host.capacity()) <= 0:
+            table.fault(
+                "keep" if table.has("keep") else None, f"no page of {page:,} bytes is left of its memory"
+            )
+        host.nr, host.present = table.counts("nr", len(sizes)), table.counts("present", len(sizes))
+        capacity = host.capacity()
+        if host.nr and (
+            sum(host.nr) > sum(capacity) or len(host.nr) > 1 and any(map(int.__gt__, host.nr, capacity))
+        ):
+            most = f"{capacity} on its nodes" if len(host.nr) > 1 else f"{sum(capacity):,}"
+            table.fault(
+                "nr",
+                f"it is more pages than the host can have: {most}, with {sum(host.keep) / MIB:,.0f} MiB "
+                "kept for what takes no huge pages",
+            )
+        return host
 
-    def take_mount(self, table):
-        table.knows(KEYS["mount"])
-        name = table.text("name", "")
-        if not re.fullmatch(r"[A-Za-z0-9_.-]{1,64}", name):
-            raise table.fault("name", "a mount has a name, of letters, digits, dots and dashes, by which others say mount = \"NAME\"")
-        if any(it.name == name for it in self.mounts):
-            raise table.fault("name", f"there are two mounts {name!r}")
-        size = table.pages_of("size", self.host.page_bytes) if "size" in table.values else None
-        minimum = table.pages_of("minimum", self.host.page_bytes) if "minimum" in table.values else 0
-        if size is not None and minimum > size:
-            raise table.fault("minimum", "it is more than the mount's size")
-        self.mounts.append(Mount(name, size, minimum))
+    @staticmethod
+    def keep(table: Table, sizes: list[int], page: int) -> list[int]:
+        if not table.has("keep"):
+            return shared_out(default_keep(sum(sizes)), sizes)
+        if isinstance(table.values["keep"], list):
+            kept = table.sizes("keep", page)
+            if len(kept) != len(sizes):
+                table.fault("keep", f"it has {len(kept)} sizes, and there are {len(sizes)} nodes")
+                return [0] * len(sizes)
+            return kept
+        return shared_out(table.pages("keep", 0, page) * page, sizes)
 
-    def take_consumers(self, table):
-        kind, page = table.name, self.host.page_bytes
-        table.knows(KEYS[kind])
-        given = [key for key in (*SIZES[kind], "pages") if key in table.values]
-        if len(given) != 1:
-            wanted = " or ".join([*SIZES[kind], "pages"])
-            raise table.fault(None, f"it tells its size by {'one of ' if given else ''}{wanted}{': there are ' + ' and '.join(given) if given else ''}")
-        if given == ["pages"]:
-            sizes = [table.number("pages", None, 1, 1 << 40)]
-        elif given == ["socket_memory"]:
-            listed = table.of_type("socket_memory", None, list, "a list of sizes, one for each node")
-            sizes = [in_pages(table.bytes("socket_memory", size), page) for size in listed]
+    def take_overcommit(self, table: Table) -> None:
+        table.knows(KEYS["overcommit"])
+        page = self.plan.host.page_bytes
+        if not table.has("at_most"):
+            table.fault(None, 'it tells how much memory surplus pages may take: at_most = "8GiB"')
+        elif page >= 1 << 30:
+            table.fault("at_most", "Linux makes no surplus pages of 1 GiB and more: leave [overcommit] out")
         else:
-            sizes = [table.pages_of(given[0], page)]
-        if sum(sizes) < 1:
-            raise table.fault(given[0], "it asks for no page")
-        count = table.number("count", 1, 1, MOST_CONSUMERS)
-        node = table.number("node", 0, 0, len(self.host.nodes) - 1)
-        name = table.text("name", kind)
-        mount = table.text("mount", "") if "mount" in table.values else None
-        found = next((it for it in self.mounts if it.name == mount), None)
-        if mount is not None and found is None:
-            raise table.fault("mount", f"there is no [[mount]] with name = {mount!r}")
+            # (at most: half a page is none)
+            size = table.tried("at_most", 0, lambda: size_in_bytes(table.values["at_most"], page))
+            self.plan.overcommit = size // page
+            most = sum(self.plan.host.capacity())
+            if self.plan.overcommit > most:
+                self.plan.remarks.append(
+                    f"the overcommit of {self.plan.overcommit:,} pages is more than the host can have: "
+                    f"{most:,} are counted"
+                )
+                self.plan.overcommit = most
+
+    def take_mount(self, table: Table) -> None:
+        table.knows(KEYS["mount"])
+        name, page = table.text("name", ""), page_of(table, self.plan.host.page_bytes)
+        if not re.fullmatch(r"[A-Za-z0-9_.-]{1,64}", name) or set(name) == {"."}:
+            table.fault(
+                "name", 'it is no name of a mount: write letters, digits, dots and dashes, as name = "guests"'
+            )
+        if any(it.name == name for it in self.plan.mounts):
+            table.fault("name", f"two mounts have the name {name!r}: rename one")
+        size = table.pages("size", 0, page) if table.has("size") else None
+        minimum = table.pages("minimum", 0, page)
+        if size is not None and minimum > size:
+            table.fault("minimum", "the minimum is more than the size: make it smaller, or the size larger")
+        self.plan.mounts.append(Mount(name, page, size, minimum))
+
+    # ---- the programs
+
+    def take_consumers(self, table: Table) -> None:
+        kind, nodes = table.name, len(self.plan.host.node_bytes)
+        table.knows(KEYS[kind])
+        page = page_of(table, self.plan.host.page_bytes)
+        mount = self.mount_of(table)
+        if mount and not table.has("page"):
+            page = mount.page_bytes
+        first = Consumer(kind, "", page, 1, mount=mount)
+        given = self.sizes_of(table, first)
+        self.bind(table, first, given, nodes_of(table, nodes))
+        first.used = first.pages
+        if mount and mount.page_bytes != page:
+            table.fault("page", f"its mount {mount.name!r} has pages of {mount.page_bytes:,} bytes")
+        self.takes()[kind](table, first)
+        count, name = table.number("count", 1, 1, MOST_CONSUMERS), table.text("name", kind)
+        has_minimum = kind == "guest" and table.truth("minimum", False)
         for number in range(1, count + 1):
-            one = Consumer(table, kind, f"{name} {number}" if count > 1 else name, sum(sizes), node)
-            one.mount = found
-            getattr(self, f"is_{kind}")(one)
-            self.consumers.append(one)
+            numbered = f"{name} {number}" if count > 1 else name
+            one = replace(first, name=numbered, order=len(self.plan.consumers))
+            if has_minimum and mount is None:
+                one.mount = Mount(one.name, page, one.pages, one.pages, True)
+                self.plan.mounts.append(one.mount)
+            self.plan.consumers.append(one)
+
+    def mount_of(self, table: Table) -> Mount | None:
+        if not table.has("mount"):
+            return None
+        name = table.text("mount", "")
+        found = next((it for it in self.plan.mounts if it.name == name and not it.is_own), None)
+        if found is None:
+            table.fault("mount", f"the plan has no mount {name!r}: add [[mount]] with name = {name!r}")
+        return found
+
+    def sizes_of(self, table: Table, one: Consumer) -> str | None:
+        """Reads how much it asks for, and answers by which key."""
+        keys = (*SIZES[table.name], "pages")
+        given = [key for key in keys if table.has(key)]
+        if len(given) != 1:
+            wanted = " or ".join(keys)
+            several = f"it has several sizes, {' and '.join(given)}: leave all but one out"
+            table.fault(None, several if given else f"it has no size: write {wanted}")
+            return None
+        key, page = given[0], one.page_bytes
+        if key == "pages":
+            one.pages = table.number("pages", 1, 1, 1 << 40)
+        elif key in BY_NODE:
+            self.take_sizes_by_node(table, key, one)
+        elif key == "shared_buffers":
+            one.pages = self.pages_of_postgresql(table, page)
+        elif key == "heap":
+            collector = java.Collector(table.text("gc", "g1", [it.value for it in java.Collector]))
+            one.pages = java.pages_of(
+                table.bytes("heap", page), collector, table.bytes("code_cache", java.CODE_CACHE), page
+            )
+        elif key == "buffer_pool":
+            one.pages = self.pages_of_mysql(table, page)
+        else:
+            one.pages = table.pages(key, 1, page)
+        if one.pages < 1 or key in ("heap", "buffer_pool", "shared_buffers") and table.values[key] == 0:
+            table.fault(key, "it asks for no page: write a size above 0")
+            one.pages = 1
+        return key
+
+    def take_sizes_by_node(self, table: Table, key: str, one: Consumer) -> None:
+        nodes = len(self.plan.host.node_bytes)
+        sizes = [in_pages(it, one.page_bytes) for it in table.sizes(key, one.page_bytes)]
+        if len(sizes) > nodes and any(sizes[nodes:]):
+            table.fault(
+                key,
+                f"it has {len(sizes)} sizes, and there {'is 1 node' if nodes == 1 else f'are {nodes} nodes'}",
+            )
+            sizes = []
+        one.pages = sum(sizes)
+        one.bound = {node: pages for node, pages in enumerate(sizes) if pages}
+
+    def pages_of_postgresql(self, table: Table, page: int) -> int:
+        values = {key: table.bytes(key) for key in postgresql.SIZES if table.has(key)}
+        values |= {key: table.number(key, 1, 0, 1 << 24) for key in postgresql.NUMBERS if table.has(key)}
+        settings = postgresql.Settings(**values)
+        where = table.text("data_directory", "") if table.has("data_directory") else None
+        name = table.text("name", "postgresql")
+        pages = postgresql.by_itself(settings, page, where) if not self.faults.found else None
+        if pages is not None:
+            self.plan.remarks.append(
+                f"{name}: the pages are what the PostgreSQL that is installed here answers"
+            )
+            return pages
+        self.plan.remarks.append(
+            f"{name}: the pages are a formula's, a little above what PostgreSQL 15 asks for; "
+            "`postgres -C shared_memory_size_in_huge_pages` tells yours"
+        )
+        return in_pages(postgresql.by_formula(settings), page)
+
+    def pages_of_mysql(self, table: Table, page: int) -> int:
+        """The pages of a pool of buffers, with a remark that tells what is counted beside it."""
+        pool, name = table.bytes("buffer_pool", page), table.text("name", "mysql")
+        if server_of(table) is mysql.Server.MYSQL:
+            self.plan.remarks.append(
+                f"{name}: 4 MiB are counted beside each chunk of 128 MiB, 512 bytes for a page of 16 KiB. "
+                "This was not checked against MySQL, which Debian does not have"
+            )
+            return mysql.pages_of_mysql(pool, page)
+        buffers = mysql.Buffers(**{key: table.bytes(key, page) for key in OF_MARIADB if table.has(key)})
+        self.plan.remarks.append(
+            f"{name}: the pool, the key buffer and the Aria buffer are counted, and the log buffer twice: a "
+            "little more than MariaDB 10.11 asks for"
+        )
+        return mysql.pages_of_mariadb(pool, buffers, page)
+
+    def bind(self, table: Table, one: Consumer, given: str | None, nodes: Nodes) -> None:
+        """Whether its pages must stand on the nodes that it names."""
+        binds = table.truth("bind", table.name == "guest" and table.has("node"))
+        one.home = nodes[0] if len(nodes) == 1 else None
+        if given in BY_NODE:
+            if table.has("node") or table.has("bind"):
+                table.fault(
+                    "node" if table.has("node") else "bind",
+                    f"{given} names the nodes already: leave this out",
+                )
+        elif binds and not table.has("node"):
+            table.fault("bind", "bind = true wants a node: add node = 0")
+        elif binds and one.home is not None:
+            one.bound = {one.home: one.pages}
+        elif binds:
+            one.among = nodes
+        elif len(nodes) > 1 and not table.has("bind"):
+            table.fault("node", "several nodes go with bind = true: its pages stand on them together")
+        if all(
+            node in (*one.bound, *one.among) for node, size in enumerate(self.plan.host.node_bytes) if size
+        ):
+            # (all nodes are the whole; sizes for each node are not)
+            one.among = ()
+            one.bound = one.bound if given in BY_NODE else {}
+        if len(self.plan.host.node_bytes) == 1:
+            one.bound = {}
 
     # ---- what each kind does
 
-    def is_postgresql(self, one):
-        one.goes_on = one.table.text("huge_pages", "try", ("on", "try")) == "try"
+    def takes(self) -> dict[str, Callable[[Table, Consumer], None]]:
+        """For each kind what reads its own keys."""
+        return {
+            "postgresql": self.take_postgresql,
+            "guest": self.take_guest,
+            "redis": self.take_redis,
+            "java": self.take_java,
+            "dpdk": self.take_dpdk,
+            "oracle": self.take_oracle,
+            "mysql": self.take_mysql,
+            "map": self.take_map,
+        }
 
-    def is_guest(self, one):
-        table = one.table
+    @staticmethod
+    def take_used(table: Table, one: Consumer) -> None:
+        if table.has("used") and one.has_reserve:
+            table.fault(
+                "used",
+                "what is reserved counts whole, whatever is used of it: add reserve = false, or leave "
+                "`used` out",
+            )
+        elif table.has("used"):
+            one.used = table.pages("used", one.pages, one.page_bytes, one.pages)
+            if len(one.bound) > 1:
+                table.fault("used", "it can't stand beside node_memory: write a table for each node")
+
+    def take_postgresql(self, table: Table, one: Consumer) -> None:
+        one.goes_on = table.text("huge_pages", "try", ("on", "try")) == "try"
+        if not table.has("shared_buffers"):
+            for key in (*postgresql.SIZES[1:], *postgresql.NUMBERS, "data_directory"):
+                if table.has(key):
+                    table.fault(key, "it goes with shared_buffers: add it, or leave this out")
+
+    def take_guest(self, table: Table, one: Consumer) -> None:
         one.is_file, one.is_shared = True, table.truth("share", True)
         one.has_reserve, one.is_touched = table.truth("reserve", True), table.truth("prealloc", False)
-        one.used = table.pages_of("used", self.host.page_bytes, one.pages) if "used" in table.values else one.pages
-        if table.truth("minimum", False):
-            if one.mount:
-                raise table.fault("minimum", f"its mount {one.mount.name!r} has a minimum of its own, or none")
-            one.mount = Mount(one.name, one.pages, one.pages, one)
-            self.mounts.append(one.mount)
+        self.take_used(table, one)
+        if one.mount and table.truth("minimum", False):
+            table.fault("minimum", f"its mount {one.mount.name!r} has a minimum of its own, or none")
 
-    def is_redis(self, one):
-        table = one.table
+    def take_redis(self, table: Table, one: Consumer) -> None:
         one.is_shared, one.is_touched, one.goes_on = False, True, True
-        if "rewritten" in table.values and not table.truth("snapshot", False):
-            raise table.fault("rewritten", "it tells of a snapshot, and there is none: add snapshot = true")
-        if table.truth("snapshot", False):
-            one.rewritten = table.pages_of("rewritten", self.host.page_bytes, one.pages) if "rewritten" in table.values else one.pages
+        if table.has("rewritten") and not table.truth("snapshot", False):
+            table.fault("rewritten", "it belongs to a snapshot, and the plan has none: add snapshot = true")
+        elif table.truth("snapshot", False):
+            one.rewritten = table.pages("rewritten", one.pages, one.page_bytes, one.pages)
 
-    def is_java(self, one):
-        one.is_shared, one.goes_on = False, True
+    def take_java(self, table: Table, one: Consumer) -> None:
+        one.is_shared, one.goes_on, one.is_touched = False, True, table.truth("prealloc", False)
+        if not table.has("heap"):
+            for key in ("gc", "code_cache"):
+                if table.has(key):
+                    table.fault(key, "it goes with heap: add it, or leave this out")
 
-    def is_dpdk(self, one):
+    def take_dpdk(self, _: Table, one: Consumer) -> None:
         one.is_file, one.is_touched = True, True
 
-    def is_map(self, one):
-        table = one.table
-        one.is_file, one.is_shared, one.has_reserve = one.mount is not None, table.truth("shared", True), table.truth("reserve", True)
-        one.used = table.pages_of("used", self.host.page_bytes, one.pages) if "used" in table.values else one.pages
+    def take_oracle(self, table: Table, one: Consumer) -> None:
+        one.goes_on, one.is_touched = False, table.truth("prealloc", True)
 
-    # ---- mounts
+    def take_mysql(self, table: Table, one: Consumer) -> None:
+        one.goes_on = True
+        is_mariadb = server_of(table) is mysql.Server.MARIADB
+        # (MariaDB maps its memory for itself, and touches it at once)
+        one.is_shared, one.is_touched = not is_mariadb, is_mariadb
+        for key in (*OF_MARIADB, "server"):
+            if table.has(key) and not table.has("buffer_pool"):
+                table.fault(key, "it goes with buffer_pool: add it, or leave this out")
+            elif table.has(key) and key in OF_MARIADB and not is_mariadb:
+                table.fault(key, 'it goes with server = "mariadb": add that, or leave this out')
 
-    def share_mounts(self):
-        """Where there would be more mounts than slots, the guests of one table share one, as libvirt does it."""
-        if len(self.mounts) <= MOST_MOUNTS:
-            return
-        named, of_table = [it for it in self.mounts if it.consumer is None], {}
-        for one in self.consumers:
-            if one.mount and one.mount.consumer is one:
-                of_table.setdefault(id(one.table), []).append(one)
-        for guests in of_table.values():
-            pages = sum(it.pages for it in guests)
-            shared = Mount(guests[0].table.text("name", guests[0].kind), pages, pages, guests[0])
-            named.append(shared)
-            for guest in guests:
-                guest.mount = shared
-        self.mounts = named
-        self.remarks.append(f"the guests of one table share a mount here, since there are more than {MOST_MOUNTS} mounts otherwise")
-        if len(named) > MOST_MOUNTS:
-            raise PlanFault(f"{self.file}: {len(named)} mounts are too many for one plan: at most {MOST_MOUNTS}")
+    def take_map(self, table: Table, one: Consumer) -> None:
+        one.is_file, one.is_shared, one.has_reserve = (
+            one.mount is not None,
+            table.truth("shared", True),
+            table.truth("reserve", True),
+        )
+        one.is_touched = table.truth("prealloc", False)
+        self.take_used(table, one)
 
 
-def read_plan(path):
-    """The plan in a file."""
+def plan_of(file: str, text: str) -> Plan:
+    """The plan that a text tells."""
+    return Reader(file, text).read()
+
+
+def text_of(path: Path) -> tuple[str, str]:
+    """The name and the text of a file; `-` is standard input."""
+    name = "standard input" if str(path) == "-" else str(path)
     try:
-        data = path.read_bytes()
+        data = sys.stdin.buffer.read() if str(path) == "-" else path.read_bytes()
     except OSError as error:
-        raise PlanFault(f"{path}: {error.strerror}") from None
+        raise PlanFault(f"{name}: {error.strerror}") from None
     try:
-        return Plan(str(path), data.decode())
+        return name, data.decode()
     except UnicodeDecodeError as error:
-        raise PlanFault(f"{path}:{data[:error.start].count(10) + 1}: it is not UTF-8") from None
+        raise PlanFault(f"{name}:{data[:error.start].count(10) + 1}: it is not UTF-8") from None
+
+
+def read_plan(path: Path) -> Plan:
+    """The plan in a file."""
+    return plan_of(*text_of(path))

@@ -1,4 +1,7 @@
-"""Which program is started: one that was named, the one beside the tool, or in the repository the one that ./run would start."""
+"""Which program is started.
+
+One that was named, the one beside the tool, or in the repository the one that ./run would start.
+"""
 import os
 import re
 import subprocess
@@ -10,21 +13,26 @@ class NoProgram(Exception):
     """No program was found."""
 
 
-def tool():
+def tool() -> Path:
     """The file that was started, or the folder of the package's folder."""
     here = Path(__file__).resolve()
     return next((it for it in here.parents if it.is_file()), here.parents[1])
 
 
-def of_repository(top):
-    """The program that ./run would start, built where none stands; its word about proof goes to standard error."""
-    ran = subprocess.run([top / ".ci/choose", "hugetlbctl"], stdin=subprocess.DEVNULL, stdout=subprocess.PIPE, text=True)
+def of_repository(top: Path) -> str:
+    """The program that ./run would start, built where none stands.
+
+    Its word about proof goes to standard error.
+    """
+    ran = subprocess.run(
+        [top / ".ci/choose", "hugetlbctl"], stdin=subprocess.DEVNULL, stdout=subprocess.PIPE, text=True
+    )
     if ran.returncode:
-        raise NoProgram("no program was built: ./run says why")
+        raise NoProgram("the program could not be built: ./run tells why")
     return ran.stdout.strip()
 
 
-def program(named=None):
+def program(named: str | None = None) -> str:
     if named := named or os.environ.get("HUGETLBD"):
         return named
     here = tool()
@@ -35,14 +43,24 @@ def program(named=None):
         return of_repository(here.parent)
     if found := which("hugetlbd"):
         return found
-    raise NoProgram("no program hugetlbd was found beside this tool or on the PATH: --program names one")
+    raise NoProgram("no program hugetlbd stands beside this tool or on the PATH: name one with --program")
 
 
-def version():
+def version() -> str:
     """The version: as it was when the tool was packed, else as the program's sources say."""
     try:
-        from ._version import VERSION
+        from ._version import VERSION  # type: ignore[import]
     except ImportError:
         source = Path(__file__).resolve().parents[2] / "crates/hp_words/src/config.rt"
-        return re.search(r'"hugetlbd ([^"\\]+)\\n"', source.read_text())[1] if source.exists() else "of no version"
-    return VERSION
+        found = re.search(r'"hugetlbd ([^"\\]+)\\n"', source.read_text()) if source.exists() else None
+        return found[1] if found else "of no version"
+    return str(VERSION)
+
+
+def proof() -> str:
+    """What a package says of its program: nothing where it is proved, or where no package was made."""
+    try:
+        from ._version import PROVED
+    except ImportError:
+        return ""
+    return "" if PROVED else " (its hugetlbd was built with no proofs)"

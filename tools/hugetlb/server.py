@@ -6,11 +6,12 @@ import time
 from hugetlb_session import Ended, Session
 
 
-def ends(port, within, pid=None):
-    """Opens and closes one session after another until the server takes no more: it has then had its number, and ends once the others do.
+def ends(port: int, within: float, pid: int | None = None) -> bool:
+    """Opens and closes one session after another until the server takes no more: it has then had its number.
 
-    Where that has not come after so many seconds, since its workers all have sessions that stay open, the process is sent SIGTERM if its number
-    was given. Answers whether the server ended by itself.
+    It ends once the others do. Where that has not come after so many seconds, since its workers all have
+    sessions that stay open, the process is sent SIGTERM if its number was given. Answers whether the server
+    ended by itself.
     """
     tries, count, until = 0, 0, time.monotonic() + within
     while (left := until - time.monotonic()) > 0:
