@@ -590,6 +590,15 @@ def check_tool(outputs: Outputs) -> None:
         assert (status, output, faults) == (0 if outputs.json["fits"] else 1, text, "")
 
 
+# Plans of which an answer was wrong once, with what was wrong.
+FOUND = {648: "the overcommit beside the smallest number with it was more than the host has"}
+
+
+@pytest.mark.parametrize("seed", FOUND, ids=FOUND.get)
+def test_a_plan_that_was_answered_wrongly(tmp_path: Path, seed: int) -> None:
+    check(tmp_path, seed)
+
+
 @pytest.mark.parametrize("part", range(4))
 def test_plans_against_another_computation(tmp_path: Path, part: int) -> None:
     for seed in range(FIRST + part, FIRST + PLANS, 4):

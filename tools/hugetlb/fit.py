@@ -88,6 +88,11 @@ class PoolAnswer:
         return sum(it.room for it in self.nodes)
 
     @property
+    def allowed(self) -> int | None:
+        """The surplus pages that the plan allows, where it allows any, and that the memory has room for."""
+        return None if self.pool.overcommit is None else min(self.pool.overcommit, self.capacity)
+
+    @property
     def binds(self) -> bool:
         """Whether anything is bound to nodes."""
         return self.bound.total() > 0
@@ -179,9 +184,8 @@ class Fit:
         made.smallest = made.runs.smallest()
         if made.smallest is not None:
             made.smallest = max(made.smallest, asked.total())
-            if pool.overcommit is not None:
-                allowed = min(pool.overcommit, made.capacity)
-                found = made.runs.smallest(allowed)
+            if made.allowed is not None:
+                found = made.runs.smallest(made.allowed)
                 made.smallest_with = None if found is None else max(found, asked.total())
         if self.worst and made.binds:
             self.find_worst(made)

@@ -144,11 +144,10 @@ class PoolReport:
             )
         ]
         if of.smallest_with is not None:
-            allowed = min(of.pool.overcommit or 0, of.capacity)
             said.append(
                 (
                     f"nr {of.smallest_with:,}",
-                    f"the smallest with the overcommit that is allowed, {allowed:,} pages: "
+                    f"the smallest with the overcommit that is allowed, {of.allowed or 0:,} pages: "
                     f"{self.size(of.smallest_with)}",
                 )
             )
@@ -319,7 +318,7 @@ class PoolReport:
             "host_pages": of.capacity,
             "nr": of.smallest,
             "nr_with_overcommit": of.smallest_with,
-            "overcommit": of.pool.overcommit,
+            "overcommit": of.allowed,
             "unit_pages": of.runs.scale.unit,
             "is_exact": of.runs.scale.is_exact,
             "set": {"nr": of.nr, "overcommit": of.overcommit},
