@@ -155,8 +155,13 @@ def test_promtool_reads_the_counts() -> None:
 
 @contextmanager
 def exporter(port):
-    """An exporter of the server at this port, as a process, and the port where it is asked."""
-    words = [sys.executable, TOOL, "--port", str(port), "--prometheus", "--listen", "0"]
+    """An exporter of the server at this port, as a process, and the port where it is asked.
+
+    It closes each session itself: Python warns of a connection that is dropped, and at the end nothing was
+    said.
+    """
+    warns = [sys.executable, "-W", "always::ResourceWarning"]
+    words = [*warns, TOOL, "--port", str(port), "--prometheus", "--listen", "0"]
     with subprocess.Popen(words, stdout=subprocess.PIPE, stderr=subprocess.PIPE, text=True) as process:
         try:
             line = process.stdout.readline()
