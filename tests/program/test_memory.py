@@ -375,14 +375,97 @@ def test_moves_no_room_that_nothing_was_written_to(run: Run) -> None:
     assert faults_of(run, [*few, *(10 * turn)]) - faults_of(run, few) < 150
 
 
-@pytest.mark.parametrize("made", ["map 1 0 h 0 {0} shared noreserve", "map 1 0 h 0 {0} private noreserve"])
-def test_asks_seldom_for_room_of_pages_that_come_one_by_one(held: Held, made: str) -> None:
-    """Room grows by a part of what there is: four times the faults ask for memory a few times more."""
+@dataclass(frozen=True)
+class Growing:
+    """Lines before, and a line or more for each of N.
 
-    def calls(pages: int) -> int:
-        start = ["nr 65536", "connect 1 0", "create 0 h", made.format(pages)]
-        faults = [f"fault 1 0 1 {at} write" for at in range(pages)]
-        return held([*start, *faults], ["--frames", "65536"]).calls
+    Each of N makes so many calls for memory of its own, and all of them together may leave tables of so many
+    bytes.
+    """
 
-    few, many, more = calls(4096), calls(8192), calls(16384)
-    assert many - few < 150 and more - many < 300, (few, many, more)
+    start: list[str]
+    each: Callable[[int], list[str]]
+    size: int
+    own: int = 0
+    tables: int = 1024
+
+    def lines(self, count: int) -> list[str]:
+        return [*self.start, *(line for at in range(count) for line in self.each(at))]
+
+
+def of_a_map(made: str) -> Growing:
+    start = ["nr 65536", "connect 1 0", "create 0 h", made]
+    return Growing(start, lambda at: [f"fault 1 0 1 {at} write"], 16_384)
+
+
+ONE_BY_ONE = {
+    "pages of holes": of_a_map("map 1 0 h 0 65536 shared noreserve"),
+    "copies of holes": of_a_map("map 1 0 h 0 65536 private noreserve"),
+    "pages of a reserved map": of_a_map("map 1 0 h 0 65536 shared"),
+    "pages that are preallocated": Growing(
+        ["nr 65536", "create 0 h"], lambda at: [f"preallocate 0 h {at} {at + 1}"], 16_384, 1
+    ),
+    "maps of a file": Growing(
+        ["connect 1 0", "create 0 h"], lambda at: ["map 1 0 h 0 1 shared noreserve"], 1024, 1
+    ),
+    "maps of tasks": Growing(
+        ["create 0 h"], lambda at: [f"connect {at} 0", f"map {at} 0 h 0 1 shared noreserve"], 1024, 1
+    ),
+    "files": Growing([], lambda at: [f"create 0 f{at}"], 256),
+    "files without a name": Growing(["connect 1 0"], lambda at: ["anon 1 1 shared noreserve"], 256, 2),
+    "tasks": Growing([], lambda at: [f"connect {at} 0"], 1024),
+}
+
+
+@pytest.mark.parametrize("row", ONE_BY_ONE.values(), ids=ONE_BY_ONE)
+def test_asks_seldom_for_room_of_what_comes_one_by_one(held: Held, row: Growing) -> None:
+    """Room grows by a part of what there is: of N more, all but a few ask for no memory but their own."""
+    calls = []
+    for count in (row.size, 2 * row.size, 4 * row.size):
+        usage = held(row.lines(count), ["--frames", "65536"])
+        assert usage.refused() == []
+        calls.append(usage.calls - row.own * count)
+    assert calls[1] - calls[0] < row.size / 20 and calls[2] - calls[1] < row.size / 10, calls
+
+
+REFUSED = {
+    "pages of holes": Growing(
+        ["nr 0", "connect 1 0", "create 0 h", "map 1 0 h 0 65536 shared noreserve"],
+        lambda at: [f"fault 1 0 1 {64 * (at % 256)} write"],
+        256,
+    ),
+    "copies of holes": Growing(
+        ["nr 0", "connect 1 0", "anon 1 65536 private noreserve"],
+        lambda at: [f"store 1 0 1 {64 * at} 0 5a"],
+        256,
+    ),
+    "pages of far holes": Growing(
+        ["nr 0", "connect 1 0", "create 0 h", "truncate 0 h 16777216"],
+        lambda at: [f"map 1 0 h {65536 * at} 1 shared", f"preallocate 0 h {65536 * at} {65536 * at + 1}"],
+        64,
+        tables=1 << 16,
+    ),
+    "files without a name": Growing(
+        ["nr 0", "connect 1 0"], lambda at: [f"anon 1 {65536 - at} {('private', 'shared')[at % 2]}"], 64
+    ),
+    "mounts": Growing(["nr 0"], lambda at: [f"mount {1 + at % 3} min_size=1K"], 64),
+    "forks": Growing(
+        ["connect 1 0", "create 0 h", *(2049 * ["map 1 0 h 0 1 shared noreserve"])],
+        lambda at: [f"fork 1 {2 + at}"],
+        64,
+    ),
+    "tasks' maps": Growing(
+        ["nr 0", "create 0 h"], lambda at: [f"connect {at} 0", f"map {at} 0 h 0 9 private", f"exit {at}"], 64
+    ),
+}
+
+
+@pytest.mark.parametrize("row", REFUSED.values(), ids=REFUSED)
+def test_keeps_no_more_beside_more_that_is_refused(held: Held, row: Growing) -> None:
+    """N, 2N and 4N lines that are refused leave as much as one, but for small tables of a file's blocks."""
+    most = []
+    for count in (row.size, 2 * row.size, 4 * row.size):
+        usage = held(row.lines(count), ["--frames", "65536"])
+        assert len(usage.refused()) >= count
+        most.append(usage.most)
+    assert max(most) - min(most) < row.tables, most
