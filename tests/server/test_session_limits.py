@@ -3,11 +3,11 @@ import socket
 
 import pytest
 from built import PROGRAM, SECONDS, replies_in, text_of
-from limit_table import Size, sizes
+from limit_table import ELSEWHERE, Size, sizes
 from serving import Serve, Server, rest_of, whole_replies
 
 # More of the most sessions than any number at which a body might give up.
-MOST_SESSIONS, MOST_WORKERS = 65_535, 64
+MOST_SESSIONS, MOST_WORKERS, MOST_PLACES = 65_535, 64, ELSEWHERE["most_places"]
 MANY_EVENTS = 1_100_000
 # Addresses of clients by turns. One has some 28,000 ports, and a port rests for a while after its use: on a
 # quick machine one address would run out of them.
@@ -54,6 +54,14 @@ def test_serves_as_many_at_a_time_as_there_can_be_workers(serve: Serve) -> None:
             link.shutdown(socket.SHUT_WR)
             assert rest_of(link) == b""
             link.close()
+
+
+@pytest.mark.parametrize("places", [MOST_PLACES - 1, MOST_PLACES])
+def test_has_room_for_the_most_places(places: int) -> None:
+    """The room is asked for at once, and takes no memory until events are there."""
+    with Server(PROGRAM, 1, 1, ["--slots", "1"], trace=places) as server, server.session() as session:
+        asked = ["nr 4", "connect 1 0", "anon 1 4 private", "store 1 0 1 3 0 5a"]
+        assert session.many(asked) == [4, None, 1, None]
 
 
 @pytest.mark.parametrize("line", ["nr 4", "df 0", "attach 1"])
