@@ -167,17 +167,21 @@ def test_no_other_program_counts_as_proved(repository: Path) -> None:
     assert is_proved(repository, program) == "no\n"
 
 
-@pytest.fixture
-def building(monkeypatch: pytest.MonkeyPatch) -> ModuleType:
-    """The command .ci/build."""
+def command(monkeypatch: pytest.MonkeyPatch, name: str) -> ModuleType:
+    """The module of this command of .ci."""
     monkeypatch.syspath_prepend(TOP / ".ci")
-    loader = importlib.machinery.SourceFileLoader("building", str(TOP / ".ci/build"))
-    spec = importlib.util.spec_from_loader("building", loader)
+    loader = importlib.machinery.SourceFileLoader(f"command_{name}", str(TOP / ".ci" / name))
+    spec = importlib.util.spec_from_loader(f"command_{name}", loader)
     assert spec
     module = importlib.util.module_from_spec(spec)
-    monkeypatch.setitem(sys.modules, "building", module)
+    monkeypatch.setitem(sys.modules, f"command_{name}", module)
     loader.exec_module(module)
     return module
+
+
+@pytest.fixture
+def building(monkeypatch: pytest.MonkeyPatch) -> ModuleType:
+    return command(monkeypatch, "build")
 
 
 @dataclass
@@ -217,6 +221,49 @@ def test_nothing_is_built_over_a_crate_that_was_refused(building: ModuleType, re
 def test_all_crates_are_proved_bottom_up(building: ModuleType) -> None:
     status, proved = proved_with(building, "none")
     assert (status, sorted(proved), proved[0], proved[-1]) == (0, sorted(BELOW), "low", "top")
+
+
+VERSION = """@static.6 = private unnamed_addr constant [15 x i8] c"hugetlbd 0.2.0\\0A", align 1
+define void @one(ptr %r0) {
+  store ptr @static.6, ptr %r0, align 8
+  store i64 15, ptr %r0, align 8
+}
+"""
+
+
+class Lowers:
+    """A kit that lowers a program to its version, and keeps what is compiled."""
+
+    compiled = ""
+
+    def crates(self, _top: Path) -> dict[str, "Lowers"]:
+        return {"hugetlbd": self}
+
+    def sources(self) -> list[Path]:
+        return []
+
+    def lowered(self, _room: Path) -> str:
+        return VERSION
+
+    def to_text(self, text: str, module: str) -> None:
+        Path(text).write_text(module)
+
+    def to_code(self, code: str, lean: str) -> None:
+        self.compiled = Path(lean).read_text()
+        Path(code).touch()
+
+    def link(self, whole: str, _code: str) -> None:
+        Path(whole).write_bytes(b"program")
+
+
+def test_a_build_with_no_proofs_is_told_from_another(monkeypatch: pytest.MonkeyPatch, tmp_path: Path) -> None:
+    """What .ci/quick compiles has the word about proofs in its version."""
+    quick, kit = command(monkeypatch, "quick"), Lowers()
+    monkeypatch.chdir(tmp_path)
+    monkeypatch.setattr(quick.rattle, "Kit", lambda _name: kit)
+    quick.build(tmp_path / "program", "hugetlbd", False, print)
+    assert "hugetlbd 0.2.0 (built without proofs)" in kit.compiled and "i64 38" in kit.compiled
+    assert (tmp_path / "program").read_bytes() == b"program"
 
 
 @dataclass
