@@ -417,15 +417,19 @@ ONE_BY_ONE = {
 }
 
 
+# Some ten lists may be moved as twice as much comes.
+FEW_CALLS = 16
+
+
 @pytest.mark.parametrize("row", ONE_BY_ONE.values(), ids=ONE_BY_ONE)
 def test_asks_seldom_for_room_of_what_comes_one_by_one(held: Held, row: Growing) -> None:
-    """Room grows by a part of what there is: of N more, all but a few ask for no memory but their own."""
+    """Room grows by a part of what there is: N more, and 2N more, ask for memory a few times."""
     calls = []
     for count in (row.size, 2 * row.size, 4 * row.size):
         usage = held(row.lines(count), ["--frames", "65536"])
         assert usage.refused() == []
         calls.append(usage.calls - row.own * count)
-    assert calls[1] - calls[0] < row.size / 20 and calls[2] - calls[1] < row.size / 10, calls
+    assert calls[1] - calls[0] <= FEW_CALLS and calls[2] - calls[1] <= FEW_CALLS, calls
 
 
 REFUSED = {
