@@ -16,25 +16,26 @@ PLAN = re.compile(r"(<!-- plan: (\S+) -->\n```text\n\$ [^\n]*\n).*?(```\n)", re.
 FILE = re.compile(r"(<!-- file: (\S+) -->\n```toml\n).*?(```\n)", re.DOTALL)
 
 
-def transcript(name, first, last):
+def transcript(name: str, first: int, last: int) -> str:
     """What the tool prints for some lines of an example, which it has run from the start."""
     script = EXAMPLES / f"{name}.script"
     machine = command.machine_words(command.words_of([str(script)]))
     words = [word for option, value in machine.items() for word in (f"--{option}", value)]
     out = io.StringIO()
     with Session.over_pipe([PROGRAM, "script", *words]) as session:
-        said = talk.Talk(session, refusals.Machine(machine["frames"], True), talk.Script(io.StringIO()))
+        says = talk.Script(io.StringIO())
+        said = talk.Talk(session, refusals.Machine(machine["frames"], True), says)
         for number, line in enumerate(command.lines_of(script), 1):
             if number == first:
-                said.say.out = out
-                said.say.head()
+                says.out = out
+                says.head()
             if number == last + 1:
-                said.say.out = io.StringIO()
+                says.out = io.StringIO()
             said.take(number, line)
     return out.getvalue()
 
 
-def made(text):
+def made(text: str) -> str:
     """A document with its blocks made anew."""
     text = TRANSCRIPT.sub(
         lambda found: found[1] + transcript(found[2], int(found[3]), int(found[4])) + found[5], text
@@ -43,7 +44,7 @@ def made(text):
     return FILE.sub(lambda found: found[1] + (TOP / found[2]).read_text() + found[3], text)
 
 
-@pytest.mark.parametrize("document", DOCUMENTS, ids=lambda it: it.name)
+@pytest.mark.parametrize("document", DOCUMENTS, ids=[it.name for it in DOCUMENTS])
 def test_blocks_are_what_is_printed(document: Path) -> None:
     assert made(document.read_text()) == document.read_text()
 
@@ -65,16 +66,16 @@ def test_pictures_are_there() -> None:
 
 
 @pytest.mark.parametrize(
-    "words",
+    "line",
     re.findall(
         r"^    tools/hugetlbctl (plan .+|observe.*|who|examples.+)$", TUTORIAL.read_text(), re.MULTILINE
     ),
 )
-def test_commands(words: list[str], tmp_path: Path) -> None:
+def test_commands(line: str, tmp_path: Path) -> None:
     """The commands of the tutorial run, one after another as they stand."""
-    words = words.split(" > ")[0]
     (tmp_path / "host.toml").write_text((EXAMPLES / "plan.toml").read_text())
-    words = [TOP / word if word.startswith("examples/") else word for word in words.split()]
+    given = line.split(" > ")[0].split()
+    words = [TOP / word if word.startswith("examples/") else word for word in given]
     status, _, faults = run(words, cwd=tmp_path)
     # (a node of the example can't hold its guests and all else)
     assert (status, faults) == (1 if "--worst" in words else 0, "")
@@ -101,6 +102,6 @@ def test_what_a_snapshot_costs() -> None:
         assert [reply for reply in replies if reply.startswith("error ")] == refused
 
 
-def write():
+def write() -> None:
     for document in DOCUMENTS:
         document.write_text(made(document.read_text()))

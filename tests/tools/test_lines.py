@@ -1,6 +1,7 @@
 """Slips and refusals: what was wrong in a line, and what was short."""
 import random
 import re
+from collections.abc import Iterable
 
 import pytest
 from pathlib import Path
@@ -9,12 +10,16 @@ from common import PROGRAM, TOP, TRANSCRIPTS, answer_of, must_hold, run
 from built import cases, replies_in
 from hugetlb import faults, lines, refusals, talk
 from hugetlb.command import MACHINE
-from hugetlb_session import Session
+from hugetlb_session import FORMS, BadLine, Session
 
 BAD_LINE = b"error 21 BadLine\n"
 
 
-@pytest.mark.parametrize("script", sorted(TRANSCRIPTS.glob("*.annotated")), ids=lambda it: it.stem)
+def name_of(script: Path) -> str:
+    return script.stem
+
+
+@pytest.mark.parametrize("script", sorted(TRANSCRIPTS.glob("*.annotated")), ids=name_of)
 def test_transcript(script: Path) -> None:
     """The stored transcripts of slips and refusals: what was wrong in each line, how it is written, and what
     was short."""
@@ -31,7 +36,7 @@ def test_finds_a_fault_where_there_is_one() -> None:
         for line in case.script.splitlines()
         if len(line) < 60 and not line.startswith(b"a" * 30)
     ]
-    tried += [f"{command} " + " ".join("1" for _ in form.places) for command, form in lines.FORMS.items()]
+    tried += [f"{command} " + " ".join("1" for _ in form.places) for command, form in FORMS.items()]
     for _ in range(6000):
         line = chance.choice(tried)
         words = line.split(" ")
@@ -59,20 +64,20 @@ def test_finds_a_fault_where_there_is_one() -> None:
 class Heard:
     """What a talk says, kept."""
 
-    def __init__(self):
-        self.rows = []
+    def __init__(self) -> None:
+        self.rows: list[tuple[talk.Row, list[str]]] = []
 
-    def row(self, row, why):
-        self.rows.append((row, why))
+    def row(self, row: talk.Row, why: Iterable[str]) -> None:
+        self.rows.append((row, [*why]))
 
-    def comment(self, _):
+    def comment(self, _line: str) -> None:
         pass
 
-    def unsent(self, *_):
+    def unsent(self, _line: str, _fault: BadLine) -> None:
         pass
 
 
-def heard(options, lines_):
+def heard(options: dict[str, str], lines_: list[str]) -> list[tuple[talk.Row, list[str]]]:
     """Each row of a script with its explanation, as the tool says them."""
     machine = MACHINE | options
     with Session.over_pipe(
@@ -83,7 +88,7 @@ def heard(options, lines_):
     return said.rows
 
 
-def is_granted(options, before, line):
+def is_granted(options: dict[str, str], before: list[str], line: str) -> bool:
     words = [word for name, value in (MACHINE | options).items() for word in (f"--{name}", value)]
     asked = [one for it in [*before, line] for one in lines.expanded(lines.without_comment(it)) if one]
     with Session.over_pipe([PROGRAM, "script", *words]) as session:
@@ -121,9 +126,8 @@ def test_gives_numbers_that_do() -> None:
     for all that a range stands for."""
     tried, of_ranges = 0, 0
     scripts = [(case.words, case.script.decode("latin-1").splitlines()) for case in cases()]
-    scripts += [([], (TRANSCRIPTS / "refusals.annotated").read_text().splitlines())] + [
-        ([], lines_) for lines_ in RANGES
-    ]
+    scripts.append(([], (TRANSCRIPTS / "refusals.annotated").read_text().splitlines()))
+    scripts += [(list[str](), lines_) for lines_ in RANGES]
     for words, script in scripts:
         options = dict(zip((word.removeprefix("--") for word in words[::2]), words[1::2]))
         script = [line for line in map(lines.without_comment, script) if line and len(line) <= 1024]
@@ -144,7 +148,8 @@ def test_a_range_tells_what_all_of_it_lacks() -> None:
     *_, (row, why) = heard({}, RANGES[0])
     assert row.reply == "4 x ok; 4 x error 2 NoPages"
     assert why == [
-        "4 pages short of nr and overcommit: 4 pages more would be committed, beside 4 in use or reserved, and nr 4 with overcommit 0 allows 4",
+        "4 pages short of nr and overcommit: 4 pages more would be committed, "
+        "beside 4 in use or reserved, and nr 4 with overcommit 0 allows 4",
         "`nr 8` or `overcommit 4` would do",
     ]
     *_, (row, why) = heard(
@@ -175,6 +180,6 @@ def test_knows_the_lines_of_the_document() -> None:
         if row.startswith("| `")
     ]
     forms = {cells[0].strip("`").replace("\\|", "|"): cells[1] for cells in rows}
-    assert sorted(forms) == sorted(lines.form_of(command) for command in lines.FORMS)
-    for command in lines.FORMS:
-        must_hold(lines.FORMS[command].what, forms[lines.form_of(command)])
+    assert sorted(forms) == sorted(lines.form_of(command) for command in FORMS)
+    for command in FORMS:
+        must_hold(FORMS[command].what, forms[lines.form_of(command)])

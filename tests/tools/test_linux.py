@@ -4,6 +4,7 @@ import os
 import signal
 import subprocess
 import tempfile
+from collections.abc import Iterator
 from pathlib import Path
 from shutil import which
 
@@ -45,7 +46,7 @@ PLANS = {
 
 
 @pytest.fixture(scope="module")
-def replay(tmp_path_factory):
+def replay(tmp_path_factory: pytest.TempPathFactory) -> Path:
     """The program that runs lines on the kernel."""
     built = tmp_path_factory.mktemp("replay") / "replay"
     if not which("cc"):
@@ -55,7 +56,7 @@ def replay(tmp_path_factory):
 
 
 @pytest.mark.parametrize("name", PLANS)
-def test_answer_holds_on_linux(name: str, replay, tmp_path: Path) -> None:
+def test_answer_holds_on_linux(name: str, replay: Path, tmp_path: Path) -> None:
     """With N pages the kernel refuses no line of the plan; with N - 1 it refuses one, as the plan says."""
     text, nr, refusal = PLANS[name]
     file = tmp_path / "host.toml"
@@ -76,11 +77,11 @@ def test_answer_holds_on_linux(name: str, replay, tmp_path: Path) -> None:
 
 
 @pytest.fixture
-def cluster(tmp_path_factory):
+def cluster() -> Iterator[tuple[str, str]]:
     """A database that listens to nobody, of a user that is no superuser."""
     program = postgresql.installed()
     initdb = Path(program).resolve().with_name("initdb") if program else None
-    if not initdb or not initdb.exists():
+    if not program or not initdb or not initdb.exists():
         pytest.skip("PostgreSQL is not here")
     with tempfile.TemporaryDirectory() as folder:
         os.chown(folder, 65534, -1)
@@ -94,7 +95,7 @@ def cluster(tmp_path_factory):
         yield program, f"{folder}/data"
 
 
-def starts(program, data, words):
+def starts(program: str, data: str, words: list[str]) -> tuple[bool, str]:
     """Whether PostgreSQL starts with these settings, and what it says."""
     ran = subprocess.Popen(
         [program, "-D", data, "-c", "listen_addresses=", "-c", f"unix_socket_directories={data}", *words],
@@ -105,6 +106,7 @@ def starts(program, data, words):
         cwd="/",
     )
     said = ""
+    assert ran.stdout
     for line in ran.stdout:
         said += line
         if "ready to accept connections" in line:
@@ -114,12 +116,13 @@ def starts(program, data, words):
 
 
 @pytest.mark.skipif(os.geteuid() != 0, reason="root alone sets the pages")
-def test_postgresql_starts_with_its_pages(cluster, tmp_path: Path) -> None:
+def test_postgresql_starts_with_its_pages(cluster: tuple[str, str], tmp_path: Path) -> None:
     """With huge_pages = on PostgreSQL starts with the pages of the plan, and does not with one less."""
     program, data = cluster
     file = tmp_path / "host.toml"
     file.write_text(
-        '[host]\nmemory = "4GiB"\n[[postgresql]]\nshared_buffers = "96MiB"\nmax_connections = 50\nhuge_pages = "on"\n'
+        '[host]\nmemory = "4GiB"\n[[postgresql]]\nshared_buffers = "96MiB"\n'
+        'max_connections = 50\nhuge_pages = "on"\n'
     )
     nr = json.loads(run(["plan", file, "--json"], environment={"HUGETLB_POSTGRES": program})[1])["nr"]
     words = [
@@ -142,22 +145,26 @@ def test_postgresql_starts_with_its_pages(cluster, tmp_path: Path) -> None:
 
 REAL = {
     "guests on a node": (
-        '[host]\nnodes = ["1GiB"]\nkeep = 0\n[[guest]]\ncount = 3\nmemory = "10MiB"\nnode = 0\nprealloc = true\n[[redis]]\nmemory = "12MiB"\n',
+        """[host]\nnodes = ["1GiB"]\nkeep = 0
+[[guest]]\ncount = 3\nmemory = "10MiB"\nnode = 0\nprealloc = true
+[[redis]]\nmemory = "12MiB\"""",
         21,
     ),
     "a segment and a heap": (
-        '[host]\nmemory = "1GiB"\n[[oracle]]\nsga = "14MiB"\n[[java]]\nmemory = "9MiB"\n[[dpdk]]\nmemory = "6MiB"\n',
+        """[host]\nmemory = "1GiB"\n[[oracle]]\nsga = "14MiB"
+[[java]]\nmemory = "9MiB"\n[[dpdk]]\nmemory = "6MiB\"""",
         15,
     ),
     "a snapshot among others": (
-        '[host]\nmemory = "1GiB"\n[[mysql]]\nmemory = "8MiB"\n[[redis]]\nmemory = "10MiB"\nsnapshot = true\nrewritten = "40%"\n',
+        """[host]\nmemory = "1GiB"\n[[mysql]]\nmemory = "8MiB"
+[[redis]]\nmemory = "10MiB"\nsnapshot = true\nrewritten = "40%\"""",
         11,
     ),
 }
 
 
 @pytest.mark.parametrize("name", REAL)
-def test_plan_starts_whole_on_linux(name: str, replay, tmp_path: Path) -> None:
+def test_plan_starts_whole_on_linux(name: str, replay: Path, tmp_path: Path) -> None:
     """Three plans more: with N pages all of it starts whole on this kernel, and with N - 1 it does not."""
     text, nr = REAL[name]
     file = tmp_path / "host.toml"

@@ -16,7 +16,7 @@ from hugetlb.talk import Row
 MOST_BYTES = 10_240
 
 
-def tips_of(text):
+def tips_of(text: str) -> list[list[str]]:
     return [
         it.firstChild.data.split("\n")
         for it in xml.dom.minidom.parseString(text).getElementsByTagName("title")
@@ -30,7 +30,11 @@ def test_no_picture_of_no_example() -> None:
     }
 
 
-@pytest.mark.parametrize("script", sorted(EXAMPLES.glob("*.script")), ids=lambda it: it.stem)
+def name_of(script: Path) -> str:
+    return script.stem
+
+
+@pytest.mark.parametrize("script", sorted(EXAMPLES.glob("*.script")), ids=name_of)
 def test_picture(script: Path, tmp_path: Path) -> None:
     """The picture is the one that is made, within its bytes, for light and dark pages, with a tooltip for
     each line."""
@@ -85,7 +89,7 @@ def test_many_changes(count: int) -> None:
     assert len(told) == count // 500
 
 
-def plan_picture(tmp_path, text):
+def plan_picture(tmp_path: Path, text: str) -> str:
     (tmp_path / "host.toml").write_text(text)
     status, _, faults = run(
         ["plan", tmp_path / "host.toml", "--svg", tmp_path / "a.svg", "--html", tmp_path / "a.html"]
@@ -112,7 +116,7 @@ def test_a_plan_has_its_colours_everywhere(example: str, tmp_path: Path) -> None
         assert drawn.returncode == 0 and (0x2F, 0x6A, 0xA8) in colours and (0xFF, 0xFF, 0xFF) in colours
 
 
-def colours_of(data):
+def colours_of(data: bytes) -> set[tuple[int, ...]]:
     """The colours of a PNG of 8 bits for each of red, green and blue, with alpha or without."""
     at, packed, width, height, depth = 8, b"", 0, 0, 3
     while at < len(data):
@@ -127,10 +131,11 @@ def colours_of(data):
         packed += body if kind == b"IDAT" else b""
         at += 12 + length
     bytes_of_row = depth * width
-    raw, before, found = zlib.decompress(packed), bytearray(bytes_of_row), set()
+    raw, before = zlib.decompress(packed), bytearray(bytes_of_row)
+    found = set[tuple[int, ...]]()
     for row in range(height):
         start = row * (bytes_of_row + 1)
-        kind, line = raw[start], bytearray(raw[start + 1 : start + 1 + bytes_of_row])
+        filtered, line = raw[start], bytearray(raw[start + 1 : start + 1 + bytes_of_row])
         for place in range(bytes_of_row):
             left, up, corner = (
                 line[place - depth] if place >= depth else 0,
@@ -139,7 +144,7 @@ def colours_of(data):
             )
             guess = left + up - corner
             nearest = min((left, up, corner), key=lambda it: abs(guess - it))
-            line[place] = (line[place] + (0, left, up, (left + up) // 2, nearest)[kind]) % 256
+            line[place] = (line[place] + (0, left, up, (left + up) // 2, nearest)[filtered]) % 256
         found |= {tuple(line[place : place + 3]) for place in range(0, bytes_of_row, depth)}
         before = line
     return found
@@ -167,7 +172,9 @@ def test_three_hundred_programs(tmp_path: Path) -> None:
         1:
     ]
     assert [tip.split(":")[0] for tip in tips] == ["100 of guest", "100 of java", "100 of redis"]
-    height = float(re.search(r'viewBox="0 0 960 (\d+)"', picture)[1])
+    view = re.search(r'viewBox="0 0 960 (\d+)"', picture)
+    assert view
+    height = float(view[1])
     assert height < 300 and len(set(re.findall(r'class="kind"[^>]*fill="(#\w+)"', picture))) >= 2
     labels = [it.firstChild.data for it in xml.dom.minidom.parseString(picture).getElementsByTagName("text")]
     assert {"guest", "java", "redis"} <= set(labels)

@@ -12,7 +12,7 @@ from common import PROGRAM, TOOL, must_hold
 
 
 class Terminal:
-    def __init__(self, home):
+    def __init__(self, home: Path) -> None:
         pid, self.terminal = pty.fork()
         if pid == 0:
             signal.signal(signal.SIGINT, signal.SIG_DFL)
@@ -26,7 +26,7 @@ class Terminal:
             os.execve(sys.executable, [sys.executable, str(TOOL)], environment)
         self.pid, self.seen = pid, ""
 
-    def wait(self, text):
+    def wait(self, text: str) -> str:
         """What was written up to this text."""
         until = time.monotonic() + built.SECONDS
         while text not in self.seen:
@@ -42,12 +42,12 @@ class Terminal:
         before, self.seen = self.seen.split(text, 1) if text else ("", self.seen)
         return before
 
-    def type(self, text, answer):
+    def type(self, text: str, answer: str) -> str:
         self.wait("hugetlbd> ")
         os.write(self.terminal, text.encode())
         return self.wait(answer)
 
-    def end(self):
+    def end(self) -> int:
         return os.waitstatus_to_exitcode(os.waitpid(self.pid, 0)[1])
 
 

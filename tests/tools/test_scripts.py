@@ -5,6 +5,7 @@ import shutil
 import socket
 import subprocess
 import sys
+from collections.abc import Sequence
 
 import built
 import pytest
@@ -12,7 +13,11 @@ from pathlib import Path
 from common import PROGRAM, TOOL, TOP, must_hold, run
 
 from hugetlb import lines, refusals, talk
-from hugetlb_session import Session
+from hugetlb_session import Line, Reply, Session
+
+
+def name_of(script: Path) -> str:
+    return script.stem
 
 
 def test_takes_scripts() -> None:
@@ -20,7 +25,8 @@ def test_takes_scripts() -> None:
     none at all."""
     status, output, faults = run(
         [],
-        "# a comment\n\nnr 4   # and one here\nconnect 1 0\nanon 1 4 private\nfault 1 0 1 0..3 write\nload 1 0 1 2..3 0 1\n",
+        "# a comment\n\nnr 4   # and one here\nconnect 1 0\nanon 1 4 private\n"
+        "fault 1 0 1 0..3 write\nload 1 0 1 2..3 0 1\n",
     )
     assert (status, faults) == (0, "")
     must_hold(
@@ -139,10 +145,10 @@ def test_one_reply_that_does_not_come() -> None:
 def test_many_lines_are_sent_at_once() -> None:
     """Of 50,000 lines many are under way at a time: the tool waits for replies a few times, and not once a
     line."""
-    calls = []
+    calls = list[int]()
 
     class Counted(Session):
-        def replies(self, lines, are_last=False):
+        def replies(self, lines: Sequence[Line], are_last: bool = False) -> list[Reply]:
             calls.append(len(lines))
             return super().replies(lines, are_last)
 
@@ -178,7 +184,7 @@ def test_takes_what_run_would(tmp_path: Path) -> None:
         shutil.copy(TOP / ".ci" / name, top / ".ci")
     quick, proved = top / "out/quick/hugetlbd", top / "out/hugetlbd"
 
-    def answers():
+    def answers() -> tuple[int, bool, str]:
         ran = subprocess.run(
             [sys.executable, top / "tools/hugetlbctl"],
             input="nr 4\n",
@@ -188,7 +194,7 @@ def test_takes_what_run_would(tmp_path: Path) -> None:
         )
         return ran.returncode, "ok 4" in ran.stdout, ran.stderr
 
-    def begun(program):
+    def begun(program: Path) -> None:
         """The program is noted as one that was built of the sources that are there."""
         words = (
             f'top={top}; . "$top/.ci/programs"; begins "{program}"; mv "{program}.begun" "{program}.built"'
@@ -209,9 +215,7 @@ def test_takes_what_run_would(tmp_path: Path) -> None:
 
 
 @pytest.mark.parametrize(
-    "script",
-    sorted([*TOP.glob("examples/*.script"), *TOP.glob("tests/rows/*.script")]),
-    ids=lambda it: it.stem,
+    "script", sorted([*TOP.glob("examples/*.script"), *TOP.glob("tests/rows/*.script")]), ids=name_of
 )
 def test_script_is_plain(script: Path) -> None:
     """A file named .script is for ./run as it is: it has no comments and no ranges, which are the tool's own

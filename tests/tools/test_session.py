@@ -49,7 +49,7 @@ def test_end_goes_on_after_a_reset() -> None:
     opened, until no more are taken."""
     with socket.create_server(("127.0.0.1", 0)) as listens:
 
-        def serves():
+        def serves() -> None:
             for number in range(60):
                 link, _ = listens.accept()
                 if number == 59:
@@ -85,6 +85,7 @@ def test_watch_writes_each_line_at_once() -> None:
     words = ["serve", "--port", "0", "--sessions", "1", "--workers", "1", "--trace", "0"]
     program = subprocess.Popen([PROGRAM, *words], stdout=subprocess.PIPE, text=True)
     try:
+        assert program.stdout
         port = program.stdout.readline().split()[1]
         # (with PYTHONUNBUFFERED a line comes at once whoever writes it)
         environment = {name: value for name, value in os.environ.items() if name != "PYTHONUNBUFFERED"}
@@ -94,10 +95,9 @@ def test_watch_writes_each_line_at_once() -> None:
             text=True,
             env=environment,
         )
-        found = []
-        reader = threading.Thread(
-            target=lambda: found.extend([watch.stdout.readline(), watch.stdout.readline()])
-        )
+        assert watch.stdout
+        reads, found = watch.stdout.readline, list[str]()
+        reader = threading.Thread(target=lambda: found.extend([reads(), reads()]))
         reader.start()
         reader.join(built.SECONDS)
         watch.kill()
