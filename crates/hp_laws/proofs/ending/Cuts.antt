@@ -11,7 +11,8 @@ use Rattle.std.proofs.lemmas.List.Elements.{All-get_or}
 use Rattle.hp_laws.proofs.Variants.{Cell, Gone, Hole, Place, SlotEvent}
 use Rattle.hp_model.specs.declared.event.SlotEvent.TheVariants as slot
 use Rattle.hp_model.proofs.Words.{Copy, File, IsSoundFile, IsSoundMap, IsSoundMount, Map, Mount, Page, Spot, cell_punched, cells_to, edit_range, file_in, file_named, found, has_name, is_in, is_map}
-use Rattle.hp_model.proofs.Words.{map_in, map_punched, means_file, new_file, no_map, place_at, punched, shape_of, shown, spot, spot_in, truncated, unlinked, value, with_file, without_copy, zeros}
+use Rattle.hp_model.proofs.Words.{map_in, map_punched, new_file, no_map, place_at, punched, shown, spot, spot_in, truncated, unlinked, value, with_file, without_copy, zeros}
+use Rattle.hp_laws.specs.Follows.{means_file, shape_of}
 use Rattle.hp_model.proofs.Editing.{get_or-edit_below, get_or-edit_in, get_or-edit_past, length-edit_range}
 use Rattle.hp_laws.proofs.names.Accessed.{file_put, get_mapped, key_map, pages_same}
 use Rattle.hp_laws.proofs.names.ByPlace.{PlaceKeeps}

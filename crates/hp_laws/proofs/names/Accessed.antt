@@ -3,8 +3,9 @@ use Rattle.std.proofs.lemmas.Grind.{common_steps}
 use Rattle.std.proofs.Common.{◌≡◌, ℕ, ◌<◌, Bool, map, suc, zero, arith, get_or, List, [], ◌∷◌, length, refl, sym, ap, ◌∙◌, slice_index_or, slice_set}
 use Rattle.std.proofs.lemmas.List.{length-set}
 use Rattle.hp_laws.proofs.Variants.{Cell, Intent, Place}
-use Rattle.hp_model.proofs.Words.{Choice, Copy, File, Map, Mount, Page, Spot, access, byte_access, copied, copy_write, edit_at, new_copy, private_access, robbed, shape_of, shared_access}
+use Rattle.hp_model.proofs.Words.{Choice, Copy, File, Map, Mount, Page, Spot, access, byte_access, copied, copy_write, edit_at, new_copy, private_access, robbed, shared_access}
 use Rattle.hp_model.proofs.Words.{uncopied_access, with_file, with_map}
+use Rattle.hp_laws.specs.Follows.{shape_of}
 use Rattle.hp_laws.proofs.counts.FileMoves.{IsMapAt}
 use Rattle.hp_laws.proofs.names.Keys.{file_key, keys}
 use Rattle.hp_laws.proofs.counts.MountMoves.{IsSpot}

@@ -4,7 +4,8 @@ use Rattle.std.proofs.Common.{◌≡◌, subst, ℕ, ◌<◌, ◌==◌, true, No
 use Rattle.std.proofs.lemmas.Bool.{and_parts, cond_both, eqb-true}
 use Rattle.hp_laws.proofs.Variants.{Done, Intent, NoSuchMap, Read, Reserving, Sharing, Write}
 use Rattle.hp_model.proofs.Words.{Answered, Choice, File, Mount, Outcome, Plan, Spot, access, again, and_then, byte_access, bytes_answer, fault, fault_tests, file_named, file_written, has_name}
-use Rattle.hp_model.proofs.Words.{is_map, load, mapped, new_map, next_number, range_filled, shape_of, spot, store, value, with_file, with_new, with_value, written}
+use Rattle.hp_model.proofs.Words.{is_map, load, mapped, new_map, next_number, range_filled, spot, store, value, with_file, with_new, with_value, written}
+use Rattle.hp_laws.specs.Follows.{shape_of}
 use Rattle.hp_model.proofs.Editing.{length-edit_at}
 use Rattle.hp_laws.proofs.names.Accessed.{access_on, bytes_on, file_put, key_edit, pages_same}
 use Rattle.hp_laws.proofs.names.Keys.{file_key, is_key, key_places, keys, number_places, places}

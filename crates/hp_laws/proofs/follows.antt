@@ -1,0 +1,4 @@
+-- What follows from the footprint of each step.
+pub mod Slots
+pub mod Stays
+pub mod Follows
