@@ -1,4 +1,6 @@
 -- What follows from the footprint of each step.
 pub mod Slots
 pub mod Stays
+pub mod Gone
+pub mod CutOff
 pub mod Follows

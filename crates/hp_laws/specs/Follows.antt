@@ -6,7 +6,7 @@ use Rattle.hp_model.specs.declared.place.Place.{Place}
 use Rattle.hp_model.specs.declared.step.Intent.TheVariants.{Write}
 use Rattle.hp_model.specs.declared.step.Sharing.{Sharing}
 use Rattle.hp_model.specs.declared.step.Step.{Step}
-use Rattle.hp_model.specs.declared.step.Step.TheVariants.{Exit, Fault, Fork, Punch as PunchStep, Remount, Store, Truncate as TruncateStep, Umount, Unlink as UnlinkStep, Unmap as UnmapStep}
+use Rattle.hp_model.specs.declared.step.Step.TheVariants.{Exit, Fault, Fork, Load, Punch as PunchStep, Remount, Store, Truncate as TruncateStep, Umount, Unlink as UnlinkStep, Unmap as UnmapStep}
 use Rattle.hp_model.specs.files.CopyWrite.{holds}
 use Rattle.hp_model.specs.files.File.{File, Mount, cell_at, file_in, map_in, maps_of}
 use Rattle.hp_model.specs.files.GiveBack.{is_kept}
@@ -19,6 +19,7 @@ use Rattle.hp_model.specs.machine.Named.{is_in, map_named, named_on}
 use Rattle.hp_model.specs.machine.Plan.{Reply, Slot}
 use Rattle.hp_model.specs.machine.SlotEvent.{has_name}
 use Rattle.hp_model.specs.machine.State.{State, slot_at}
+use Rattle.hp_model.specs.machine.Tests.{is_cut_off}
 
 -- ---- where names and numbers stand
 
@@ -228,6 +229,23 @@ abbrev pub AreOnce : Slot → Type 0
 AreOnce None = Unit {0}
 AreOnce (Some m) = IsOnce m
 
+-- the access is not through a marked map that has no copy there
+abbrev pub IsStopped : State → Step → Reply → Type 0
+IsStopped s (Fault task k number i intent) (Ok a) = is_cut_off (map_named s k task number) i ≡ false
+IsStopped s (Load task k number i offset count) (Ok a) = is_cut_off (map_named s k task number) i ≡ false
+IsStopped s (Store task k number i offset bytes) (Ok a) = is_cut_off (map_named s k task number) i ≡ false
+IsStopped s step reply = Unit {0}
+
+-- an umount leaves no mount there, an exit no map of its task on any slot, an unlink no file of the name, and an unmap no map of the
+-- number of which no index is left
+abbrev pub IsGone : Step → Reply → State → Type 0
+IsGone (Umount k) (Ok a) t = slot_at t k ≡ None
+IsGone (Exit task) (Ok a) t = (slot number : ℕ) → map_named t slot task number ≡ None
+IsGone (UnlinkStep k name) (Ok a) t = named_on (slot_at t k) name ≡ None
+IsGone (UnmapStep task k number from to) (Ok a) t =
+    (q : Spot) → map_named t k task number ≡ Some q → is_mapped q.map ≡ true
+IsGone step reply t = Unit {0}
+
 -- ---- a step
 
 pub record Follows (s : State) (step : Step) (reply : Reply) (t : State) : Type 0 where
@@ -244,6 +262,10 @@ pub record Follows (s : State) (step : Step) (reply : Reply) (t : State) : Type 
   pub together : (slot : ℕ) (a b : ℕ × ℕ) (p o : Spot)
       → IsKeptMap s step reply slot a p → IsKeptMap s step reply slot b o
       → SameFiles (p.file_no == o.file_no) (map_named t slot a.0 a.1) (map_named t slot b.0 b.1)
+  -- an access through a marked map is not answered where it has no copy
+  pub cut_off : IsStopped s step reply
+  -- what a step ends is gone: a mount, a task's maps, a file's name, and the number of a map that is all unmapped
+  pub gone : IsGone step reply t
   -- a file that has neither name nor map is gone, with its pages and entries
   pub held : (slot : ℕ) → are_held (slot_at s slot) ≡ true → are_held (slot_at t slot) ≡ true
   -- a name is of one file, and a task's number of one map

@@ -1,14 +1,23 @@
 -- What follows from the promises of a step.
 use Rattle.std.proofs.lemmas.Grind.{common_steps}
-use Rattle.std.proofs.Common.{ℕ, arith}
-use Rattle.hp_model.proofs.Words.{IsSettledState, State, slot_at}
-use Rattle.hp_laws.specs.Follows.{AreOnce}
+use Rattle.std.proofs.Common.{ℕ, Ok, Err, arith}
+use Rattle.hp_model.proofs.Words.{IsSettledState, Reply, State, slot_at}
+use Rattle.hp_model.specs.declared.step.Step.{Step}
+use Rattle.hp_model.specs.machine.Footprint.{HasFootprint}
+use Rattle.hp_laws.specs.Follows.{AreOnce, IsGone}
 use Rattle.hp_laws.specs.Laws.{WhatFollows}
+use Rattle.hp_laws.proofs.follows.CutOff.{stopped}
+use Rattle.hp_laws.proofs.follows.Gone.{step_gone}
 use Rattle.hp_laws.proofs.follows.Stays.{all_stay}
 use Rattle.hp_laws.proofs.footprint.Footprint.{step_footprint}
 use Rattle.hp_laws.proofs.keeping.Meant.{step_meant}
 use Rattle.hp_laws.proofs.keeping.SlotKept.{slot_keeps}
+use Rattle.hp_laws.proofs.promises.TestsDecide.{step_meets}
 use Rattle.hp_laws.proofs.settled.StaysSettled.{step_settled}
+
+all_gone : (s t : State) → IsSettledState s → (step : Step) (reply : Reply) → HasFootprint s step reply t → IsGone step reply t
+all_gone s t st step (Ok a) is = step_gone s t st step a is.0
+all_gone s t st step (Err r) is = grind arith
 
 once : (t : State) → IsSettledState t → (slot : ℕ) → AreOnce (slot_at t slot)
 once t st k = grind (arith, common_steps)
@@ -22,6 +31,8 @@ follows s step reply t st is =
       files = λ slot. (meant slot).names;
       maps = λ slot. (meant slot).numbers;
       together = λ slot. (meant slot).together;
+      cut_off = stopped s step reply (step_meets s reply t step is);
+      gone = all_gone s t st step reply (step_footprint s st step reply t is);
       held = λ slot. (stay slot).1;
       once = once t (step_settled s step reply t st is);
     }

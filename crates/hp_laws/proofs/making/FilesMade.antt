@@ -1,11 +1,10 @@
 -- A created file and a new map are what their reply says.
 use Rattle.std.proofs.lemmas.Grind.{common_steps}
 use Rattle.std.proofs.Common.{◌≡◌, ℕ, ◌<◌, ◌||◌, Bool, true, false, None, Option, Some, List, nat_le, nat_lt, ◌≤◌, ⊎_elim, arith, ◌-◌, [], ◌∷◌, ◌++◌, length, is_some}
-use Rattle.std.proofs.Common.{option_map, refl, sym, ap, ◌∙◌, get_or, if◌then◌else◌, flat_map}
+use Rattle.std.proofs.Common.{option_map, refl, sym, ap, ◌∙◌, if◌then◌else◌, flat_map}
 use Rattle.std.specs.List.{list_any}
-use Rattle.std.proofs.lemmas.Bool.{false_from_ne_true, cases_lt, leb-false, or_parts}
+use Rattle.std.proofs.lemmas.Bool.{cases_lt, leb-false, or_parts}
 use Rattle.std.proofs.lemmas.List.{get_or_past}
-use Rattle.std.proofs.lemmas.List.Folds.{list_any_at}
 use Rattle.hp_laws.proofs.Variants.{Hole}
 use Rattle.hp_model.proofs.Words.{File, Map, Mount, Spot}
 use Rattle.hp_model.proofs.Words.{at_least, cell_at, file_named, found, has_page, is_bad_range, is_map, lacking}
@@ -23,9 +22,6 @@ any_append t xs ys = grind (arith, common_steps)
 pub any_in_files : (t : Map → Bool) (fs : List File) → list_any t (flat_map (λ f. f.maps) fs) ≡ list_any (λ (f : File). list_any t f.maps) fs
 any_in_files t [] = refl
 any_in_files t (f ∷ fs) = any_append t f.maps (flat_map (λ f. f.maps) fs) ∙ ap (λ b. list_any t f.maps || b) (any_in_files t fs)
-
-none_there : {X : Type 0} (t : X → Bool) (xs : List X) (k : ℕ) (d : X) → k < length xs → list_any t xs ≡ false → t (get_or xs k d) ≡ false
-none_there t xs k d l none = false_from_ne_true (t (get_or xs k d)) (λ e. (let one = list_any_at t xs k d l e in cc))
 
 -- a map is found where its file is found, and it in there
 abbrev pub in_file : (Map → Bool) → Option (ℕ × File) → Option Spot
