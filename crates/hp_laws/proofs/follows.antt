@@ -3,4 +3,5 @@ pub mod Slots
 pub mod Stays
 pub mod Gone
 pub mod CutOff
+pub mod Touched
 pub mod Follows

@@ -1,20 +1,23 @@
 -- What follows from the promises of each step: what names and numbers mean afterwards, and what they show.
-use Rattle.std.specs.Prelude.{◌≡◌, ◌⊎◌, ℕ, ◌≤◌, ◌&&◌, ◌==◌, Bool, true, false, not, Option, None, Some, is_some, Ok, List, length, if◌then◌else◌, nat_le}
+use Rattle.std.specs.Prelude.{◌≡◌, ◌⊎◌, ℕ, ◌≤◌, ◌&&◌, ◌||◌, ◌==◌, Bool, true, false, not, Option, None, Some, is_some, Ok, List, length, if◌then◌else◌, nat_le}
 use Rattle.std.specs.List.{count_by, list_all}
 use Rattle.std.specs.Str.{bytes_eq}
 use Rattle.hp_model.specs.declared.place.Place.{Place}
-use Rattle.hp_model.specs.declared.step.Intent.TheVariants.{Write}
+use Rattle.hp_model.specs.declared.step.Intent.{Intent}
+use Rattle.hp_model.specs.declared.step.Intent.TheVariants.{Read, Write}
 use Rattle.hp_model.specs.declared.step.Sharing.{Sharing}
 use Rattle.hp_model.specs.declared.step.Step.{Step}
-use Rattle.hp_model.specs.declared.step.Step.TheVariants.{Exit, Fault, Fork, Load, Punch as PunchStep, Remount, Store, Truncate as TruncateStep, Umount, Unlink as UnlinkStep, Unmap as UnmapStep}
+use Rattle.hp_model.specs.declared.step.Step.TheVariants.{Anon, Create, Df, Exit, Fault, Fork, Load, Ls, Map as MapStep, Mount as MountStep, Preallocate}
+use Rattle.hp_model.specs.declared.step.Step.TheVariants.{Punch as PunchStep, Read as ReadStep, Remount, Stat, Store, Truncate as TruncateStep, Umount, Unlink as UnlinkStep}
+use Rattle.hp_model.specs.declared.step.Step.TheVariants.{Unmap as UnmapStep}
 use Rattle.hp_model.specs.files.CopyWrite.{holds}
-use Rattle.hp_model.specs.files.File.{File, Mount, cell_at, file_in, map_in, maps_of}
+use Rattle.hp_model.specs.files.File.{File, Mount, cell_at, file_in, has_page, map_in, maps_of}
 use Rattle.hp_model.specs.files.GiveBack.{is_kept}
 use Rattle.hp_model.specs.files.Mapping.{Map, copy_of, is_map, is_mapped, is_shared, no_map, place_at, without_range}
 use Rattle.hp_model.specs.files.Page.{Copy, zeros}
 use Rattle.hp_model.specs.files.Spot.{Spot}
 use Rattle.hp_model.specs.files.Value.{shown, value}
-use Rattle.hp_model.specs.machine.Footprint.{over}
+use Rattle.hp_model.specs.machine.Footprint.{There, over}
 use Rattle.hp_model.specs.machine.Named.{is_in, map_named, named_on}
 use Rattle.hp_model.specs.machine.Plan.{Reply, Slot}
 use Rattle.hp_model.specs.machine.SlotEvent.{has_name}
@@ -153,6 +156,32 @@ is_ended_number s (UnmapStep owner k gone from to) (Ok a) slot task number =
     (k == slot) && ((owner == task) && ((gone == number) && not (stays_mapped (map_named s slot task number) from to)))
 is_ended_number s step reply slot task number = is_unmounted step reply slot
 
+-- ---- slots that a step is on
+
+-- a fork and an exit are on all slots; steps of tasks and of the pool are on none
+abbrev pub is_on : Step → (slot : ℕ) → Bool
+is_on (Fork parent child) slot = true
+is_on (Exit task) slot = true
+is_on (MountStep k options) slot = k == slot
+is_on (Remount k options) slot = k == slot
+is_on (Umount k) slot = k == slot
+is_on (Create k name) slot = k == slot
+is_on (UnlinkStep k name) slot = k == slot
+is_on (TruncateStep k name n) slot = k == slot
+is_on (PunchStep k name a b) slot = k == slot
+is_on (Preallocate k name a b) slot = k == slot
+is_on (ReadStep k name i offset count) slot = k == slot
+is_on (Ls k) slot = k == slot
+is_on (Stat k name) slot = k == slot
+is_on (Df k) slot = k == slot
+is_on (MapStep task k name a n sharing reserving) slot = k == slot
+is_on (Anon task n sharing reserving) slot = 0 == slot
+is_on (UnmapStep task k number a b) slot = k == slot
+is_on (Fault task k number i intent) slot = k == slot
+is_on (Load task k number i offset count) slot = k == slot
+is_on (Store task k number i offset bytes) slot = k == slot
+is_on step slot = false
+
 -- ---- what names and numbers mean afterwards
 
 -- the name has a file, which shows these bytes at the index
@@ -229,6 +258,22 @@ abbrev pub AreOnce : Slot → Type 0
 AreOnce None = Unit {0}
 AreOnce (Some m) = IsOnce m
 
+-- the map has a page to read there, its own or the file's; to write into, a private one has its own
+abbrev pub has_its_page : Intent → ℕ → File → Map → Bool
+has_its_page Read i f m = is_some (copy_of (place_at m i)) || has_page (cell_at f i)
+has_its_page Write i f m =
+    if is_shared m.sharing then has_page (cell_at f i) else is_some (copy_of (place_at m i))
+
+-- an access that is answered leaves its page there
+abbrev pub Touches : Step → Reply → State → Type 0
+Touches (Fault task k number i intent) (Ok a) t =
+    There (map_named t k task number) (λ p. has_its_page intent i p.file p.map ≡ true)
+Touches (Load task k number i offset count) (Ok a) t =
+    There (map_named t k task number) (λ p. has_its_page Read i p.file p.map ≡ true)
+Touches (Store task k number i offset bytes) (Ok a) t =
+    There (map_named t k task number) (λ p. has_its_page Write i p.file p.map ≡ true)
+Touches step reply t = Unit {0}
+
 -- the access is not through a marked map that has no copy there
 abbrev pub IsStopped : State → Step → Reply → Type 0
 IsStopped s (Fault task k number i intent) (Ok a) = is_cut_off (map_named s k task number) i ≡ false
@@ -249,6 +294,8 @@ IsGone step reply t = Unit {0}
 -- ---- a step
 
 pub record Follows (s : State) (step : Step) (reply : Reply) (t : State) : Type 0 where
+  -- a step leaves every slot that it is not on as it was
+  pub elsewhere : (slot : ℕ) → is_on step slot ≡ false → slot_at t slot ≡ slot_at s slot
   -- a mount stays until its umount, and its limits until its umount or a remount
   pub mounts : (slot : ℕ) → is_relimited step reply slot ≡ false → SameLimits (slot_at s slot) (slot_at t slot)
   -- each name keeps its file, which shows what it showed, but for what a step stores, cuts off or punches
@@ -262,6 +309,8 @@ pub record Follows (s : State) (step : Step) (reply : Reply) (t : State) : Type 
   pub together : (slot : ℕ) (a b : ℕ × ℕ) (p o : Spot)
       → IsKeptMap s step reply slot a p → IsKeptMap s step reply slot b o
       → SameFiles (p.file_no == o.file_no) (map_named t slot a.0 a.1) (map_named t slot b.0 b.1)
+  -- an access that is answered leaves its page there for its map
+  pub touched : Touches step reply t
   -- an access through a marked map is not answered where it has no copy
   pub cut_off : IsStopped s step reply
   -- what a step ends is gone: a mount, a task's maps, a file's name, and the number of a map that is all unmapped

@@ -67,8 +67,8 @@ pub fn footprint_is_kept()
     ensures { FootprintIsKept }
 {}
 
-/// What follows from that: a mount stays, a name keeps its file and a number its map, each shows what it showed but for what the step makes of it,
-/// no file is there that nobody has, and no name or number stands twice.
+/// What follows from that: other slots stay, a mount stays, a name keeps its file and a number its map, each shows what it showed but for what the
+/// step makes of it, an answered access has its page, what ends is gone, and no name or number stands twice.
 pub fn what_follows()
     ensures { WhatFollows }
 {}

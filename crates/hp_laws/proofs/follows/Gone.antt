@@ -129,7 +129,7 @@ module _ (task number a b : ℕ) where
 
 -- ---- a step
 
-in_range : (s : State) (k : ℕ) (m : Mount) → slot_at s k ≡ Some m → k < length s.slots
+pub in_range : (s : State) (k : ℕ) (m : Mount) → slot_at s k ≡ Some m → k < length s.slots
 in_range s k m is = ⊎_elim (λ l. l) (λ past. (let none : None ≡ Some m = sym (get_or_past s.slots k None past) ∙ is in cc)) (cases_lt k (length s.slots))
 
 module _ (s t : State) where

@@ -10,7 +10,7 @@ use Rattle.hp_model.specs.declared.step.Step.{Step}
 use Rattle.hp_model.specs.declared.step.Step.TheVariants as step
 use Rattle.hp_model.proofs.Words.{Copy, File, Map, Mount, Reply, Slot, Spot, State, cell_at, copy_of, file_named, has_name, has_page, home_of, is_held_once, is_in, is_kept, is_known, is_map}
 use Rattle.hp_model.proofs.Words.{is_shared, limits, place_at, slot_at, spot, wanted_of, with_file, with_slot}
-use Rattle.hp_laws.specs.Follows.{SameLimits, are_held, is_relimited}
+use Rattle.hp_laws.specs.Follows.{SameLimits, are_held, is_on, is_relimited}
 use Rattle.hp_model.specs.machine.Footprint.{Changes, ChangesRefused, HasFootprint, HasNewCopy, HasOwnCopy, IsAccess, IsButNodes, IsCopyAccess, IsNewNumber, IsOfLimits, IsSharedAccess}
 use Rattle.hp_model.specs.machine.Footprint.{LeavesMount, OnFile, TakesBack, There, WithLimits, at_each, cut_from, cut_out, map_made, of_others, over, unmapped, where_mapped, with_childs, with_edit}
 use Rattle.hp_model.specs.machine.Footprint.{with_map_made, with_maps}
@@ -96,48 +96,52 @@ access_puts s k task number i intent w t is = by_mount (slot_at s k) is
 
 -- ---- one slot
 
--- its limits stay, but where the step ends them; and each file is somebody's still
-abbrev Stays : Bool → Slot → Slot → Type 0
-Stays relimited old new = (relimited ≡ false → SameLimits old new) × (are_held old ≡ true → are_held new ≡ true)
+-- its limits stay, but where the step ends them; each file is somebody's still; and all stays where the step is not on the slot
+abbrev Stays : (relimited on : Bool) → Slot → Slot → Type 0
+Stays relimited on old new = (relimited ≡ false → SameLimits old new) × (are_held old ≡ true → are_held new ≡ true) × (on ≡ false → new ≡ old)
 
-stays_same : (b : Bool) (x : Slot) → Stays b x x
-stays_same b None = (λ e. tt, λ e. refl)
-stays_same b (Some m) = (λ e. refl, λ e. e)
+never : {X : Type 0} (x y : X) (c : Bool) → c ≡ true → c ≡ false → x ≡ y
+never x y c on off = cc
 
-swept_stays : (b : Bool) (m : Mount) (files : List File) → Stays b (Some m) (Some (record m { files = filter is_kept files }))
-swept_stays b m files = (λ e. refl, λ e. all_filter is_kept files)
+stays_same : (b c : Bool) (x : Slot) → Stays b c x x
+stays_same b c None = (λ e. tt, λ e. refl, λ e. refl)
+stays_same b c (Some m) = (λ e. refl, λ e. e, λ e. refl)
 
-edited_stays : (b : Bool) (m : Mount) (k : ℕ) (f : File) → Stays b (Some m) (Some (with_edit m k f))
-edited_stays b m k f = swept_stays b m (with_file m k f).files
+module _ (b c : Bool) (on : c ≡ true) (m : Mount) where
+  swept_stays : (files : List File) → Stays b c (Some m) (Some (record m { files = filter is_kept files }))
+  swept_stays files = (λ e. refl, λ e. all_filter is_kept files, never _ _ c on)
 
-maps_stay : (b : Bool) (m : Mount) (g : List Map → List Map) → Stays b (Some m) (Some (with_maps g m))
-maps_stay b m g = swept_stays b m (map (λ (x : File). record x { maps = g x.maps }) m.files)
+  edited_stays : (k : ℕ) (f : File) → Stays b c (Some m) (Some (with_edit m k f))
+  edited_stays k f = swept_stays (with_file m k f).files
 
-put_stays : (b : Bool) (m : Mount) (k : ℕ) (f : File) → is_kept f ≡ true → Stays b (Some m) (Some (with_file m k f))
-put_stays b m k f on = (λ e. refl, λ e. all_set is_kept m.files k f on e)
+  maps_stay : (g : List Map → List Map) → Stays b c (Some m) (Some (with_maps g m))
+  maps_stay g = swept_stays (map (λ (x : File). record x { maps = g x.maps }) m.files)
 
-more_stays : (b : Bool) (m : Mount) (f : File) → is_kept f ≡ true → Stays b (Some m) (Some (record m { files = m.files ++ f ∷ [] }))
-more_stays b m f on = (λ e. refl, λ e. all_more is_kept m.files f on e)
+  put_stays : (k : ℕ) (f : File) → is_kept f ≡ true → Stays b c (Some m) (Some (with_file m k f))
+  put_stays k f kept = (λ e. refl, λ e. all_set is_kept m.files k f kept e, never _ _ c on)
+
+  more_stays : (f : File) → is_kept f ≡ true → Stays b c (Some m) (Some (record m { files = m.files ++ f ∷ [] }))
+  more_stays f kept = (λ e. refl, λ e. all_more is_kept m.files f kept e, never _ _ c on)
 
 -- ---- a step
 
 module _ (s : State) (t : State) where
   abbrev pub AllStay : Step → Reply → Type 0
-  AllStay x reply = (j : ℕ) → Stays (is_relimited x reply j) (slot_at s j) (slot_at t j)
+  AllStay x reply = (j : ℕ) → Stays (is_relimited x reply j) (is_on x j) (slot_at s j) (slot_at t j)
 
   module _ (x : Step) (reply : Reply) where
     abbrev R : ℕ → Slot → Slot → Type 0
-    R j old new = Stays (is_relimited x reply j) old new
+    R j old new = Stays (is_relimited x reply j) (is_on x j) old new
 
     same : (j : ℕ) (y : Slot) → R j y y
-    same j y = stays_same (is_relimited x reply j) y
+    same j y = stays_same (is_relimited x reply j) (is_on x j) y
 
     rest : t ≡ s → AllStay x reply
     rest e = at_rest R same s t (ap (λ u. u.slots) e)
 
-    access_stays : (k task number : ℕ) → (t ≡ s) ⊎ Puts s k task number t → AllStay x reply
-    access_stays k task number (inl e) = rest e
-    access_stays k task number (inr there) = by_mount (slot_at s k) refl there
+    access_stays : (k task number : ℕ) → is_on x k ≡ true → (t ≡ s) ⊎ Puts s k task number t → AllStay x reply
+    access_stays k task number on (inl e) = rest e
+    access_stays k task number on (inr there) = by_mount (slot_at s k) refl there
       where
         by_spot : (m : Mount) → slot_at s k ≡ Some m → (o : Option Spot) → spot m (is_map task number) ≡ o
             → There o (λ p. (f : File) × (length f.maps ≡ length p.file.maps) × LeavesMount s k (with_file m p.file_no f) t) → AllStay x reply
@@ -147,15 +151,16 @@ module _ (s : State) (t : State) where
             let many : length there.0.maps ≡ length p.file.maps = there.1 in
             let within = at.map.within in
             leaves_to R same s t k (Some (with_file m p.file_no there.0)) there.2
-            (subst (λ o. R k o (Some (with_file m p.file_no there.0))) (sym is) (put_stays (is_relimited x reply k) m p.file_no there.0 (some_maps there.0 (omega (arith, many, within)))))
+            (subst (λ o. R k o (Some (with_file m p.file_no there.0))) (sym is)
+            (put_stays (is_relimited x reply k) (is_on x k) on m p.file_no there.0 (some_maps there.0 (omega (arith, many, within)))))
 
         by_mount : (o : Slot) → slot_at s k ≡ o
             → There o (λ m. There (spot m (is_map task number)) (λ p. (f : File) × (length f.maps ≡ length p.file.maps) × LeavesMount s k (with_file m p.file_no f) t)) → AllStay x reply
         by_mount None is there = absurd there
         by_mount (Some m) is there = by_spot m is (spot m (is_map task number)) refl there
 
-    edit_stays : (k : ℕ) (name : List ℕ) (g : ℕ × File → File) → OnFile s k name (λ m f. LeavesMount s k (with_edit m f.0 (g f)) t) → AllStay x reply
-    edit_stays k name g is = file_to R same s t k name (λ m f. with_edit m f.0 (g f)) is (λ m f at named. edited_stays (is_relimited x reply k) m f.0 (g f))
+    edit_stays : (k : ℕ) (name : List ℕ) (g : ℕ × File → File) → is_on x k ≡ true → OnFile s k name (λ m f. LeavesMount s k (with_edit m f.0 (g f)) t) → AllStay x reply
+    edit_stays k name g on is = file_to R same s t k name (λ m f. with_edit m f.0 (g f)) is (λ m f at named. edited_stays (is_relimited x reply k) (is_on x k) on m f.0 (g f))
 
   ended : (k : ℕ) → (k == k) ≡ true
   ended k = eq-eqb k k refl
@@ -174,9 +179,9 @@ module _ (s : State) (t : State) where
           → There o (λ home. IsButNodes (record s { table = s.table ++ (child, home) ∷ []; slots = where_mapped parent (with_maps (with_childs parent child)) s.slots }) t) → AllStay x (Ok a)
       by_home None there = absurd there
       by_home (Some home) left =
-          task_to (R x (Ok a)) (same x (Ok a)) s t parent (with_maps (with_childs parent child)) (ap (λ u. u.slots) left.0) (λ k m e. maps_stay false m (with_childs parent child))
+          task_to (R x (Ok a)) (same x (Ok a)) s t parent (with_maps (with_childs parent child)) (ap (λ u. u.slots) left.0) (λ k m e. maps_stay false true refl m (with_childs parent child))
   answered_stay (step.Exit task) a is =
-      task_to (R (step.Exit task) (Ok a)) (same (step.Exit task) (Ok a)) s t task (with_maps (of_others task)) (ap (λ u. u.slots) is.0) (λ k m e. maps_stay false m (of_others task))
+      task_to (R (step.Exit task) (Ok a)) (same (step.Exit task) (Ok a)) s t task (with_maps (of_others task)) (ap (λ u. u.slots) is.0) (λ k m e. maps_stay false true refl m (of_others task))
   answered_stay (step.Mount k options) a is = by_limits (limits s.nr s.page_size (wanted_of options)) is.1
     where
       x : Step
@@ -186,7 +191,7 @@ module _ (s : State) (t : State) where
       by_limits (Err e) h = absurd h
       by_limits (Ok l) left =
           leaves_to (R x (Ok a)) (same x (Ok a)) s t k (Some (record { limits = l; files = [] })) left
-          (subst (λ o. R x (Ok a) k o (Some (record { limits = l; files = [] }))) (sym is.0) (λ e. tt, λ e. refl))
+          (subst (λ o. R x (Ok a) k o (Some (record { limits = l; files = [] }))) (sym is.0) (λ e. tt, λ e. refl, never _ _ (k == k) (ended k)))
   answered_stay (step.Remount k options) a is = by_mount (slot_at s k) refl is
     where
       x : Step
@@ -196,13 +201,13 @@ module _ (s : State) (t : State) where
       by_limits m at (Err e) h = absurd h
       by_limits m at (Ok l) left =
           leaves_to (R x (Ok a)) (same x (Ok a)) s t k (Some (record m { limits = l })) left
-          (subst (λ o. R x (Ok a) k o (Some (record m { limits = l }))) (sym at) (λ e. (let off : true ≡ false = sym (ended k) ∙ e in cc), λ e. e))
+          (subst (λ o. R x (Ok a) k o (Some (record m { limits = l }))) (sym at) (λ e. (let off : true ≡ false = sym (ended k) ∙ e in cc), λ e. e, never _ _ (k == k) (ended k)))
 
       by_mount : (o : Slot) → slot_at s k ≡ o → There o (λ m. WithLimits s options (λ l. LeavesMount s k (record m { limits = l }) t)) → AllStay x (Ok a)
       by_mount None at there = absurd there
       by_mount (Some m) at there = by_limits m at (limits s.nr s.page_size (wanted_of options)) there
   answered_stay (step.Umount k) a is =
-      leaves_to (R (step.Umount k) (Ok a)) (same (step.Umount k) (Ok a)) s t k None is (λ e. (let off : true ≡ false = sym (ended k) ∙ e in cc), λ e. refl)
+      leaves_to (R (step.Umount k) (Ok a)) (same (step.Umount k) (Ok a)) s t k None is (λ e. (let off : true ≡ false = sym (ended k) ∙ e in cc), λ e. refl, never _ _ (k == k) (ended k))
   answered_stay (step.Create k name) a is = by_mount (slot_at s k) refl is
     where
       x : Step
@@ -213,10 +218,10 @@ module _ (s : State) (t : State) where
       by_mount (Some m) at e =
           set_to (R x (Ok a)) (same x (Ok a)) s t k (Some (record m { files = m.files ++ record { name = Some name; cells = []; maps = [] } ∷ [] })) (ap (λ u. u.slots) e)
           (subst (λ o. R x (Ok a) k o (Some (record m { files = m.files ++ record { name = Some name; cells = []; maps = [] } ∷ [] }))) (sym at)
-          (more_stays false m (record { name = Some name; cells = []; maps = [] }) refl))
-  answered_stay (step.Unlink k name) a is = edit_stays (step.Unlink k name) (Ok a) k name (λ f. record f.1 { name = None }) is
-  answered_stay (step.Truncate k name n) a is = edit_stays (step.Truncate k name n) (Ok a) k name (λ f. cut_from n f.1) is
-  answered_stay (step.Punch k name from to) a is = edit_stays (step.Punch k name from to) (Ok a) k name (λ f. cut_out (is_in from to) f.1) is
+          (more_stays false (k == k) (ended k) m (record { name = Some name; cells = []; maps = [] }) refl))
+  answered_stay (step.Unlink k name) a is = edit_stays (step.Unlink k name) (Ok a) k name (λ f. record f.1 { name = None }) (ended k) is
+  answered_stay (step.Truncate k name n) a is = edit_stays (step.Truncate k name n) (Ok a) k name (λ f. cut_from n f.1) (ended k) is
+  answered_stay (step.Punch k name from to) a is = edit_stays (step.Punch k name from to) (Ok a) k name (λ f. cut_out (is_in from to) f.1) (ended k) is
   answered_stay (step.Preallocate k name from to) a is = by_mount (slot_at s k) refl is
     where
       x : Step
@@ -229,7 +234,7 @@ module _ (s : State) (t : State) where
           let new : Slot = Some (with_file m f.0 (with_pages_there s.page_size from to there.0 f.1)) in
           leaves_to (R x (Ok a)) (same x (Ok a)) s t k new there.1
           (subst (λ o. R x (Ok a) k o new) (sym at)
-          (put_stays false m f.0 (with_pages_there s.page_size from to there.0 f.1)
+          (put_stays false (k == k) (ended k) m f.0 (with_pages_there s.page_size from to there.0 f.1)
           (is_open name (with_pages_there s.page_size from to there.0 f.1) (found_place (has_name name) m.files f named).passes)))
 
       by_mount : (o : Slot) → slot_at s k ≡ o
@@ -246,7 +251,8 @@ module _ (s : State) (t : State) where
       by_number m at f (MapNo number) is =
           let g : File = with_map_made task number from n sharing reserving f.1 in
           leaves_to (R x (Ok a)) (same x (Ok a)) s t k (Some (with_file m f.0 g)) is.1
-          (subst (λ o. R x (Ok a) k o (Some (with_file m f.0 g))) (sym at) (put_stays false m f.0 g (some_maps g (one_more f.1.maps (map_made task number from n sharing reserving)))))
+          (subst (λ o. R x (Ok a) k o (Some (with_file m f.0 g))) (sym at)
+          (put_stays false (k == k) (ended k) m f.0 g (some_maps g (one_more f.1.maps (map_made task number from n sharing reserving)))))
       by_number m at f other is = absurd is
 
       by_file : (m : Mount) → slot_at s k ≡ Some m → (o : Option (ℕ × File))
@@ -270,7 +276,7 @@ module _ (s : State) (t : State) where
       by_number : (m : Mount) → slot_at s 0 ≡ Some m → (b : Answer) → IsNewNumber m task b (λ number. LeavesMount s 0 (record m { files = m.files ++ made number ∷ [] }) t) → AllStay x (Ok a)
       by_number m at (MapNo number) is =
           leaves_to (R x (Ok a)) (same x (Ok a)) s t 0 (Some (record m { files = m.files ++ made number ∷ [] })) is.1
-          (subst (λ o. R x (Ok a) 0 o (Some (record m { files = m.files ++ made number ∷ [] }))) (sym at) (more_stays false m (made number) (some_maps (made number) (omega arith))))
+          (subst (λ o. R x (Ok a) 0 o (Some (record m { files = m.files ++ made number ∷ [] }))) (sym at) (more_stays false true refl m (made number) (some_maps (made number) (omega arith))))
       by_number m at other is = absurd is
 
       by_mount : (o : Slot) → slot_at s 0 ≡ o → There o (λ m. IsNewNumber m task a (λ number. LeavesMount s 0 (record m { files = m.files ++ made number ∷ [] }) t)) → AllStay x (Ok a)
@@ -278,12 +284,12 @@ module _ (s : State) (t : State) where
       by_mount (Some m) at there = by_number m at a there
   answered_stay (step.Unmap task k number from to) a is =
       mount_to (R (step.Unmap task k number from to) (Ok a)) (same (step.Unmap task k number from to) (Ok a)) s t k (with_maps (unmapped task number from to)) is
-      (λ m at. maps_stay false m (unmapped task number from to))
-  answered_stay (step.Fault task k number i intent) a is = access_stays (step.Fault task k number i intent) (Ok a) k task number (access_puts s k task number i intent (λ old. old) t is)
+      (λ m at. maps_stay false (k == k) (ended k) m (unmapped task number from to))
+  answered_stay (step.Fault task k number i intent) a is = access_stays (step.Fault task k number i intent) (Ok a) k task number (ended k) (access_puts s k task number i intent (λ old. old) t is)
   answered_stay (step.Load task k number i offset count) a is =
-      access_stays (step.Load task k number i offset count) (Ok a) k task number (access_puts s k task number i Read (λ old. old) t is)
+      access_stays (step.Load task k number i offset count) (Ok a) k task number (ended k) (access_puts s k task number i Read (λ old. old) t is)
   answered_stay (step.Store task k number i offset bytes) a is =
-      access_stays (step.Store task k number i offset bytes) (Ok a) k task number (access_puts s k task number i Write (over offset bytes) t is)
+      access_stays (step.Store task k number i offset bytes) (Ok a) k task number (ended k) (access_puts s k task number i Write (over offset bytes) t is)
   answered_stay x a is = rest x (Ok a) is
 
   -- what is refused
@@ -301,18 +307,18 @@ module _ (s : State) (t : State) where
           → MatchBool b (t ≡ s) ((done : ℕ → Bool) × IsButNodes (record s { slots = at_each (λ k slot. if done k then clears slot else slot) 0 s.slots }) t) → AllStay x (Err r)
       by_known true e = rest x (Err r) e
       by_known false is = λ j.
-          subst (λ (xs : List Slot). Stays false (slot_at s j) (get_or xs j None)) (sym (ap (λ u. u.slots) is.1.0))
-          (each_at (λ y. Stays false (slot_at s j) y) (λ k slot. if is.0 k then clears slot else slot) None (λ i. none (is.0 i)) 0 s.slots j (λ i. by_slot (slot_at s j) (is.0 i)))
+          subst (λ (xs : List Slot). Stays false true (slot_at s j) (get_or xs j None)) (sym (ap (λ u. u.slots) is.1.0))
+          (each_at (λ y. Stays false true (slot_at s j) y) (λ k slot. if is.0 k then clears slot else slot) None (λ i. none (is.0 i)) 0 s.slots j (λ i. by_slot (slot_at s j) (is.0 i)))
         where
           none : (b : Bool) → (if b then clears None else None) ≡ None
           none true = refl
           none false = refl
 
-          by_slot : (o : Slot) (b : Bool) → Stays false o (if b then clears o else o)
-          by_slot None true = stays_same false None
-          by_slot None false = stays_same false None
-          by_slot (Some m) true = maps_stay false m (of_others child)
-          by_slot (Some m) false = stays_same false (Some m)
+          by_slot : (o : Slot) (b : Bool) → Stays false true o (if b then clears o else o)
+          by_slot None true = stays_same false true None
+          by_slot None false = stays_same false true None
+          by_slot (Some m) true = maps_stay false true refl m (of_others child)
+          by_slot (Some m) false = stays_same false true (Some m)
   refused_stay x r is = grind (arith, rest)
 
   pub all_stay : (x : Step) (reply : Reply) → HasFootprint s x reply t → AllStay x reply

@@ -15,7 +15,7 @@ use Rattle.hp_laws.proofs.accesses.SlotShows.{always_unless}
 
 -- ---- the same keys
 
-key_set : {X K : Type 0} (key : X → K) (xs : List X) (k : ℕ) (y : X) → key y ≡ key (get_or xs k y) → map key (slice_set xs k y) ≡ map key xs
+pub key_set : {X K : Type 0} (key : X → K) (xs : List X) (k : ℕ) (y : X) → key y ≡ key (get_or xs k y) → map key (slice_set xs k y) ≡ map key xs
 key_set key [] k y same = refl
 key_set key (x ∷ xs) zero y same = ap (λ z. z ∷ map key xs) same
 key_set key (x ∷ xs) (suc k) y same = ap (λ zs. key x ∷ zs) (key_set key xs k y same)
