@@ -3,5 +3,6 @@ pub mod Slots
 pub mod Stays
 pub mod Gone
 pub mod CutOff
+pub mod Set
 pub mod Touched
 pub mod Follows

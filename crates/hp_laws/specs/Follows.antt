@@ -1,5 +1,5 @@
 -- What follows from the promises of each step: what names and numbers mean afterwards, and what they show.
-use Rattle.std.specs.Prelude.{◌≡◌, ◌⊎◌, ℕ, ◌≤◌, ◌&&◌, ◌||◌, ◌==◌, Bool, true, false, not, Option, None, Some, is_some, Ok, List, length, if◌then◌else◌, nat_le}
+use Rattle.std.specs.Prelude.{◌≡◌, ◌⊎◌, ℕ, ◌≤◌, ◌&&◌, ◌||◌, ◌==◌, Bool, true, false, not, Option, None, Some, is_some, Ok, List, length, min, sum, if◌then◌else◌, nat_le}
 use Rattle.std.specs.List.{count_by, list_all}
 use Rattle.std.specs.Str.{bytes_eq}
 use Rattle.hp_model.specs.declared.place.Place.{Place}
@@ -7,7 +7,7 @@ use Rattle.hp_model.specs.declared.step.Intent.{Intent}
 use Rattle.hp_model.specs.declared.step.Intent.TheVariants.{Read, Write}
 use Rattle.hp_model.specs.declared.step.Sharing.{Sharing}
 use Rattle.hp_model.specs.declared.step.Step.{Step}
-use Rattle.hp_model.specs.declared.step.Step.TheVariants.{Anon, Create, Df, Exit, Fault, Fork, Load, Ls, Map as MapStep, Mount as MountStep, Preallocate}
+use Rattle.hp_model.specs.declared.step.Step.TheVariants.{Anon, Connect, Create, Df, Exit, Fault, Fork, Load, Ls, Map as MapStep, Mount as MountStep, Nr, Overcommit, Preallocate}
 use Rattle.hp_model.specs.declared.step.Step.TheVariants.{Punch as PunchStep, Read as ReadStep, Remount, Stat, Store, Truncate as TruncateStep, Umount, Unlink as UnlinkStep}
 use Rattle.hp_model.specs.declared.step.Step.TheVariants.{Unmap as UnmapStep}
 use Rattle.hp_model.specs.files.CopyWrite.{holds}
@@ -17,11 +17,12 @@ use Rattle.hp_model.specs.files.Mapping.{Map, copy_of, is_map, is_mapped, is_sha
 use Rattle.hp_model.specs.files.Page.{Copy, zeros}
 use Rattle.hp_model.specs.files.Spot.{Spot}
 use Rattle.hp_model.specs.files.Value.{shown, value}
-use Rattle.hp_model.specs.machine.Footprint.{There, over}
+use Rattle.hp_model.specs.machine.Footprint.{There, frames_in, over}
 use Rattle.hp_model.specs.machine.Named.{is_in, map_named, named_on}
 use Rattle.hp_model.specs.machine.Plan.{Reply, Slot}
 use Rattle.hp_model.specs.machine.SlotEvent.{has_name}
 use Rattle.hp_model.specs.machine.State.{State, slot_at}
+use Rattle.hp_model.specs.machine.Table.{home_of}
 use Rattle.hp_model.specs.machine.Tests.{is_cut_off}
 
 -- ---- where names and numbers stand
@@ -291,11 +292,36 @@ IsGone (UnmapStep task k number from to) (Ok a) t =
     (q : Spot) → map_named t k task number ≡ Some q → is_mapped q.map ≡ true
 IsGone step reply t = Unit {0}
 
+-- ---- the tasks, nr and overcommit
+
+-- a task's home afterwards: one that connects has the home that it named, a child its parent's, and one that left none; others keep theirs
+abbrev pub home_after : State → Step → Reply → (task : ℕ) → Option ℕ
+home_after s (Connect new home) (Ok a) task = if new == task then Some home else home_of s.table task
+home_after s (Fork parent child) (Ok a) task = if child == task then home_of s.table parent else home_of s.table task
+home_after s (Exit gone) (Ok a) task = if gone == task then None else home_of s.table task
+home_after s step reply task = home_of s.table task
+
+-- as many as were asked for, or as there are frames
+abbrev pub nr_after : State → Step → Reply → ℕ
+nr_after s (Nr n) (Ok a) = min n (sum (frames_in s))
+nr_after s step reply = s.nr
+
+abbrev pub overcommit_after : State → Step → Reply → ℕ
+overcommit_after s (Overcommit n) (Ok a) = n
+overcommit_after s step reply = s.overcommit
+
+pub record IsSet (s : State) (step : Step) (reply : Reply) (t : State) : Type 0 where
+  pub homes : (task : ℕ) → home_of t.table task ≡ home_after s step reply task
+  pub nr : t.nr ≡ nr_after s step reply
+  pub overcommit : t.overcommit ≡ overcommit_after s step reply
+
 -- ---- a step
 
 pub record Follows (s : State) (step : Step) (reply : Reply) (t : State) : Type 0 where
   -- a step leaves every slot that it is not on as it was
   pub elsewhere : (slot : ℕ) → is_on step slot ≡ false → slot_at t slot ≡ slot_at s slot
+  -- what the step makes of tasks, nr and overcommit, and nothing else does
+  pub settings : IsSet s step reply t
   -- a mount stays until its umount, and its limits until its umount or a remount
   pub mounts : (slot : ℕ) → is_relimited step reply slot ≡ false → SameLimits (slot_at s slot) (slot_at t slot)
   -- each name keeps its file, which shows what it showed, but for what a step stores, cuts off or punches

@@ -8,6 +8,7 @@ use Rattle.hp_laws.specs.Follows.{AreOnce, IsGone, Touches}
 use Rattle.hp_laws.specs.Laws.{WhatFollows}
 use Rattle.hp_laws.proofs.follows.CutOff.{stopped}
 use Rattle.hp_laws.proofs.follows.Gone.{step_gone}
+use Rattle.hp_laws.proofs.follows.Set.{step_set}
 use Rattle.hp_laws.proofs.follows.Stays.{all_stay}
 use Rattle.hp_laws.proofs.follows.Touched.{touched}
 use Rattle.hp_laws.proofs.footprint.Footprint.{step_footprint}
@@ -33,6 +34,7 @@ follows s step reply t st is =
     let stay = all_stay s t step reply (step_footprint s st step reply t is) in
     record {
       elsewhere = λ slot. (stay slot).2;
+      settings = step_set s t step reply (step_meets s reply t step is) (step_footprint s st step reply t is);
       mounts = λ slot. (stay slot).0;
       files = λ slot. (meant slot).names;
       maps = λ slot. (meant slot).numbers;

@@ -50,7 +50,7 @@ length-each f n (x ∷ xs) = ap suc (length-each f (n + 1) xs)
 -- ---- an access
 
 -- it leaves all, or another file in the place of its map's, with as many maps
-abbrev Puts : State → (k task number : ℕ) → State → Type 0
+abbrev pub Puts : State → (k task number : ℕ) → State → Type 0
 Puts s k task number t =
     There (slot_at s k) (λ m. There (spot m (is_map task number)) (λ p. (f : File) × (length f.maps ≡ length p.file.maps) × LeavesMount s k (with_file m p.file_no f) t))
 
@@ -71,7 +71,7 @@ copy_puts s k m p i Write w (Some c) t is = by_once (is_held_once p.file c.stamp
     by_once false (inl new) = inr (_, length-set p.file.maps p.map_no _, new.3)
     by_once false (inr back) = inr (_, length-each _ 0 p.file.maps, same_but _ t back.2)
 
-access_puts : (s : State) (k task number i : ℕ) (intent : Intent) (w : List ℕ → List ℕ) (t : State) → IsAccess s k task number i intent w t → (t ≡ s) ⊎ Puts s k task number t
+pub access_puts : (s : State) (k task number i : ℕ) (intent : Intent) (w : List ℕ → List ℕ) (t : State) → IsAccess s k task number i intent w t → (t ≡ s) ⊎ Puts s k task number t
 access_puts s k task number i intent w t is = by_mount (slot_at s k) is
   where
     Mapped : Mount → Spot → Type 0
