@@ -1,4 +1,4 @@
--- What steps leave as it was.
+-- What names and numbers keep after a step, and what sections leave of nr.
 pub mod Homes
 pub mod SettingsKept
 pub mod Meant

@@ -1,4 +1,4 @@
--- What a created file, a new map and a mount are.
+-- What a new map's number and a remount are.
 pub mod Remounts
 pub mod NewNumbers
 pub mod FilesMade

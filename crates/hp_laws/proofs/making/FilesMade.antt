@@ -1,4 +1,4 @@
--- A created file and a new map are what their reply says.
+-- The number of a new map is new, and a file that lacks no page of a range is long enough.
 use Rattle.std.proofs.lemmas.Grind.{common_steps}
 use Rattle.std.proofs.Common.{◌≡◌, ℕ, ◌<◌, ◌||◌, Bool, true, false, None, Option, Some, List, nat_le, nat_lt, ◌≤◌, ⊎_elim, arith, ◌-◌, [], ◌∷◌, ◌++◌, length, is_some}
 use Rattle.std.proofs.Common.{option_map, refl, sym, ap, ◌∙◌, if◌then◌else◌, flat_map}
