@@ -3,6 +3,7 @@ pub mod Slots
 pub mod Stays
 pub mod Gone
 pub mod CutOff
+pub mod Others
 pub mod Set
 pub mod Touched
 pub mod Follows

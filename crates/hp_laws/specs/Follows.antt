@@ -292,6 +292,22 @@ IsGone (UnmapStep task k number from to) (Ok a) t =
     (q : Spot) → map_named t k task number ≡ Some q → is_mapped q.map ≡ true
 IsGone step reply t = Unit {0}
 
+-- the map as it was, with its copies, marks and reservations, and all cells of its file
+abbrev pub IsSame : (p q : Spot) → Type 0
+IsSame p q = (q.map ≡ p.map) × (q.file.cells ≡ p.file.cells)
+
+-- every map of other tasks is so
+abbrev pub AreWhole : (gone : ℕ) → (s t : State) → Type 0
+AreWhole gone s t =
+    (slot task number : ℕ) (p : Spot) → (gone == task) ≡ false
+    → map_named s slot task number ≡ Some p → There (map_named t slot task number) (IsSame p)
+
+-- an exit and a fork leave whole what is not the task's, or the child's
+abbrev pub LeavesWhole : State → Step → State → Type 0
+LeavesWhole s (Exit gone) t = AreWhole gone s t
+LeavesWhole s (Fork parent child) t = AreWhole child s t
+LeavesWhole s step t = Unit {0}
+
 -- ---- the tasks, nr and overcommit
 
 -- a task's home afterwards: one that connects has the home that it named, a child its parent's, and one that left none; others keep theirs
@@ -335,6 +351,8 @@ pub record Follows (s : State) (step : Step) (reply : Reply) (t : State) : Type 
   pub together : (slot : ℕ) (a b : ℕ × ℕ) (p o : Spot)
       → IsKeptMap s step reply slot a p → IsKeptMap s step reply slot b o
       → SameFiles (p.file_no == o.file_no) (map_named t slot a.0 a.1) (map_named t slot b.0 b.1)
+  -- a fork and an exit leave every map of other tasks as it was
+  pub whole : LeavesWhole s step t
   -- an access that is answered leaves its page there for its map
   pub touched : Touches step reply t
   -- an access through a marked map is not answered where it has no copy

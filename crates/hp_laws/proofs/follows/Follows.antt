@@ -8,6 +8,7 @@ use Rattle.hp_laws.specs.Follows.{AreOnce, IsGone, Touches}
 use Rattle.hp_laws.specs.Laws.{WhatFollows}
 use Rattle.hp_laws.proofs.follows.CutOff.{stopped}
 use Rattle.hp_laws.proofs.follows.Gone.{step_gone}
+use Rattle.hp_laws.proofs.follows.Others.{step_whole}
 use Rattle.hp_laws.proofs.follows.Set.{step_set}
 use Rattle.hp_laws.proofs.follows.Stays.{all_stay}
 use Rattle.hp_laws.proofs.follows.Touched.{touched}
@@ -39,6 +40,7 @@ follows s step reply t st is =
       files = λ slot. (meant slot).names;
       maps = λ slot. (meant slot).numbers;
       together = λ slot. (meant slot).together;
+      whole = step_whole s t step reply (step_footprint s st step reply t is);
       touched = all_touched s t step reply (step_footprint s st step reply t is) (step_meets s reply t step is);
       cut_off = stopped s step reply (step_meets s reply t step is);
       gone = all_gone s t st step reply (step_footprint s st step reply t is);
