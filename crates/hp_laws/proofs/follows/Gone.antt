@@ -1,5 +1,5 @@
 -- What a step ends is gone, by the footprint.
-use Rattle.std.proofs.Common.{◌≡◌, ⊎_elim, subst, ℕ, zero, suc, ◌<◌, ◌≤◌, ◌||◌, Bool, true, false, not, None, Option, Some, Ok, List, [], ◌∷◌, length, map, option_map, refl, sym, ap, ◌∙◌, arith}
+use Rattle.std.proofs.Common.{◌≡◌, ⊎_elim, subst, ℕ, zero, suc, ◌<◌, ◌≤◌, ◌||◌, Bool, true, false, not, None, Some, Ok, List, [], ◌∷◌, length, map, option_map, refl, sym, ap, ◌∙◌, arith}
 use Rattle.std.proofs.Common.{filter, get_or, slice_set, if◌then◌else◌, count_by}
 use Rattle.std.specs.List.{list_any}
 use Rattle.std.proofs.lemmas.Bool.{cases_lt, false_from_ne_true, or_cases}
@@ -8,14 +8,14 @@ use Rattle.std.proofs.lemmas.List.Sums.{sum_by-set}
 use Rattle.hp_laws.proofs.Variants.{Answer, Gone as GonePlace}
 use Rattle.hp_model.specs.declared.step.Step.{Step}
 use Rattle.hp_model.specs.declared.step.Step.TheVariants as step
-use Rattle.hp_model.proofs.Words.{File, IsSettledState, IsSound, IsSoundMount, Map, Mount, Slot, Spot, State, file_named, has_maps_of, has_name, is_in, is_kept, is_map, is_mapped, is_of, map_named}
+use Rattle.hp_model.proofs.Words.{File, IsSettledState, IsSound, IsSoundMount, Map, Mount, Slot, Spot, State, file_named, has_maps_of, has_name, is_in, is_kept, is_map, is_mapped, is_of}
 use Rattle.hp_model.proofs.Words.{named_on, new_file, no_map}
 use Rattle.hp_model.proofs.Words.{slot_at, spot, spot_on, with_file}
 use Rattle.hp_laws.specs.Follows.{IsGone}
-use Rattle.hp_model.specs.machine.Footprint.{Changes, LeavesMount, There, of_others, unmapped, with_edit, with_maps, with_places}
+use Rattle.hp_model.specs.machine.Footprint.{Changes, of_others, unmapped, with_edit, with_maps, with_places}
 use Rattle.hp_laws.proofs.counts.MountMoves.{spot_is}
 use Rattle.hp_laws.proofs.ending.Unmaps.{spot_passes}
-use Rattle.hp_laws.proofs.follows.Slots.{mapped_at}
+use Rattle.hp_laws.proofs.follows.Slots.{mapped_at, there_all}
 use Rattle.hp_laws.proofs.lists.AtMostOne.{bit, some_counted}
 use Rattle.hp_laws.proofs.lists.Places.{any_filter, found_place}
 use Rattle.hp_laws.proofs.making.FilesMade.{any_in_files, spot_none}
@@ -149,26 +149,14 @@ module _ (s t : State) where
           by_test : (c : Bool) → has_maps_of task (Some m) ≡ c → spot_on (if c then Some (with_maps (of_others task) m) else Some m) task number ≡ None
           by_test true is = no_map_of task number (Some (with_maps (of_others task) m)) (others_only task m)
           by_test false is = no_map_of task number (Some m) is
-  step_gone st (step.Unlink k name) a is = by_mount (slot_at s k) refl is
-    where
-      by_file : (m : Mount) → slot_at s k ≡ Some m → (o : Option (ℕ × File)) → file_named m name ≡ o
-          → There o (λ f. LeavesMount s k (with_edit m f.0 (record f.1 { name = None })) t) → named_on (slot_at t k) name ≡ None
-      by_file m at None named there = absurd there
-      by_file m at (Some f) named there =
-          subst (λ (xs : List Slot). named_on (get_or xs k None) name ≡ None) (sym (ap (λ u. u.slots) there.0))
-          (put_here (λ x. named_on x name ≡ None) s.slots k (Some (with_edit m f.0 (record f.1 { name = None }))) None
-          (name_ends name m (subst IsSound at (left_sound s k (in_range s k m at) st)) f named) refl)
-
-      by_mount : (o : Slot) → slot_at s k ≡ o → There o (λ m. There (file_named m name) (λ f. LeavesMount s k (with_edit m f.0 (record f.1 { name = None })) t))
-          → named_on (slot_at t k) name ≡ None
-      by_mount None at there = absurd there
-      by_mount (Some m) at there = by_file m at (file_named m name) refl there
-  step_gone st (step.Unmap task k number a b) x is = by_mount (slot_at s k) is
-    where
-      by_mount : (o : Slot) → There o (λ m. LeavesMount s k (with_maps (unmapped task number a b) m) t) → (q : Spot) → map_named t k task number ≡ Some q → is_mapped q.map ≡ true
-      by_mount None there = λ q e. absurd there
-      by_mount (Some m) there =
-          subst (λ (xs : List Slot). (q : Spot) → spot_on (get_or xs k None) task number ≡ Some q → is_mapped q.map ≡ true) (sym (ap (λ u. u.slots) there.0))
-          (put_here (λ x. (q : Spot) → spot_on x task number ≡ Some q → is_mapped q.map ≡ true) s.slots k (Some (with_maps (unmapped task number a b) m)) None
-          (number_left task number a b m) (λ q e. cc))
+  step_gone st (step.Unlink k name) a is =
+      there_all _ (slot_at s k) is (λ m at there. there_all _ (file_named m name) there (λ f named left.
+      subst (λ (xs : List Slot). named_on (get_or xs k None) name ≡ None) (sym (ap (λ u. u.slots) left.0))
+      (put_here (λ x. named_on x name ≡ None) s.slots k (Some (with_edit m f.0 (record f.1 { name = None }))) None
+      (name_ends name m (subst IsSound at (left_sound s k (in_range s k m at) st)) f named) refl)))
+  step_gone st (step.Unmap task k number a b) x is =
+      there_all _ (slot_at s k) is (λ m at left.
+      subst (λ (xs : List Slot). (q : Spot) → spot_on (get_or xs k None) task number ≡ Some q → is_mapped q.map ≡ true) (sym (ap (λ u. u.slots) left.0))
+      (put_here (λ x. (q : Spot) → spot_on x task number ≡ Some q → is_mapped q.map ≡ true) s.slots k (Some (with_maps (unmapped task number a b) m)) None
+      (number_left task number a b m) (λ q e. cc)))
   step_gone st x a is = grind arith

@@ -1,13 +1,13 @@
 -- A fork and an exit leave the maps of all other tasks as they were: by the footprint.
-use Rattle.std.proofs.Common.{◌≡◌, ◌∙◌, subst, ℕ, ◌==◌, Bool, true, false, None, Option, Some, option_map, Ok, Err, ◌++◌, [], ◌∷◌, map, refl, sym, ap, arith, MatchBool, get_or, if◌then◌else◌}
+use Rattle.std.proofs.Common.{◌≡◌, ◌∙◌, subst, ℕ, ◌==◌, Bool, true, false, None, Option, Some, option_map, Ok, Err, map, refl, sym, ap, arith, MatchBool, get_or, if◌then◌else◌}
 use Rattle.std.proofs.lemmas.Bool.{and_parts, eqb-false, eqb-true, false_from_ne_true}
 use Rattle.hp_model.specs.declared.step.Step.{Step}
 use Rattle.hp_model.specs.declared.step.Step.TheVariants as step
 use Rattle.hp_model.proofs.Words.{File, Mount, Reply, Slot, Spot, State, file_forked, file_without, home_of, is_known, is_map, slot_at, spot, spot_on, swept}
 use Rattle.hp_laws.specs.Follows.{IsSame, LeavesWhole}
-use Rattle.hp_model.specs.machine.Footprint.{HasFootprint, IsButNodes, There, at_each, of_others, where_mapped, with_childs, with_maps}
+use Rattle.hp_model.specs.machine.Footprint.{HasFootprint, IsButNodes, There, at_each, of_others, with_childs, with_maps}
 use Rattle.hp_laws.proofs.ending.Unmaps.{spot_passes}
-use Rattle.hp_laws.proofs.follows.Slots.{at_rest, each_at, task_to}
+use Rattle.hp_laws.proofs.follows.Slots.{at_rest, each_at, task_to, there_all}
 use Rattle.hp_laws.proofs.names.Follows.{FilesFollow, edit_follows, fork_follows, is_not_of, sweep_follows, thin_follows}
 
 there_is : {X : Type 0} (P : X → Type 0) (o : Option X) (x : X) → o ≡ Some x → P x → There o P
@@ -42,13 +42,10 @@ module _ (s t : State) where
   step_whole (step.Exit gone) (Ok a) is =
       task_to (λ j old new. Whole gone old new) (λ j x. same_whole gone x) s t gone (with_maps (of_others gone)) (ap (λ u. u.slots) is.0.0) (λ k m e. without_stays gone m)
   step_whole (step.Exit gone) (Err r) e = at_rest (λ j old new. Whole gone old new) (λ j x. same_whole gone x) s t (ap (λ u. u.slots) e)
-  step_whole (step.Fork parent child) (Ok a) is = by_home (home_of s.table parent) is.0
-    where
-      by_home : (o : Option ℕ) → There o (λ home. IsButNodes (record s { table = s.table ++ (child, home) ∷ []; slots = where_mapped parent (with_maps (with_childs parent child)) s.slots }) t)
-          → LeavesWhole s (step.Fork parent child) t
-      by_home None there = absurd there
-      by_home (Some home) left =
-          task_to (λ j old new. Whole child old new) (λ j x. same_whole child x) s t parent (with_maps (with_childs parent child)) (ap (λ u. u.slots) left.0) (λ k m e. forked_stays child parent m)
+  step_whole (step.Fork parent child) (Ok a) is =
+      there_all _ (home_of s.table parent) is.0
+      (λ home known left. task_to (λ j old new. Whole child old new) (λ j x. same_whole child x) s t parent (with_maps (with_childs parent child)) (ap (λ u. u.slots) left.0)
+      (λ k m e. forked_stays child parent m))
   step_whole (step.Fork parent child) (Err r) is = by_known (is_known s.table child) is
     where
       clears : Slot → Slot

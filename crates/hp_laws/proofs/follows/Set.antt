@@ -1,28 +1,17 @@
 -- What a step makes of the tasks, of nr and of overcommit: by the footprint.
-use Rattle.std.proofs.Common.{◌≡◌, ◌⊎◌, ⊎_elim, ℕ, ◌++◌, ◌==◌, List, length, nat_le, option_map, Bool, true, false, None, Option, Some, Ok, Err, Result, [], ◌∷◌, refl, sym, ap, ◌∙◌, arith, MatchBool}
+use Rattle.std.proofs.Common.{◌≡◌, ◌⊎◌, ⊎_elim, ℕ, ◌++◌, ◌==◌, List, length, nat_le, option_map, Bool, true, false, None, Option, Some, Ok, Err, [], ◌∷◌, refl, sym, ap, ◌∙◌, arith, MatchBool}
 use Rattle.std.proofs.Common.{if◌then◌else◌}
-use Rattle.hp_laws.proofs.Variants.{Answer, Limits, MapNo, NoSuchNode, NoSuchTask, OutOfMemory, Read, Refusal, TaskExists, TooMany, Write}
+use Rattle.hp_laws.proofs.Variants.{Answer, NoSuchNode, NoSuchTask, OutOfMemory, Read, Refusal, TaskExists, TooMany, Write}
 use Rattle.hp_model.specs.declared.step.Step.{Step}
 use Rattle.hp_model.specs.declared.step.Step.TheVariants as step
 use Rattle.hp_model.proofs.Words.{File, IsForkRefusedBy, IsRefusedBy, MeetsTests, Mount, Reply, State, file_named, first_failed, home_of, if_there, is_crowded, is_in, is_known, is_map, limits}
 use Rattle.hp_model.proofs.Words.{slot_at, spot, wanted_of, with_file, with_slot}
 use Rattle.hp_laws.specs.Follows.{IsSet, home_after, nr_after, overcommit_after}
-use Rattle.hp_model.specs.machine.Footprint.{Changes, ChangesRefused, HasFootprint, IsButNodes, IsNewNumber, IsOfLimits, LeavesMount, OnFile}
+use Rattle.hp_model.specs.machine.Footprint.{Changes, ChangesRefused, HasFootprint, IsButNodes, LeavesMount, OnFile}
 use Rattle.hp_model.specs.machine.Footprint.{There, at_each, cut_from, cut_out, of_others, over, unmapped, where_mapped, with_childs, with_edit, with_map_made, with_maps, with_pages_there}
+use Rattle.hp_laws.proofs.follows.Slots.{limits_all, number_all, there_all}
 use Rattle.hp_laws.proofs.follows.Stays.{Puts, access_puts}
 use Rattle.hp_laws.proofs.keeping.Homes.{home_added, home_removed}
-
-there_all : {X Q : Type 0} (P : X → Type 0) (o : Option X) → There o P → ((x : X) → P x → Q) → Q
-there_all P None there h = absurd there
-there_all P (Some x) it h = h x it
-
-number_all : {Q : Type 0} (m : Mount) (task : ℕ) (P : ℕ → Type 0) (a : Answer) → IsNewNumber m task a P → ((n : ℕ) → P n → Q) → Q
-number_all m task P (MapNo n) is h = h n is.1
-number_all m task P other is h = absurd is
-
-limits_all : {Q : Type 0} (P : Limits → Type 0) (r : Result Limits Refusal) → IsOfLimits r P → ((l : Limits) → P l → Q) → Q
-limits_all P (Ok l) is h = h l is
-limits_all P (Err r) is h = absurd is
 
 -- no test has failed
 passed : (b : Bool) (r : Refusal) (more : List (Bool × Refusal)) (a : Answer) → IsRefusedBy (first_failed ((b, r) ∷ more)) (Ok a) → b ≡ false
@@ -46,10 +35,10 @@ module _ (s t : State) where
 
   puts : (k task number : ℕ) → (t ≡ s) ⊎ Puts s k task number t → Same
   puts k task number both =
-      ⊎_elim (λ e. itself e) (λ there. there_all _ (slot_at s k) there (λ m found. there_all _ (spot m (is_map task number)) found (λ p it. by_mount k (with_file m p.file_no it.0) it.2))) both
+      ⊎_elim (λ e. itself e) (λ there. there_all _ (slot_at s k) there (λ m at found. there_all _ (spot m (is_map task number)) found (λ p at it. by_mount k (with_file m p.file_no it.0) it.2))) both
 
   on_file : (k : ℕ) (name : List ℕ) (g : Mount → ℕ × File → Mount) → OnFile s k name (λ m f. LeavesMount s k (g m f) t) → Same
-  on_file k name g is = there_all _ (slot_at s k) is (λ m there. there_all _ (file_named m name) there (λ f it. by_mount k (g m f) it))
+  on_file k name g is = there_all _ (slot_at s k) is (λ m at there. there_all _ (file_named m name) there (λ f at it. by_mount k (g m f) it))
 
   unset : (x : Step) (reply : Reply) → ((task : ℕ) → home_of s.table task ≡ home_after s x reply task) → s.nr ≡ nr_after s x reply → s.overcommit ≡ overcommit_after s x reply → Same
       → IsSet s x reply t
@@ -99,27 +88,27 @@ module _ (s t : State) where
       (limits_all _ (limits s.nr s.page_size (wanted_of options)) is.1 (λ l it. by_mount k (record { limits = l; files = [] }) it))
   answered (step.Remount k options) a met is =
       unset (step.Remount k options) (Ok a) (λ task. refl) refl refl
-      (there_all _ (slot_at s k) is (λ m there. limits_all _ (limits s.nr s.page_size (wanted_of options)) there (λ l it. by_mount k (record m { limits = l }) it)))
+      (there_all _ (slot_at s k) is (λ m at there. limits_all _ (limits s.nr s.page_size (wanted_of options)) there (λ l it. by_mount k (record m { limits = l }) it)))
   answered (step.Umount k) a met is = unset (step.Umount k) (Ok a) (λ task. refl) refl refl (by_state (with_slot s k None) is refl refl refl)
   answered (step.Create k name) a met is =
       unset (step.Create k name) (Ok a) (λ task. refl) refl refl
-      (there_all _ (slot_at s k) is (λ m e. (ap (λ x. x.table) e, ap (λ x. x.nr) e, ap (λ x. x.overcommit) e)))
+      (there_all _ (slot_at s k) is (λ m at e. (ap (λ x. x.table) e, ap (λ x. x.nr) e, ap (λ x. x.overcommit) e)))
   answered (step.Unlink k name) a met is = unset (step.Unlink k name) (Ok a) (λ task. refl) refl refl (on_file k name (λ m f. with_edit m f.0 (record f.1 { name = None })) is)
   answered (step.Truncate k name n) a met is = unset (step.Truncate k name n) (Ok a) (λ task. refl) refl refl (on_file k name (λ m f. with_edit m f.0 (cut_from n f.1)) is)
   answered (step.Punch k name from to) a met is = unset (step.Punch k name from to) (Ok a) (λ task. refl) refl refl (on_file k name (λ m f. with_edit m f.0 (cut_out (is_in from to) f.1)) is)
   answered (step.Preallocate k name from to) a met is =
       unset (step.Preallocate k name from to) (Ok a) (λ task. refl) refl refl
-      (there_all _ (slot_at s k) is (λ m there. there_all _ (file_named m name) there (λ f it. by_mount k (with_file m f.0 (with_pages_there s.page_size from to it.0 f.1)) it.1)))
+      (there_all _ (slot_at s k) is (λ m at there. there_all _ (file_named m name) there (λ f at it. by_mount k (with_file m f.0 (with_pages_there s.page_size from to it.0 f.1)) it.1)))
   answered (step.Map task k name from n sharing reserving) a met is =
       unset (step.Map task k name from n sharing reserving) (Ok a) (λ task. refl) refl refl
-      (there_all _ (slot_at s k) is (λ m there. there_all _ (file_named m name) there
-      (λ f new. number_all m task _ a new (λ number it. by_mount k (with_file m f.0 (with_map_made task number from n sharing reserving f.1)) it))))
+      (there_all _ (slot_at s k) is (λ m at there. there_all _ (file_named m name) there
+      (λ f at new. number_all m task _ a new (λ number it. by_mount k (with_file m f.0 (with_map_made task number from n sharing reserving f.1)) it))))
   answered (step.Anon task n sharing reserving) a met is =
       unset (step.Anon task n sharing reserving) (Ok a) (λ task. refl) refl refl
-      (there_all _ (slot_at s 0) is (λ m new. number_all m task _ a new
+      (there_all _ (slot_at s 0) is (λ m at new. number_all m task _ a new
       (λ number it. by_mount 0 (record m { files = m.files ++ with_map_made task number 0 n sharing reserving (record { name = None; cells = []; maps = [] }) ∷ [] }) it)))
   answered (step.Unmap task k number from to) a met is =
-      unset (step.Unmap task k number from to) (Ok a) (λ task. refl) refl refl (there_all _ (slot_at s k) is (λ m it. by_mount k (with_maps (unmapped task number from to) m) it))
+      unset (step.Unmap task k number from to) (Ok a) (λ task. refl) refl refl (there_all _ (slot_at s k) is (λ m at it. by_mount k (with_maps (unmapped task number from to) m) it))
   answered (step.Fault task k number i intent) a met is =
       unset (step.Fault task k number i intent) (Ok a) (λ task. refl) refl refl (puts k task number (access_puts s k task number i intent (λ old. old) t is))
   answered (step.Load task k number i offset count) a met is =

@@ -1,7 +1,9 @@
 -- What the footprint of a step tells of each slot.
-use Rattle.std.proofs.Common.{◌≡◌, subst, ℕ, zero, suc, ◌+◌, Bool, true, false, None, Option, Some, option_map, List, [], ◌∷◌, map, refl, sym, ap, if◌then◌else◌, get_or, slice_set, slice_index_or}
-use Rattle.hp_model.proofs.Words.{File, Mount, Slot, State, file_named, has_maps_of, slot_at, with_slot}
-use Rattle.hp_model.specs.machine.Footprint.{IsButNodes, LeavesMount, OnFile, There, at_each, where_mapped}
+use Rattle.std.proofs.Common.{◌≡◌, subst, ℕ, zero, suc, ◌+◌, Bool, true, false, None, Option, Some, Ok, Err, Result, option_map, List, [], ◌∷◌, map, refl, sym, ap, if◌then◌else◌, get_or, slice_set}
+use Rattle.std.proofs.Common.{slice_index_or}
+use Rattle.hp_laws.proofs.Variants.{Answer, Limits, MapNo, Refusal}
+use Rattle.hp_model.proofs.Words.{Mount, Slot, State, has_maps_of, slot_at, with_slot}
+use Rattle.hp_model.specs.machine.Footprint.{IsButNodes, IsNewNumber, IsOfLimits, There, at_each, where_mapped}
 
 -- ---- lists
 
@@ -22,6 +24,20 @@ each_at Q f d none n [] j h = subst Q (none n) (h n)
 each_at Q f d none n (x ∷ xs) zero h = h n
 each_at Q f d none n (x ∷ xs) (suc j) h = each_at Q f d none (n + 1) xs j h
 
+-- ---- what is there
+
+pub there_all : {X Q : Type 0} (P : X → Type 0) (o : Option X) → There o P → ((x : X) → o ≡ Some x → P x → Q) → Q
+there_all P None there h = absurd there
+there_all P (Some x) it h = h x refl it
+
+pub number_all : {Q : Type 0} (m : Mount) (task : ℕ) (P : ℕ → Type 0) (a : Answer) → IsNewNumber m task a P → ((n : ℕ) → P n → Q) → Q
+number_all m task P (MapNo n) is h = h n is.1
+number_all m task P other is h = absurd is
+
+pub limits_all : {Q : Type 0} (P : Limits → Type 0) (r : Result Limits Refusal) → IsOfLimits r P → ((l : Limits) → P l → Q) → Q
+limits_all P (Ok l) is h = h l is
+limits_all P (Err r) is h = absurd is
+
 -- ---- slots
 
 -- R holds of each slot, as it was and as it is, where it holds of what the step leaves
@@ -40,26 +56,9 @@ module _ (R : ℕ → Slot → Slot → Type 0) (same : (k : ℕ) (x : Slot) →
   pub leaves_to : (k : ℕ) (x : Slot) → IsButNodes (with_slot s k x) t → R k (slot_at s k) x → All
   leaves_to k x is here = set_to k x (ap (λ u. u.slots) is.0) here
 
-  -- a mount that is edited
-  pub mount_to : (k : ℕ) (g : Mount → Mount) → There (slot_at s k) (λ m. LeavesMount s k (g m) t) → ((m : Mount) → slot_at s k ≡ Some m → R k (Some m) (Some (g m))) → All
-  mount_to k g there here = by_mount (slot_at s k) refl there
-    where
-      by_mount : (o : Slot) → slot_at s k ≡ o → There o (λ m. LeavesMount s k (g m) t) → All
-      by_mount None is there = absurd there
-      by_mount (Some m) is left = leaves_to k (Some (g m)) left (subst (λ o. R k o (Some (g m))) (sym is) (here m is))
-
-  -- a file that is edited
-  pub file_to : (k : ℕ) (name : List ℕ) (g : Mount → ℕ × File → Mount) → OnFile s k name (λ m f. LeavesMount s k (g m f) t)
-      → ((m : Mount) (f : ℕ × File) → slot_at s k ≡ Some m → file_named m name ≡ Some f → R k (Some m) (Some (g m f))) → All
-  file_to k name g there here = by_mount (slot_at s k) refl there
-    where
-      by_file : (m : Mount) → slot_at s k ≡ Some m → (o : Option (ℕ × File)) → file_named m name ≡ o → There o (λ f. LeavesMount s k (g m f) t) → All
-      by_file m is None named there = absurd there
-      by_file m is (Some f) named left = leaves_to k (Some (g m f)) left (subst (λ o. R k o (Some (g m f))) (sym is) (here m f is named))
-
-      by_mount : (o : Slot) → slot_at s k ≡ o → There o (λ m. There (file_named m name) (λ f. LeavesMount s k (g m f) t)) → All
-      by_mount None is there = absurd there
-      by_mount (Some m) is left = by_file m is (file_named m name) refl left
+  -- on an open slot
+  pub leaves_on : (k : ℕ) (m : Mount) (x : Slot) → slot_at s k ≡ Some m → IsButNodes (with_slot s k x) t → R k (Some m) x → All
+  leaves_on k m x at is here = leaves_to k x is (subst (λ o. R k o x) (sym at) here)
 
   -- on each slot on which the task has maps
   pub task_to : (task : ℕ) (g : Mount → Mount) → t.slots ≡ where_mapped task g s.slots → ((k : ℕ) (m : Mount) → slot_at s k ≡ Some m → R k (Some m) (Some (g m))) → All

@@ -1,23 +1,23 @@
 -- Mounts stay with their limits, no file is there that nobody has, and what a step ends is gone: each by the footprint.
-use Rattle.std.proofs.Common.{◌≡◌, ◌+◌, ◌⊎◌, inl, inr, ℕ, zero, suc, ◌<◌, ◌==◌, Bool, true, false, None, Option, Some, option_map, Ok, Err, Result, List, [], ◌∷◌, ◌++◌, length, map, refl, sym, ap}
+use Rattle.std.proofs.Common.{◌≡◌, ◌+◌, ◌⊎◌, inl, inr, ℕ, zero, suc, ◌<◌, ◌==◌, Bool, true, false, None, Option, Some, option_map, Ok, Err, List, [], ◌∷◌, ◌++◌, length, map, refl, sym, ap}
 use Rattle.std.proofs.Common.{◌∙◌, subst, arith, get_or, slice_set, is_some}
 use Rattle.std.proofs.Common.{filter, if◌then◌else◌, MatchBool, nat_lt}
 use Rattle.std.specs.List.{list_all}
 use Rattle.std.proofs.lemmas.Bool.{and_parts, eq-eqb, lt-ltb, or_right}
 use Rattle.std.proofs.lemmas.List.{length-set}
-use Rattle.hp_laws.proofs.Variants.{Answer, Intent, Limits, MapNo, OutOfMemory, Read, Refusal, Write}
+use Rattle.hp_laws.proofs.Variants.{Answer, Intent, OutOfMemory, Read, Refusal, Write}
 use Rattle.hp_model.specs.declared.step.Step.{Step}
 use Rattle.hp_model.specs.declared.step.Step.TheVariants as step
 use Rattle.hp_model.proofs.Words.{Copy, File, Map, Mount, Reply, Slot, Spot, State, cell_at, copy_of, file_named, has_name, has_page, home_of, is_held_once, is_in, is_kept, is_known, is_map}
 use Rattle.hp_model.proofs.Words.{is_shared, limits, place_at, slot_at, spot, wanted_of, with_file, with_slot}
 use Rattle.hp_laws.specs.Follows.{SameLimits, are_held, is_on, is_relimited}
-use Rattle.hp_model.specs.machine.Footprint.{Changes, ChangesRefused, HasFootprint, HasNewCopy, HasOwnCopy, IsAccess, IsButNodes, IsCopyAccess, IsNewNumber, IsOfLimits, IsSharedAccess}
-use Rattle.hp_model.specs.machine.Footprint.{LeavesMount, OnFile, TakesBack, There, WithLimits, at_each, cut_from, cut_out, map_made, of_others, over, unmapped, where_mapped, with_childs, with_edit}
+use Rattle.hp_model.specs.machine.Footprint.{Changes, ChangesRefused, HasFootprint, HasNewCopy, HasOwnCopy, IsAccess, IsButNodes, IsCopyAccess, IsSharedAccess}
+use Rattle.hp_model.specs.machine.Footprint.{LeavesMount, OnFile, TakesBack, There, at_each, cut_from, cut_out, map_made, of_others, over, unmapped, with_childs, with_edit}
 use Rattle.hp_model.specs.machine.Footprint.{with_map_made, with_maps}
 use Rattle.hp_model.specs.machine.Footprint.{with_pages_there}
 use Rattle.hp_laws.proofs.counts.MountMoves.{spot_is}
 use Rattle.hp_laws.proofs.footprint.Walks.{same_but}
-use Rattle.hp_laws.proofs.follows.Slots.{at_rest, each_at, file_to, leaves_to, mount_to, set_to, task_to}
+use Rattle.hp_laws.proofs.follows.Slots.{at_rest, each_at, leaves_on, leaves_to, limits_all, number_all, task_to, there_all}
 use Rattle.hp_laws.proofs.lists.Places.{found_place}
 use Rattle.hp_laws.proofs.names.Follows.{is_open}
 
@@ -139,153 +139,75 @@ module _ (s : State) (t : State) where
     rest : t ≡ s → AllStay x reply
     rest e = at_rest R same s t (ap (λ u. u.slots) e)
 
+    on_slot : (k : ℕ) (m : Mount) (new : Slot) → slot_at s k ≡ Some m → IsButNodes (with_slot s k new) t → R k (Some m) new → AllStay x reply
+    on_slot k m new at left here = leaves_on R same s t k m new at left here
+
     access_stays : (k task number : ℕ) → is_on x k ≡ true → (t ≡ s) ⊎ Puts s k task number t → AllStay x reply
     access_stays k task number on (inl e) = rest e
-    access_stays k task number on (inr there) = by_mount (slot_at s k) refl there
-      where
-        by_spot : (m : Mount) → slot_at s k ≡ Some m → (o : Option Spot) → spot m (is_map task number) ≡ o
-            → There o (λ p. (f : File) × (length f.maps ≡ length p.file.maps) × LeavesMount s k (with_file m p.file_no f) t) → AllStay x reply
-        by_spot m is None found there = absurd there
-        by_spot m is (Some p) found there =
-            let at = spot_is m (is_map task number) p found in
-            let many : length there.0.maps ≡ length p.file.maps = there.1 in
-            let within = at.map.within in
-            leaves_to R same s t k (Some (with_file m p.file_no there.0)) there.2
-            (subst (λ o. R k o (Some (with_file m p.file_no there.0))) (sym is)
-            (put_stays (is_relimited x reply k) (is_on x k) on m p.file_no there.0 (some_maps there.0 (omega (arith, many, within)))))
-
-        by_mount : (o : Slot) → slot_at s k ≡ o
-            → There o (λ m. There (spot m (is_map task number)) (λ p. (f : File) × (length f.maps ≡ length p.file.maps) × LeavesMount s k (with_file m p.file_no f) t)) → AllStay x reply
-        by_mount None is there = absurd there
-        by_mount (Some m) is there = by_spot m is (spot m (is_map task number)) refl there
+    access_stays k task number on (inr there) =
+        there_all _ (slot_at s k) there (λ m is found. there_all _ (spot m (is_map task number)) found (λ p named it.
+        let at = spot_is m (is_map task number) p named in
+        let many : length it.0.maps ≡ length p.file.maps = it.1 in
+        let within = at.map.within in
+        on_slot k m (Some (with_file m p.file_no it.0)) is it.2 (put_stays (is_relimited x reply k) (is_on x k) on m p.file_no it.0 (some_maps it.0 (omega (arith, many, within))))))
 
     edit_stays : (k : ℕ) (name : List ℕ) (g : ℕ × File → File) → is_on x k ≡ true → OnFile s k name (λ m f. LeavesMount s k (with_edit m f.0 (g f)) t) → AllStay x reply
-    edit_stays k name g on is = file_to R same s t k name (λ m f. with_edit m f.0 (g f)) is (λ m f at named. edited_stays (is_relimited x reply k) (is_on x k) on m f.0 (g f))
+    edit_stays k name g on is =
+        there_all _ (slot_at s k) is (λ m at there. there_all _ (file_named m name) there (λ f named left.
+        on_slot k m (Some (with_edit m f.0 (g f))) at left (edited_stays (is_relimited x reply k) (is_on x k) on m f.0 (g f))))
 
   ended : (k : ℕ) → (k == k) ≡ true
   ended k = eq-eqb k k refl
+
+  off : (k : ℕ) (P : Type 0) → (k == k) ≡ false → P
+  off k P e = (let never : true ≡ false = sym (ended k) ∙ e in cc)
 
   -- what is answered
   pub answered_stay : (x : Step) (a : Answer) → Changes s x a t → AllStay x (Ok a)
   answered_stay (step.Connect task home) a is = at_rest (R (step.Connect task home) (Ok a)) (same (step.Connect task home) (Ok a)) s t (ap (λ u. u.slots) is)
   answered_stay (step.Overcommit n) a is = at_rest (R (step.Overcommit n) (Ok a)) (same (step.Overcommit n) (Ok a)) s t (ap (λ u. u.slots) is)
   answered_stay (step.Nr n) a is = at_rest (R (step.Nr n) (Ok a)) (same (step.Nr n) (Ok a)) s t (ap (λ u. u.slots) is.0)
-  answered_stay (step.Fork parent child) a is = by_home (home_of s.table parent) is
-    where
-      x : Step
-      x = step.Fork parent child
-
-      by_home : (o : Option ℕ)
-          → There o (λ home. IsButNodes (record s { table = s.table ++ (child, home) ∷ []; slots = where_mapped parent (with_maps (with_childs parent child)) s.slots }) t) → AllStay x (Ok a)
-      by_home None there = absurd there
-      by_home (Some home) left =
-          task_to (R x (Ok a)) (same x (Ok a)) s t parent (with_maps (with_childs parent child)) (ap (λ u. u.slots) left.0) (λ k m e. maps_stay false true refl m (with_childs parent child))
+  answered_stay (step.Fork parent child) a is =
+      there_all _ (home_of s.table parent) is
+      (λ home known left. task_to (R (step.Fork parent child) (Ok a)) (same (step.Fork parent child) (Ok a)) s t parent (with_maps (with_childs parent child)) (ap (λ u. u.slots) left.0)
+      (λ k m e. maps_stay false true refl m (with_childs parent child)))
   answered_stay (step.Exit task) a is =
       task_to (R (step.Exit task) (Ok a)) (same (step.Exit task) (Ok a)) s t task (with_maps (of_others task)) (ap (λ u. u.slots) is.0) (λ k m e. maps_stay false true refl m (of_others task))
-  answered_stay (step.Mount k options) a is = by_limits (limits s.nr s.page_size (wanted_of options)) is.1
-    where
-      x : Step
-      x = step.Mount k options
-
-      by_limits : (r : Result Limits Refusal) → IsOfLimits r (λ l. LeavesMount s k (record { limits = l; files = [] }) t) → AllStay x (Ok a)
-      by_limits (Err e) h = absurd h
-      by_limits (Ok l) left =
-          leaves_to (R x (Ok a)) (same x (Ok a)) s t k (Some (record { limits = l; files = [] })) left
-          (subst (λ o. R x (Ok a) k o (Some (record { limits = l; files = [] }))) (sym is.0) (λ e. tt, λ e. refl, never _ _ (k == k) (ended k)))
-  answered_stay (step.Remount k options) a is = by_mount (slot_at s k) refl is
-    where
-      x : Step
-      x = step.Remount k options
-
-      by_limits : (m : Mount) → slot_at s k ≡ Some m → (r : Result Limits Refusal) → IsOfLimits r (λ l. LeavesMount s k (record m { limits = l }) t) → AllStay x (Ok a)
-      by_limits m at (Err e) h = absurd h
-      by_limits m at (Ok l) left =
-          leaves_to (R x (Ok a)) (same x (Ok a)) s t k (Some (record m { limits = l })) left
-          (subst (λ o. R x (Ok a) k o (Some (record m { limits = l }))) (sym at) (λ e. (let off : true ≡ false = sym (ended k) ∙ e in cc), λ e. e, never _ _ (k == k) (ended k)))
-
-      by_mount : (o : Slot) → slot_at s k ≡ o → There o (λ m. WithLimits s options (λ l. LeavesMount s k (record m { limits = l }) t)) → AllStay x (Ok a)
-      by_mount None at there = absurd there
-      by_mount (Some m) at there = by_limits m at (limits s.nr s.page_size (wanted_of options)) there
+  answered_stay (step.Mount k options) a is =
+      limits_all _ (limits s.nr s.page_size (wanted_of options)) is.1
+      (λ l left. leaves_to (R (step.Mount k options) (Ok a)) (same (step.Mount k options) (Ok a)) s t k (Some (record { limits = l; files = [] })) left
+      (subst (λ o. R (step.Mount k options) (Ok a) k o (Some (record { limits = l; files = [] }))) (sym is.0) (λ e. tt, λ e. refl, never _ _ (k == k) (ended k))))
+  answered_stay (step.Remount k options) a is =
+      there_all _ (slot_at s k) is (λ m at there. limits_all _ (limits s.nr s.page_size (wanted_of options)) there
+      (λ l left. on_slot (step.Remount k options) (Ok a) k m (Some (record m { limits = l })) at left (λ e. off k _ e, λ e. e, never _ _ (k == k) (ended k))))
   answered_stay (step.Umount k) a is =
-      leaves_to (R (step.Umount k) (Ok a)) (same (step.Umount k) (Ok a)) s t k None is (λ e. (let off : true ≡ false = sym (ended k) ∙ e in cc), λ e. refl, never _ _ (k == k) (ended k))
-  answered_stay (step.Create k name) a is = by_mount (slot_at s k) refl is
-    where
-      x : Step
-      x = step.Create k name
-
-      by_mount : (o : Slot) → slot_at s k ≡ o → There o (λ m. t ≡ with_slot s k (Some (record m { files = m.files ++ record { name = Some name; cells = []; maps = [] } ∷ [] }))) → AllStay x (Ok a)
-      by_mount None at there = absurd there
-      by_mount (Some m) at e =
-          set_to (R x (Ok a)) (same x (Ok a)) s t k (Some (record m { files = m.files ++ record { name = Some name; cells = []; maps = [] } ∷ [] })) (ap (λ u. u.slots) e)
-          (subst (λ o. R x (Ok a) k o (Some (record m { files = m.files ++ record { name = Some name; cells = []; maps = [] } ∷ [] }))) (sym at)
-          (more_stays false (k == k) (ended k) m (record { name = Some name; cells = []; maps = [] }) refl))
+      leaves_to (R (step.Umount k) (Ok a)) (same (step.Umount k) (Ok a)) s t k None is (λ e. off k _ e, λ e. refl, never _ _ (k == k) (ended k))
+  answered_stay (step.Create k name) a is =
+      let f : File = record { name = Some name; cells = []; maps = [] } in
+      there_all _ (slot_at s k) is
+      (λ m at e. on_slot (step.Create k name) (Ok a) k m (Some (record m { files = m.files ++ f ∷ [] })) at (same_but _ t e) (more_stays false (k == k) (ended k) m f refl))
   answered_stay (step.Unlink k name) a is = edit_stays (step.Unlink k name) (Ok a) k name (λ f. record f.1 { name = None }) (ended k) is
   answered_stay (step.Truncate k name n) a is = edit_stays (step.Truncate k name n) (Ok a) k name (λ f. cut_from n f.1) (ended k) is
   answered_stay (step.Punch k name from to) a is = edit_stays (step.Punch k name from to) (Ok a) k name (λ f. cut_out (is_in from to) f.1) (ended k) is
-  answered_stay (step.Preallocate k name from to) a is = by_mount (slot_at s k) refl is
-    where
-      x : Step
-      x = step.Preallocate k name from to
-
-      by_file : (m : Mount) → slot_at s k ≡ Some m → (o : Option (ℕ × File)) → file_named m name ≡ o
-          → There o (λ f. (node : ℕ → ℕ) × LeavesMount s k (with_file m f.0 (with_pages_there s.page_size from to node f.1)) t) → AllStay x (Ok a)
-      by_file m at None named there = absurd there
-      by_file m at (Some f) named there =
-          let new : Slot = Some (with_file m f.0 (with_pages_there s.page_size from to there.0 f.1)) in
-          leaves_to (R x (Ok a)) (same x (Ok a)) s t k new there.1
-          (subst (λ o. R x (Ok a) k o new) (sym at)
-          (put_stays false (k == k) (ended k) m f.0 (with_pages_there s.page_size from to there.0 f.1)
-          (is_open name (with_pages_there s.page_size from to there.0 f.1) (found_place (has_name name) m.files f named).passes)))
-
-      by_mount : (o : Slot) → slot_at s k ≡ o
-          → There o (λ m. There (file_named m name) (λ f. (node : ℕ → ℕ) × LeavesMount s k (with_file m f.0 (with_pages_there s.page_size from to node f.1)) t)) → AllStay x (Ok a)
-      by_mount None at there = absurd there
-      by_mount (Some m) at there = by_file m at (file_named m name) refl there
-  answered_stay (step.Map task k name from n sharing reserving) a is = by_mount (slot_at s k) refl is
-    where
-      x : Step
-      x = step.Map task k name from n sharing reserving
-
-      by_number : (m : Mount) → slot_at s k ≡ Some m → (f : ℕ × File) (b : Answer)
-          → IsNewNumber m task b (λ number. LeavesMount s k (with_file m f.0 (with_map_made task number from n sharing reserving f.1)) t) → AllStay x (Ok a)
-      by_number m at f (MapNo number) is =
-          let g : File = with_map_made task number from n sharing reserving f.1 in
-          leaves_to (R x (Ok a)) (same x (Ok a)) s t k (Some (with_file m f.0 g)) is.1
-          (subst (λ o. R x (Ok a) k o (Some (with_file m f.0 g))) (sym at)
-          (put_stays false (k == k) (ended k) m f.0 g (some_maps g (one_more f.1.maps (map_made task number from n sharing reserving)))))
-      by_number m at f other is = absurd is
-
-      by_file : (m : Mount) → slot_at s k ≡ Some m → (o : Option (ℕ × File))
-          → There o (λ f. IsNewNumber m task a (λ number. LeavesMount s k (with_file m f.0 (with_map_made task number from n sharing reserving f.1)) t)) → AllStay x (Ok a)
-      by_file m at None there = absurd there
-      by_file m at (Some f) there = by_number m at f a there
-
-      by_mount : (o : Slot) → slot_at s k ≡ o
-          → There o (λ m. There (file_named m name) (λ f. IsNewNumber m task a (λ number. LeavesMount s k (with_file m f.0 (with_map_made task number from n sharing reserving f.1)) t)))
-          → AllStay x (Ok a)
-      by_mount None at there = absurd there
-      by_mount (Some m) at there = by_file m at (file_named m name) there
-  answered_stay (step.Anon task n sharing reserving) a is = by_mount (slot_at s 0) refl is
-    where
-      x : Step
-      x = step.Anon task n sharing reserving
-
-      made : ℕ → File
-      made number = with_map_made task number 0 n sharing reserving (record { name = None; cells = []; maps = [] })
-
-      by_number : (m : Mount) → slot_at s 0 ≡ Some m → (b : Answer) → IsNewNumber m task b (λ number. LeavesMount s 0 (record m { files = m.files ++ made number ∷ [] }) t) → AllStay x (Ok a)
-      by_number m at (MapNo number) is =
-          leaves_to (R x (Ok a)) (same x (Ok a)) s t 0 (Some (record m { files = m.files ++ made number ∷ [] })) is.1
-          (subst (λ o. R x (Ok a) 0 o (Some (record m { files = m.files ++ made number ∷ [] }))) (sym at) (more_stays false true refl m (made number) (some_maps (made number) (omega arith))))
-      by_number m at other is = absurd is
-
-      by_mount : (o : Slot) → slot_at s 0 ≡ o → There o (λ m. IsNewNumber m task a (λ number. LeavesMount s 0 (record m { files = m.files ++ made number ∷ [] }) t)) → AllStay x (Ok a)
-      by_mount None at there = absurd there
-      by_mount (Some m) at there = by_number m at a there
+  answered_stay (step.Preallocate k name from to) a is =
+      there_all _ (slot_at s k) is (λ m at there. there_all _ (file_named m name) there (λ f named it.
+      let g : File = with_pages_there s.page_size from to it.0 f.1 in
+      on_slot (step.Preallocate k name from to) (Ok a) k m (Some (with_file m f.0 g)) at it.1
+      (put_stays false (k == k) (ended k) m f.0 g (is_open name g (found_place (has_name name) m.files f named).passes))))
+  answered_stay (step.Map task k name from n sharing reserving) a is =
+      there_all _ (slot_at s k) is (λ m at there. there_all _ (file_named m name) there (λ f named new. number_all m task _ a new (λ number left.
+      let g : File = with_map_made task number from n sharing reserving f.1 in
+      on_slot (step.Map task k name from n sharing reserving) (Ok a) k m (Some (with_file m f.0 g)) at left
+      (put_stays false (k == k) (ended k) m f.0 g (some_maps g (one_more f.1.maps (map_made task number from n sharing reserving)))))))
+  answered_stay (step.Anon task n sharing reserving) a is =
+      there_all _ (slot_at s 0) is (λ m at new. number_all m task _ a new (λ number left.
+      let g : File = with_map_made task number 0 n sharing reserving (record { name = None; cells = []; maps = [] }) in
+      on_slot (step.Anon task n sharing reserving) (Ok a) 0 m (Some (record m { files = m.files ++ g ∷ [] })) at left (more_stays false true refl m g (some_maps g (omega arith)))))
   answered_stay (step.Unmap task k number from to) a is =
-      mount_to (R (step.Unmap task k number from to) (Ok a)) (same (step.Unmap task k number from to) (Ok a)) s t k (with_maps (unmapped task number from to)) is
-      (λ m at. maps_stay false (k == k) (ended k) m (unmapped task number from to))
-  answered_stay (step.Fault task k number i intent) a is = access_stays (step.Fault task k number i intent) (Ok a) k task number (ended k) (access_puts s k task number i intent (λ old. old) t is)
+      there_all _ (slot_at s k) is (λ m at left. on_slot (step.Unmap task k number from to) (Ok a) k m (Some (with_maps (unmapped task number from to) m)) at left
+      (maps_stay false (k == k) (ended k) m (unmapped task number from to)))
+  answered_stay (step.Fault task k number i intent) a is =
+      access_stays (step.Fault task k number i intent) (Ok a) k task number (ended k) (access_puts s k task number i intent (λ old. old) t is)
   answered_stay (step.Load task k number i offset count) a is =
       access_stays (step.Load task k number i offset count) (Ok a) k task number (ended k) (access_puts s k task number i Read (λ old. old) t is)
   answered_stay (step.Store task k number i offset bytes) a is =
