@@ -11,3 +11,4 @@ pub mod ending
 pub mod keeping
 pub mod footprint
 pub mod promises
+pub mod follows

@@ -4,7 +4,6 @@ pub mod Shown
 pub mod StoredFiles
 pub mod SlotShows
 pub mod Backed
-pub mod KeptPlaces
 pub mod StoredMaps
 pub mod CopiesSound
 pub mod EndsDone

@@ -1,6 +1,5 @@
 -- What files and mounts count, the copies that maps hold, and when both are sound.
 pub mod Filled
-pub mod CountSteps
 pub mod CopiesHeld
 pub mod FileMoves
 pub mod Falls

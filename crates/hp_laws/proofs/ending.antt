@@ -1,8 +1,4 @@
 -- What is left after unmaps, unlinks, umounts and exits.
-pub mod UnlinkEnds
-pub mod UnmapEnds
-pub mod GoneAfter
-pub mod UnmapsCut
 pub mod Cuts
 pub mod Unmaps
 pub mod Fades

@@ -1,11 +1,5 @@
--- What steps leave as it was.
+-- What names and numbers keep after a step, and what sections leave of nr.
 pub mod Homes
 pub mod SettingsKept
-pub mod OtherSlots
-pub mod KeptSlot
-pub mod EventKeeps
-pub mod WholeMaps
-pub mod MountsStay
-pub mod Lifted
 pub mod Meant
 pub mod SlotKept

@@ -1,7 +1,4 @@
--- What a created file, a new map and a mount are.
-pub mod ReservationsMade
+-- What a new map's number and a remount are.
 pub mod Remounts
-pub mod MountsMade
 pub mod NewNumbers
 pub mod FilesMade
-pub mod OnlyMade

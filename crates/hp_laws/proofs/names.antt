@@ -7,4 +7,3 @@ pub mod Named
 pub mod Changes
 pub mod Follows
 pub mod ByPlace
-pub mod FilesStay

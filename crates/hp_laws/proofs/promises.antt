@@ -1,7 +1,6 @@
 -- What a step answers, why it is refused, and what is promised of it.
 pub mod TestsDecide
 pub mod Shortage
-pub mod ChildsMaps
 pub mod Promised
 pub mod SmallPool
 pub mod SmallReplies
@@ -9,7 +8,4 @@ pub mod DoneAnswers
 pub mod Answered
 pub mod Parents
 pub mod Listing
-pub mod StepsMake
 pub mod Surplus
-pub mod PagesThere
-pub mod CutFiles

@@ -32,6 +32,7 @@ use Rattle.hp_model.specs.machine.Step.{IsStep}
 use Rattle.hp_model.specs.machine.Table.{Table}
 use Rattle.hp_model.specs.Profile.{most_nodes, most_frames}
 use Rattle.hp_laws.specs.Balance.{Always, IsBalanced, left_by}
+use Rattle.hp_laws.specs.Follows.{Follows}
 
 abbrev pub KeepsGoing : Outcome → Type 0
 KeepsGoing (Refused r) = is_for_pages r ≡ false
@@ -118,6 +119,10 @@ PromisesAreKept = (s : State) (step : Step) (reply : Reply) (t : State) → IsSe
 -- each step of a settled machine changes what is told of it, and nothing else
 abbrev pub FootprintIsKept : Type 0
 FootprintIsKept = (s : State) (step : Step) (reply : Reply) (t : State) → IsSettledState s → IsStep s step reply t → HasFootprint s step reply t
+
+-- and what follows from that
+abbrev pub WhatFollows : Type 0
+WhatFollows = (s : State) (step : Step) (reply : Reply) (t : State) → IsSettledState s → IsStep s step reply t → Follows s step reply t
 
 -- ---- trails
 

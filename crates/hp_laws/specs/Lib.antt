@@ -1,4 +1,5 @@
 pub mod Balance
+pub mod Follows
 pub mod Laws
 pub mod Closing
 pub mod Answers

@@ -3,7 +3,7 @@
 
 ghost use Rattle.hp_laws.specs.Answers.{NamesAreListed};
 ghost use Rattle.hp_laws.specs.Closing.{PoolPlaces, ReceiptsAreFew, SlotPlaces, TablePlaces};
-ghost use Rattle.hp_laws.specs.Laws.{CountsAreSums, FootprintIsKept, JoinedLaw, LimitsHold, OwnerWrites, PoolIsTied, PromisesAreKept, RefusalsChangeNothing, ReservedAccess, RunsAreSettled, SlotsAreBalanced, SlotsStaySound, StartIsSettled};
+ghost use Rattle.hp_laws.specs.Laws.{CountsAreSums, FootprintIsKept, JoinedLaw, LimitsHold, OwnerWrites, PoolIsTied, PromisesAreKept, RefusalsChangeNothing, ReservedAccess, RunsAreSettled, SlotsAreBalanced, SlotsStaySound, StartIsSettled, WhatFollows};
 
 /// An access at an index that is reserved to its map is never refused for want of a huge page, whatever the pool answers.
 pub fn reserved_accesses_get_pages()
@@ -56,8 +56,7 @@ pub fn refusals_change_nothing()
     ensures { RefusalsChangeNothing }
 {}
 
-/// Each step of a settled machine is as promised: reserved accesses and owners' writes are not refused for want of a huge page, the counts are
-/// sums, limits hold, a load answers what its map shows, and files and maps show what they showed but for what the step stores.
+/// Each step of a settled machine is as promised: eight things that people rely on, of which the footprint is one.
 pub fn promises_are_kept()
     ensures { PromisesAreKept }
 {}
@@ -66,6 +65,12 @@ pub fn promises_are_kept()
 /// slots, files, maps, pages and bytes. A refused step changes nothing, but for a mount after its grant and a fork onto maps of no task.
 pub fn footprint_is_kept()
     ensures { FootprintIsKept }
+{}
+
+/// What follows from that: other slots stay, a mount stays, a name keeps its file and a number its map, each shows what it showed but for what the
+/// step makes of it, an answered access has its page, what ends is gone, and no name or number stands twice.
+pub fn what_follows()
+    ensures { WhatFollows }
 {}
 
 /// A list that joins trails which are runs of the table, the slots and the pool is a run of the

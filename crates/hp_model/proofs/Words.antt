@@ -26,24 +26,15 @@ pub use Rattle.hp_model.specs.files.Reserved.{is_reserved}
 pub use Rattle.hp_model.specs.files.Spot.{Spot, again, cell_written, copied, file_written, filled, map_written, place_written, spot, spot_in, written}
 pub use Rattle.hp_model.specs.files.Value.{shown, value}
 pub use Rattle.hp_model.specs.machine.Event.{CanHappen, IsEvent, IsEventRun, IsFresh, after, asked_pool, has_maps_of, is_slot_event, planned, stamps_in, with_outcome, with_pool_reply, with_table}
-pub use Rattle.hp_model.specs.machine.Gone.{IsGone}
-pub use Rattle.hp_model.specs.machine.Held.{AreOnce, MakesOnly, are_held, is_made_name, is_made_number}
-pub use Rattle.hp_model.specs.machine.Kept.{ChangesCell, ChangesPlace, IsFilled, IsSpent, IsTaken, Keeps, KeepsCell, KeepsFiles, KeepsMap, KeepsOwn, Marks, is_on, unlinks}
-pub use Rattle.hp_model.specs.machine.Lost.{IsLost, IsLostTo, is_same_copy}
 pub use Rattle.hp_model.specs.machine.Machine.{committed_pages, counts_in, idle_node, node_of, open_mount, pool_of, row_of, rows_of, slots_from, start, used_at, used_pages, with_pool}
-pub use Rattle.hp_model.specs.machine.Named.{is_at, is_in, is_shared_of, map_named, means_file, named_on, spot_on, stays_mapped}
-pub use Rattle.hp_model.specs.machine.Pages.{Cuts, HasLeft, IsCutFile, IsTouched, Touches, can_have_page, cell_of, has_its_page, pages_of_file}
+pub use Rattle.hp_model.specs.machine.Named.{is_in, map_named, named_on, spot_on}
 pub use Rattle.hp_model.specs.machine.Plan.{Answered, Ask, Choice, Finish, IsWithinLimit, Outcome, Plan, Refused, Reply, Slot, and_then, continued, fall_of, gives, grant, grant_page, puts_of, refuse}
 pub use Rattle.hp_model.specs.machine.Plan.{reserved_page, slot_committed, slot_pages, slot_pages_at, slot_usage, unless, when_granted, with_value}
-pub use Rattle.hp_model.specs.machine.Promises.{AnswersWhatWas, AreWhole, Forks, HasPages, HasRange, IsChildOf, IsCutTo, IsForkLeft, IsKeptMap, IsListed, IsLoaded, IsNameOf, IsNewAnon, IsNewFile}
-pub use Rattle.hp_model.specs.machine.Promises.{IsNewMap, IsPromised, IsPromisedRun, IsPromisedStep, IsRange, IsRead, IsStat, IsUsage, LeavesAll, LeavesOthers, LeavesWhole, LosesTo, Makes, Ranges}
-pub use Rattle.hp_model.specs.machine.Promises.{SameButNodes, SameFiles, SameLimits, Shape, ShowsMap, StillMapped, StillNamed, Unmaps, is_backed_step, is_cut_off_step, is_ended_name, is_ended_number}
-pub use Rattle.hp_model.specs.machine.Promises.{is_late, is_refused, is_relimited, is_usage, least_of, map_at, map_on, over, reaches, seen_in, seen_on, seen_over, shape_of, shown_in, shown_on}
-pub use Rattle.hp_model.specs.machine.Promises.{stored_over, takes_memory, wants_page}
+pub use Rattle.hp_model.specs.machine.Promises.{Answers, AnswersWhatWas, IsPromised, IsPromisedRun, IsPromisedStep, SameButNodes, is_backed_step, is_late, is_usage, least_of, over, takes_memory}
+pub use Rattle.hp_model.specs.machine.Promises.{wants_page}
 pub use Rattle.hp_model.specs.machine.Ready.{IsReadyMachine, Machine, machine_of, state_of}
-pub use Rattle.hp_model.specs.machine.Settings.{IsMountedWith, IsRemountedWith, IsSet, Mounts, TellsNr, home_after, nr_after, only_reads, overcommit_after}
 pub use Rattle.hp_model.specs.machine.Settled.{IsSettledPool, IsSettledState}
-pub use Rattle.hp_model.specs.machine.Short.{IsMountShort, IsRemountShortOn, IsShort, IsShortOn, MeetsShortage, asked_of, asks, has_own, is_backed, owns_copy, page_for}
+pub use Rattle.hp_model.specs.machine.Short.{IsMountShort, IsRemountShortOn, IsShort, IsShortOn, MeetsShortage, asked_of, asks, can_have_page, has_own, is_backed, owns_copy, page_for}
 pub use Rattle.hp_model.specs.machine.SlotEvent.{anon_tests, are_too_many_maps, byte_access, byte_tests, bytes_answer, committed_with, create_tests, edited, fault, fault_tests, file_named, fill}
 pub use Rattle.hp_model.specs.machine.SlotEvent.{fork_maps, fork_tests, has_maps, has_name, is_bad_range, is_between, is_beyond, is_name, is_name_byte, is_new_task_over, is_unmapped, load, map_file}
 pub use Rattle.hp_model.specs.machine.SlotEvent.{map_tests, mount_on, mount_outcome, mount_pages, mount_section, on_mount, on_none, preallocate, preallocate_tests, preallocated, read, read_tests}

@@ -10,13 +10,7 @@ pub mod Sound
 pub mod Settled
 pub mod Ready
 pub mod Tests
-pub mod Settings
 pub mod Named
-pub mod Held
-pub mod Pages
-pub mod Gone
-pub mod Lost
-pub mod Kept
 pub mod Short
 pub mod Footprint
 pub mod Promises

@@ -13,4 +13,5 @@ pub mod WorkedPreallocate
 pub mod WorkedHeld
 pub mod WorkedFootprint
 pub mod WorkedOwnSteps
+pub mod WorkedOthers
 pub mod Worked

@@ -1,6 +1,6 @@
 -- Wrong machines of a preallocation, each refused by what is promised or by what a step is.
 use Rattle.std.proofs.lemmas.Grind.{common_steps}
-use Rattle.std.proofs.Common.{◌≡◌, ⊎_elim, ℕ, ◌∙◌, Bool, true, false, None, Some, Ok, Err, Option, List, [], ◌∷◌, refl, ap, arith, count_by, slice_index_or, slice_set, codes}
+use Rattle.std.proofs.Common.{◌≡◌, length, ℕ, true, false, None, Some, Ok, Err, List, [], ◌∷◌, refl, ap, arith, count_by, slice_index_or, slice_set, codes}
 use Rattle.hp_laws.proofs.Variants.{Cell, Connect, Create, Done, Entered, Event, Hole, Map, MountFull, NoPages, Nr, OutOfRange, Preallocate, Present, Reserve, Shared, Slot as OnSlot, Step, Store}
 use Rattle.hp_laws.proofs.Variants.{TooMany}
 use Rattle.hp_model.specs.declared.event.SlotEvent.TheVariants as slot
@@ -35,41 +35,27 @@ zero_at node = Present (zero_page 1024 node)
 
 -- ---- what is there afterwards
 
-abbrev has_in : Option (ℕ × File) → (i : ℕ) → Bool
-has_in None i = false
-has_in (Some f) i = has_page (cell_at f.1 i)
-
 -- all but the last index get a page
 fills_all_but_the_last : IsPromised begun three (Ok Done) (with_cells 0 (λ cs. slice_set cs 2 Hole) filled) → ⊥
-fills_all_but_the_last promised =
-    (let made = promised.makes in let wrong : false ≡ true = ap (λ o. has_in o 2) made.named ∙ made.pages 2 refl in cc)
+fills_all_but_the_last promised = (let wrong : false ≡ true = ap (λ (s : State). has_page (cell_at (file_on s 0) 2)) promised.footprint.0.1.0 in cc)
 
 -- an entry counts as a page
 leaves_an_entry : IsPromised begun three (Ok Done) (with_cells 0 (λ cs. slice_set cs 1 Entered) filled) → ⊥
-leaves_an_entry promised =
-    (let made = promised.makes in let wrong : false ≡ true = ap (λ o. has_in o 1) made.named ∙ made.pages 1 refl in cc)
+leaves_an_entry promised = (let wrong : false ≡ true = ap (λ (s : State). has_page (cell_at (file_on s 0) 1)) promised.footprint.0.1.0 in cc)
 
 leaves_the_file_short : IsPromised begun three (Ok Done) (plain_step begun (Preallocate 0 (codes "a") 0 2)).1 → ⊥
-leaves_the_file_short promised = grind (arith, common_steps)
+leaves_the_file_short promised = (let wrong : 2 ≡ 3 = ap (λ (s : State). length (file_on s 0).cells) promised.footprint.0.1.0 in absurd (omega (arith, wrong)))
 
 -- ---- other bytes, another file, and a page that is dropped
 
-abbrev first_byte : Option (ℕ × File) → ℕ
-first_byte None = 99
-first_byte (Some f) = slice_index_or (shown 1024 (cell_at f.1 0)) 0 0
-
 wipes_a_page_that_was_there : IsPromised begun three (Ok Done) (with_cells 0 (λ cs. slice_set cs 0 (zero_at 0)) filled) → ⊥
-wipes_a_page_that_was_there promised =
-    (let kept = promised.files 0 (codes "a") 0 (0, file_on begun 0) refl refl in
-    let wrong : 0 ≡ 5 = ap first_byte kept.1 ∙ ap (λ (xs : List ℕ). slice_index_or xs 0 0) kept.2 in absurd (omega (arith, wrong)))
+wipes_a_page_that_was_there promised = (let wrong : 0 ≡ 5 = ap (λ (s : State). slice_index_or (shown 1024 (cell_at (file_on s 0) 0)) 0 0) promised.footprint.0.1.0 in absurd (omega (arith, wrong)))
 
 abbrev another_filled : State
 another_filled = with_cells 1 (λ cs. zero_at 1 ∷ []) filled
 
 fills_another_file : IsPromised begun three (Ok Done) another_filled → ⊥
-fills_another_file promised =
-    (let kept = (promised.kept 0 refl).files (codes "b") (1, file_on begun 1) (1, file_on another_filled 1) refl refl refl 0 in
-    ⊎_elim (λ same. (let wrong : true ≡ false = ap has_page same in cc)) (λ changed. (let wrong : false ≡ true = changed.0 in cc)) kept)
+fills_another_file promised = (let wrong : true ≡ false = ap (λ (s : State). has_page (cell_at (file_on s 1) 0)) promised.footprint.0.1.0 in cc)
 
 abbrev from_one : Step
 from_one = Preallocate 0 (codes "a") 1 3
@@ -78,9 +64,7 @@ abbrev first_dropped : State
 first_dropped = with_cells 0 (λ cs. slice_set cs 0 Hole) (plain_step begun from_one).1
 
 drops_a_page_before_the_range : IsPromised begun from_one (Ok Done) first_dropped → ⊥
-drops_a_page_before_the_range promised =
-    (let kept = (promised.kept 0 refl).files (codes "a") (0, file_on begun 0) (0, file_on first_dropped 0) refl refl refl 0 in
-    ⊎_elim (λ same. (let wrong : false ≡ true = ap has_page same in cc)) (λ changed. (let wrong : false ≡ true = changed.0 in cc)) kept)
+drops_a_page_before_the_range promised = (let wrong : false ≡ true = ap (λ (s : State). has_page (cell_at (file_on s 0) 0)) promised.footprint.0.1.0 in cc)
 
 -- ---- a part is filled, and then the pool lacks pages
 
@@ -88,7 +72,7 @@ abbrev pages_in : State → ℕ
 pages_in t = count_by has_page (file_on t 0).cells
 
 fills_a_part_and_is_refused : IsPromised begun (Preallocate 0 (codes "a") 0 9) (Err NoPages) filled → ⊥
-fills_a_part_and_is_refused promised = (let wrong : 3 ≡ 1 = ap pages_in promised.refused in absurd (omega (arith, wrong)))
+fills_a_part_and_is_refused promised = (let wrong : 3 ≡ 1 = ap (λ (s : State). pages_in s) promised.footprint in absurd (omega (arith, wrong)))
 
 -- ---- more than the mount may use: 4 pages of at most 3
 

@@ -1,17 +1,23 @@
 -- What is promised of some steps, by computation: the tests and the bytes that the promises speak of.
 use Rattle.std.proofs.lemmas.Grind.{common_steps}
-use Rattle.std.proofs.Common.{◌≡◌, subst, ℕ, ◌+◌, ◌==◌, ◌∙◌, true, false, None, Option, Some, Ok, Err, List, [], ◌∷◌, length, take, map, nat_le, refl, sym, ap, arith, option_map, ◌++◌, slice_index_or}
+use Rattle.std.proofs.Common.{◌≡◌, subst, ℕ, ◌+◌, ◌==◌, true, false, None, Option, Some, Ok, Err, List, [], ◌∷◌, length, take, map, nat_le, refl, sym, ap, arith, option_map, ◌++◌, slice_index_or}
 use Rattle.std.proofs.Common.{codes, is_some}
 use Rattle.hp_laws.proofs.Variants.{Anon, Answer, Attach, BadName, Connect, Create, Df, Done, Fork, Gone, Home, Limits, Live, Load, Ls, Map, MapNo, Meminfo, Mount, Names, NoPages, NoReserve, Nr}
 use Rattle.hp_laws.proofs.Variants.{Numbers, Private, Punch, Reserve, Shared, Stat, StatAnswer, Step, Store, TakenByOwner, Truncate, Unmap, Usage}
-use Rattle.hp_model.proofs.Words.{AnswersWhatWas, File, LeavesAll, LosesTo, Makes, Map as MapOf, Node, SameFiles, SameLimits, Shape, Slot, Spot, State, StillMapped, StillNamed, committed_pages}
-use Rattle.hp_model.proofs.Words.{copy_of, counts_in, file_in, free_of, is_backed_step, is_cut_off_step, is_ended_number, is_shared, least_of, map_at, map_in, map_named, named_on, new_file, no_map}
-use Rattle.hp_model.proofs.Words.{place_at, plain_step, pool_of, seen_in, seen_over, shown_in, slot_at, stored_over, total_of, value, with_file, with_map, with_place, with_slot}
+use Rattle.hp_model.proofs.Words.{File, Map as MapOf, Node, Slot, Spot, State, committed_pages, AnswersWhatWas, is_cut_off}
+use Rattle.hp_model.proofs.Words.{copy_of, counts_in, file_in, free_of, is_backed_step, is_shared, least_of, map_in, map_named, named_on, new_file, no_map}
+use Rattle.hp_model.proofs.Words.{place_at, plain_step, pool_of, slot_at, total_of, value, with_file, with_map, with_place, with_slot}
+use Rattle.hp_model.specs.machine.Footprint.{Changes, ChangesRefused}
+use Rattle.hp_laws.specs.Follows.{LosesTo, SameFiles, SameLimits, Shape, StillMapped, StillNamed, is_ended_number, map_at, seen_in, seen_over, shown_in, stored_over}
 use Rattle.hp_worked.proofs.WorkedWords.{machine}
 
 abbrev pub after_all : State → List Step → State
 after_all s [] = s
 after_all s (step ∷ steps) = after_all (plain_step s step).1 steps
+
+abbrev pub spot_or : Option Spot → Spot
+spot_or None = record { file_no = 99; file = new_file None; map_no = 99; map = no_map }
+spot_or (Some s) = s
 
 abbrev first_bytes : State → (file map index : ℕ) → List ℕ
 first_bytes s file map index = take 2 (seen_in s 0 file map index)
@@ -78,7 +84,7 @@ only_the_owners_map = refl
 child_is_marked : (map_at robbed 0 0 1).unmapped ≡ true
 child_is_marked = refl
 
-child_is_cut_off : is_cut_off_step robbed (Load 2 0 1 1 0 1) ≡ true
+child_is_cut_off : is_cut_off (map_named robbed 0 2 1) 1 ≡ true
 child_is_cut_off = refl
 
 child_is_refused : (plain_step robbed (Load 2 0 1 1 0 1)).0 ≡ Err TakenByOwner
@@ -116,13 +122,13 @@ abbrev files_on : Slot → ℕ
 files_on None = 0
 files_on (Some m) = length m.files
 
-rsvd_told_as_none : AnswersWhatWas mounted Meminfo (Ok (Numbers (record (counts_in mounted) { rsvd = 0 }))) → ⊥
+rsvd_told_as_none : AnswersWhatWas mounted Meminfo (Ok (Numbers (record (counts_in mounted) { rsvd = 0 }))) mounted → ⊥
 rsvd_told_as_none e = (let wrong : false ≡ true = subst (λ a. (rsvd_in a == 0) ≡ true) e refl in cc)
 
-usage_told_as_less : AnswersWhatWas mounted (Df 2) (Ok (Usage (Some 3) 2 2 None 1)) → ⊥
+usage_told_as_less : AnswersWhatWas mounted (Df 2) (Ok (Usage (Some 3) 2 2 None 1)) mounted → ⊥
 usage_told_as_less e = (let wrong : false ≡ true = subst (λ a. (used_in a == 2) ≡ true) e refl in cc)
 
-usage_of_no_mount : AnswersWhatWas mounted (Df 3) (Ok (Usage None 0 0 None 0)) → ⊥
+usage_of_no_mount : AnswersWhatWas mounted (Df 3) (Ok (Usage None 0 0 None 0)) mounted → ⊥
 usage_of_no_mount e = e
 
 abbrev names_in : Answer → ℕ
@@ -137,25 +143,25 @@ abbrev home_in : Answer → ℕ
 home_in (Home home) = home
 home_in other = 99
 
-names_told_without_one : AnswersWhatWas mounted (Ls 2) (Ok (Names [])) → ⊥
+names_told_without_one : AnswersWhatWas mounted (Ls 2) (Ok (Names [])) mounted → ⊥
 names_told_without_one e = (let wrong : false ≡ true = subst (λ a. (names_in a == 1) ≡ true) (sym e) refl in cc)
 
-names_of_no_mount : AnswersWhatWas mounted (Ls 3) (Ok (Names [])) → ⊥
+names_of_no_mount : AnswersWhatWas mounted (Ls 3) (Ok (Names [])) mounted → ⊥
 names_of_no_mount e = e
 
-holes_told_as_pages : AnswersWhatWas mounted (Stat 2 (codes "a")) (Ok (StatAnswer 3 3 3 1)) → ⊥
+holes_told_as_pages : AnswersWhatWas mounted (Stat 2 (codes "a")) (Ok (StatAnswer 3 3 3 1)) mounted → ⊥
 holes_told_as_pages e = (let wrong : false ≡ true = subst (λ a. (pages_in a == 0) ≡ true) (sym e) refl in cc)
 
-numbers_of_no_file : AnswersWhatWas mounted (Stat 2 (codes "b")) (Ok (StatAnswer 0 0 0 0)) → ⊥
+numbers_of_no_file : AnswersWhatWas mounted (Stat 2 (codes "b")) (Ok (StatAnswer 0 0 0 0)) mounted → ⊥
 numbers_of_no_file e = e
 
-another_home_told : AnswersWhatWas mounted (Attach 1) (Ok (Home 1)) → ⊥
+another_home_told : AnswersWhatWas mounted (Attach 1) (Ok (Home 1)) mounted → ⊥
 another_home_told e = (let wrong : false ≡ true = subst (λ a. (home_in a == 0) ≡ true) (sym e) refl in cc)
 
-home_of_no_task : AnswersWhatWas mounted (Attach 2) (Ok (Home 0)) → ⊥
+home_of_no_task : AnswersWhatWas mounted (Attach 2) (Ok (Home 0)) mounted → ⊥
 home_of_no_task e = e
 
-refused_create_makes_a_file : LeavesAll mounted (Create 2 (codes "a/b")) (Err BadName) (plain_step mounted (Create 2 (codes "b"))).1 → ⊥
+refused_create_makes_a_file : ChangesRefused mounted (Create 2 (codes "a/b")) BadName (plain_step mounted (Create 2 (codes "b"))).1 → ⊥
 refused_create_makes_a_file e = (let wrong : false ≡ true = subst (λ x. (files_on (slot_at x 2) == 2) ≡ true) e refl in cc)
 
 limit_forgotten : SameLimits (slot_at mounted 2) (Some (record { limits = record { max = None; min = 2; inodes = None }; files = [] })) → ⊥
@@ -175,28 +181,24 @@ file_of_name None = 99
 file_of_name (Some f) = f.0
 
 mapped_on_another_file :
-    Makes shared (Map 1 0 (codes "a") 0 1 Shared NoReserve) (Ok (MapNo 4)) (plain_step shared (Map 1 0 (codes "b") 0 1 Shared NoReserve)).1 → ⊥
-mapped_on_another_file e = grind (arith, common_steps)
+    Changes shared (Map 1 0 (codes "a") 0 1 Shared NoReserve) (MapNo 4) (plain_step shared (Map 1 0 (codes "b") 0 1 Shared NoReserve)).1 → ⊥
+mapped_on_another_file e = (let wrong : 1 ≡ 0 = ap (λ (s : State). (spot_or (map_named s 0 1 4)).file_no) e.1.0 in absurd (omega (arith, wrong)))
 
-number_in_use : Makes shared (Map 1 0 (codes "a") 0 1 Shared NoReserve) (Ok (MapNo 2)) (plain_step shared (Map 1 0 (codes "a") 0 1 Shared NoReserve)).1 → ⊥
+number_in_use : Changes shared (Map 1 0 (codes "a") 0 1 Shared NoReserve) (MapNo 2) (plain_step shared (Map 1 0 (codes "a") 0 1 Shared NoReserve)).1 → ⊥
 number_in_use e = (let there : 1 ≡ 99 = ap file_of_spot e.0 in absurd (omega (arith, there)))
 
 -- an anonymous map that is not made, that has the number of another, and that is made of a file with a name
-anon_and_forgotten : Makes shared (Anon 1 1 Private NoReserve) (Ok (MapNo 4)) shared → ⊥
-anon_and_forgotten e = (let wrong : false ≡ true = ap is_some e.1.1 in cc)
+anon_and_forgotten : Changes shared (Anon 1 1 Private NoReserve) (MapNo 4) shared → ⊥
+anon_and_forgotten e = (let wrong : false ≡ true = ap (λ (s : State). is_some (map_named s 0 1 4)) e.1.0 in cc)
 
-anon_of_a_number_in_use : Makes shared (Anon 1 1 Private NoReserve) (Ok (MapNo 2)) (plain_step shared (Anon 1 1 Private NoReserve)).1 → ⊥
+anon_of_a_number_in_use : Changes shared (Anon 1 1 Private NoReserve) (MapNo 2) (plain_step shared (Anon 1 1 Private NoReserve)).1 → ⊥
 anon_of_a_number_in_use e = (let there : 1 ≡ 99 = ap file_of_spot e.0 in absurd (omega (arith, there)))
 
-abbrev file_in_spot : Option Spot → File
-file_in_spot None = new_file None
-file_in_spot (Some s) = s.file
+anon_of_a_named_file : Changes shared (Anon 1 1 Private NoReserve) (MapNo 4) (plain_step shared (Map 1 0 (codes "b") 0 1 Private NoReserve)).1 → ⊥
+anon_of_a_named_file e = (let wrong : true ≡ false = ap (λ (s : State). is_some (spot_or (map_named s 0 1 4)).file.name) e.1.0 in cc)
 
-anon_of_a_named_file : Makes shared (Anon 1 1 Private NoReserve) (Ok (MapNo 4)) (plain_step shared (Map 1 0 (codes "b") 0 1 Private NoReserve)).1 → ⊥
-anon_of_a_named_file e = (let wrong : true ≡ false = ap is_some (ap (λ (f : File). f.name) (ap file_in_spot e.1.1 ∙ e.1.3)) in cc)
-
-created_and_forgotten : Makes shared (Create 0 (codes "c")) (Ok Done) shared → ⊥
-created_and_forgotten e = (let wrong : false ≡ true = ap is_some e.1.1 in cc)
+created_and_forgotten : Changes shared (Create 0 (codes "c")) Done shared → ⊥
+created_and_forgotten e = (let wrong : 2 ≡ 3 = ap (λ (s : State). files_on (slot_at s 0)) e in absurd (omega (arith, wrong)))
 
 -- ---- a name that means another file, a name and a number that are lost
 
@@ -281,10 +283,6 @@ whole_is_the_end : is_ended_number forked (Unmap 1 0 1 0 2) (Ok Done) 0 1 1 ≡ 
 whole_is_the_end = refl
 
 -- ---- copies that an owner takes back: only at the index of its write, only from other maps, and it keeps its own
-
-abbrev pub spot_or : Option Spot → Spot
-spot_or None = record { file_no = 99; file = new_file None; map_no = 99; map = no_map }
-spot_or (Some s) = s
 
 -- parent and child hold two copies
 abbrev sharing : State

@@ -1,10 +1,10 @@
 -- For the fields of the promises a wrong machine that the record refuses: a reply, or a state after the step.
-use Rattle.std.proofs.lemmas.Grind.{common_steps}
-use Rattle.std.proofs.Common.{◌≡◌, ⊎_elim, ℕ, ◌≤◌, ◌∙◌, Bool, true, false, None, Option, Some, Ok, Err, [], ◌∷◌, length, replicate, refl, ap, arith, count_by, codes, is_some}
-use Rattle.hp_laws.proofs.Variants.{Busy, Connect, Create, Df, Done, Entered, Exit, Fault, Fork, Gone, Hole, Limits, Live, Load, Map, MapNo, MinOverSize, Mount, MountFull, NoPages, NoReserve}
+use Rattle.std.proofs.Common.{◌≡◌, ℕ, ◌≤◌, Bool, true, false, None, Option, Some, Ok, Err, [], ◌∷◌, length, replicate, refl, ap, arith, count_by, codes, is_some}
+use Rattle.hp_laws.proofs.Variants.{Busy, Connect, Create, Df, Done, Entered, Exit, Fault, Fork, Gone, Hole, Live, Load, Map, MapNo, MinOverSize, Mount, MountFull, NoPages, NoReserve}
 use Rattle.hp_laws.proofs.Variants.{NoSuchMap, Nr, Number, OutOfMemory, OutOfRange, Private, Punch, Read, Refusal, Remount, Reserve, Shared, SlotTaken, Stat, StatAnswer, Step, Store, TakenByOwner}
 use Rattle.hp_laws.proofs.Variants.{Umount, Unlink, Unmap}
-use Rattle.hp_model.proofs.Words.{File, IsPromised, IsPromisedStep, Reply, Slot, Spot, State, copy_of, file_in, is_entered, is_live, is_unconsumed, new_file, place_at, plain_step, slot_at, with_file}
+use Rattle.hp_model.proofs.Words.{File, IsPromised, IsPromisedStep, Reply, Slot, Spot, State, copy_of, file_in, is_entered, is_live, is_unconsumed, place_at, plain_step, slot_at, with_file, home_of}
+use Rattle.hp_model.proofs.Words.{map_named, named_on}
 use Rattle.hp_model.proofs.Words.{with_place, with_slot}
 use Rattle.hp_worked.proofs.WorkedPromises.{after_all, child_in, forked, into_first, mounted, parent_in, robbed, shared, spot_or, unmapped_first, with_map_of, without_pages}
 use Rattle.hp_worked.proofs.WorkedWords.{machine}
@@ -41,11 +41,11 @@ abbrev reserving : Step
 reserving = Map 1 0 (codes "b") 0 1 Shared Reserve
 
 map_enters_nothing : IsPromised shared reserving (Ok (MapNo 4)) (plain_step shared (Map 1 0 (codes "b") 0 1 Shared NoReserve)).1 → ⊥
-map_enters_nothing promised = (let wrong : false ≡ true = promised.ranges.reserved refl 0 refl in cc)
+map_enters_nothing promised = (let wrong : 0 ≡ 1 = ap (λ (s : State). count_by is_entered (spot_or (map_named s 0 1 4)).file.cells) promised.footprint.0.1.0 in absurd (omega (arith, wrong)))
 
 -- a map makes its file longer than it needs
 longer_than_needed : IsPromised shared (Map 1 0 (codes "b") 0 1 Shared NoReserve) (Ok (MapNo 4)) (plain_step shared (Map 1 0 (codes "b") 0 2 Shared NoReserve)).1 → ⊥
-longer_than_needed promised = (let wrong : 2 ≡ 1 = promised.ranges.pages in absurd (omega (arith, wrong)))
+longer_than_needed promised = (let wrong : 2 ≡ 1 = ap (λ (s : State). length (spot_or (map_named s 0 1 4)).file.cells) promised.footprint.0.1.0 in absurd (omega (arith, wrong)))
 
 -- ---- tests: a wrong refusal, and one without a reason
 
@@ -94,15 +94,15 @@ home_or (Some home) = home
 
 -- a task connects at another node
 connects_elsewhere : IsPromised machine (Connect 1 0) (Ok Done) (record machine { table = (1, 1) ∷ [] }) → ⊥
-connects_elsewhere promised = (let wrong : 1 ≡ 0 = ap home_or (promised.settings.homes 1) in absurd (omega (arith, wrong)))
+connects_elsewhere promised = (let wrong : 1 ≡ 0 = ap (λ (s : State). home_or (home_of s.table 1)) promised.footprint.0 in absurd (omega (arith, wrong)))
 
 -- a create forgets a task
 forgets_a_task : IsPromised mounted (Create 2 (codes "b")) (Ok Done) (record (plain_step mounted (Create 2 (codes "b"))).1 { table = [] }) → ⊥
-forgets_a_task promised = (let wrong : 99 ≡ 0 = ap home_or (promised.settings.homes 1) in absurd (omega (arith, wrong)))
+forgets_a_task promised = (let wrong : 0 ≡ 1 = ap (λ (s : State). length s.table) promised.footprint.0 in absurd (omega (arith, wrong)))
 
 -- a child is of another node than its parent
 child_of_another_node : IsPromised mounted (Fork 1 2) (Ok Done) (record (plain_step mounted (Fork 1 2)).1 { table = (1, 0) ∷ (2, 1) ∷ [] }) → ⊥
-child_of_another_node promised = (let wrong : 1 ≡ 0 = ap home_or (promised.settings.homes 2) in absurd (omega (arith, wrong)))
+child_of_another_node promised = (let wrong : 1 ≡ 0 = ap (λ (s : State). home_or (home_of s.table 2)) promised.footprint.0.0 in absurd (omega (arith, wrong)))
 
 -- nr answers what it did not leave, and a store changes overcommit
 abbrev number_in : Reply → ℕ
@@ -110,13 +110,13 @@ number_in (Ok (Number n)) = n
 number_in other = 99
 
 answers_another_nr : IsPromised mounted (Nr 4) (Ok (Number 3)) mounted → ⊥
-answers_another_nr promised = (let wrong : 3 ≡ 4 = ap (λ a. number_in (Ok a)) promised.settings.told in absurd (omega (arith, wrong)))
+answers_another_nr promised = (let wrong : 3 ≡ 4 = ap (λ a. number_in (Ok a)) promised.answers in absurd (omega (arith, wrong)))
 
 leaves_nr : IsPromised mounted (Nr 1) (Ok (Number 4)) mounted → ⊥
-leaves_nr promised = (let wrong : 4 ≡ 1 = promised.settings.nr in absurd (omega (arith, wrong)))
+leaves_nr promised = (let wrong : 4 ≡ 1 = ap (λ (s : State). s.nr) promised.footprint.0.0 in absurd (omega (arith, wrong)))
 
 raises_overcommit : IsPromised shared into_first (Ok Done) (record (plain_step shared into_first).1 { overcommit = 7 }) → ⊥
-raises_overcommit promised = (let wrong : 7 ≡ 0 = promised.settings.overcommit in absurd (omega (arith, wrong)))
+raises_overcommit promised = (let wrong : 7 ≡ 0 = ap (λ (s : State). s.overcommit) promised.footprint.0.2.0 in absurd (omega (arith, wrong)))
 
 -- ---- a stat that drops empty entries
 
@@ -129,32 +129,30 @@ cells_on None = 0
 cells_on (Some m) = length (file_in m 0).cells
 
 stat_drops_entries : IsPromised mounted (Stat 2 (codes "a")) (Ok (StatAnswer 3 0 3 1)) (with_slot mounted 2 (bare (slot_at mounted 2))) → ⊥
-stat_drops_entries promised = grind (arith, common_steps)
+stat_drops_entries promised = (let wrong : 0 ≡ 3 = ap (λ (s : State). cells_on (slot_at s 2)) promised.footprint.0 in absurd (omega (arith, wrong)))
 
 -- ---- steps that take entries on a slot that they are not on
 
 connect_drops_entries : IsPromised mounted (Connect 3 0) (Ok Done) (with_slot (plain_step mounted (Connect 3 0)).1 2 (bare (slot_at mounted 2))) → ⊥
-connect_drops_entries promised =
-    (let wrong : 0 ≡ 3 = ap cells_on (promised.elsewhere 2 refl) in absurd (omega (arith, wrong)))
+connect_drops_entries promised = (let wrong : 0 ≡ 3 = ap (λ (s : State). cells_on (slot_at s 2)) promised.footprint.0 in absurd (omega (arith, wrong)))
 
 create_drops_entries_elsewhere : IsPromised mounted (Create 0 (codes "b")) (Ok Done) (with_slot (plain_step mounted (Create 0 (codes "b"))).1 2 (bare (slot_at mounted 2))) → ⊥
-create_drops_entries_elsewhere promised =
-    (let wrong : 0 ≡ 3 = ap cells_on (promised.elsewhere 2 refl) in absurd (omega (arith, wrong)))
+create_drops_entries_elsewhere promised = (let wrong : 0 ≡ 3 = ap (λ (s : State). cells_on (slot_at s 2)) promised.footprint.0 in absurd (omega (arith, wrong)))
 
 -- ---- an exit that keeps the maps of its task, an umount that keeps the mount, an unlink that keeps the name, and an unmap of all that keeps
 -- the number
 
 exit_keeps_maps : IsPromised shared (Exit 1) (Ok Done) (record shared { table = [] }) → ⊥
-exit_keeps_maps promised = (let wrong : true ≡ false = ap is_some (promised.gone 0 1) in cc)
+exit_keeps_maps promised = (let wrong : true ≡ false = ap (λ (s : State). is_some (map_named s 0 1 1)) promised.footprint.0.0 in cc)
 
 umount_keeps_the_mount : IsPromised mounted (Umount 2) (Ok Done) mounted → ⊥
-umount_keeps_the_mount promised = (let wrong : true ≡ false = ap is_some promised.gone in cc)
+umount_keeps_the_mount promised = (let wrong : true ≡ false = ap (λ (s : State). is_some (slot_at s 2)) promised.footprint.0.0 in cc)
 
 unlink_keeps_the_name : IsPromised shared (Unlink 0 (codes "a")) (Ok Done) shared → ⊥
-unlink_keeps_the_name promised = (let wrong : true ≡ false = ap is_some promised.gone in cc)
+unlink_keeps_the_name promised = (let wrong : true ≡ false = ap (λ (s : State). is_some (named_on (slot_at s 0) (codes "a"))) promised.footprint.0.0 in cc)
 
 unmap_keeps_the_number : IsPromised shared (Unmap 1 0 1 0 1) (Ok Done) shared → ⊥
-unmap_keeps_the_number promised = (let wrong : true ≡ false = ap is_some (promised.gone refl) in cc)
+unmap_keeps_the_number promised = (let wrong : true ≡ false = ap (λ (s : State). is_some (map_named s 0 1 1)) promised.footprint.0.0 in cc)
 
 -- ---- a mount with other limits than its options mean
 
@@ -163,7 +161,7 @@ max_of None = None
 max_of (Some m) = m.limits.max
 
 mounted_without_its_limit : IsPromised shared (Mount 2 (codes "size=3K")) (Ok Done) (plain_step shared (Mount 2 (codes "-"))).1 → ⊥
-mounted_without_its_limit promised = (let wrong : false ≡ true = ap (λ x. is_some (max_of x)) promised.mounted.1 in cc)
+mounted_without_its_limit promised = (let wrong : false ≡ true = ap (λ (s : State). is_some (max_of (slot_at s 2))) promised.footprint.0.1.0 in cc)
 
 -- ---- a remount that leaves the old limit, drops a file, loses reservations, changes another mount, and raises a minimum that nothing backs
 
@@ -171,7 +169,7 @@ abbrev smaller : Step
 smaller = Remount 2 (codes "size=2K,min_size=2K")
 
 remounted_with_its_old_limit : IsPromised mounted smaller (Ok Done) mounted → ⊥
-remounted_with_its_old_limit promised = grind (arith, common_steps)
+remounted_with_its_old_limit promised = (let wrong : 3 ≡ 2 = ap (λ (s : State). home_or (max_of (slot_at s 2))) promised.footprint.0.0 in absurd (omega (arith, wrong)))
 
 abbrev remounted_to : (Slot → Slot) → State
 remounted_to h = (let t : State = (plain_step mounted smaller).1 in with_slot t 2 (h (slot_at t 2)))
@@ -185,10 +183,10 @@ files_on None = 0
 files_on (Some m) = length m.files
 
 remount_drops_a_file : IsPromised mounted smaller (Ok Done) (remounted_to without_files) → ⊥
-remount_drops_a_file promised = (let wrong : 0 ≡ 1 = ap files_on promised.mounted in absurd (omega (arith, wrong)))
+remount_drops_a_file promised = (let wrong : 0 ≡ 1 = ap (λ (s : State). files_on (slot_at s 2)) promised.footprint.0.0 in absurd (omega (arith, wrong)))
 
 remount_loses_reservations : IsPromised mounted smaller (Ok Done) (remounted_to bare) → ⊥
-remount_loses_reservations promised = (let wrong : 0 ≡ 3 = ap cells_on promised.mounted in absurd (omega (arith, wrong)))
+remount_loses_reservations promised = (let wrong : 0 ≡ 3 = ap (λ (s : State). cells_on (slot_at s 2)) promised.footprint.0.0 in absurd (omega (arith, wrong)))
 
 abbrev with_limit : (max min : ℕ) → Slot → Slot
 with_limit max min None = None
@@ -198,11 +196,11 @@ abbrev another_limited : State
 another_limited = (let t : State = (plain_step mounted smaller).1 in with_slot t 0 (with_limit 1 0 (slot_at t 0)))
 
 remount_changes_another_mount : IsPromised mounted smaller (Ok Done) another_limited → ⊥
-remount_changes_another_mount promised = (let wrong : true ≡ false = ap (λ (l : Limits). is_some l.max) (promised.mounts 0 refl) in cc)
+remount_changes_another_mount promised = (let wrong : true ≡ false = ap (λ (s : State). is_some (max_of (slot_at s 0))) promised.footprint.0.0 in cc)
 
 -- and a step that is no remount has set limits
 create_changes_limits : IsPromised mounted (Create 2 (codes "b")) (Ok Done) (with_slot mounted 2 (with_limit 9 2 (slot_at mounted 2))) → ⊥
-create_changes_limits promised = grind (arith, common_steps)
+create_changes_limits promised = (let wrong : 9 ≡ 3 = ap (λ (s : State). home_or (max_of (slot_at s 2))) promised.footprint.0 in absurd (omega (arith, wrong)))
 
 -- of 4 pages 5 are promised
 abbrev past_the_pool : Step
@@ -246,27 +244,19 @@ abbrev one_spent : State
 one_spent = with_map_of 0 (with_place (parent_in after_unmap).map 1 (Live true None)) after_unmap
 
 unmap_spends_another_index : IsPromised forked unmapped_first (Ok Done) one_spent → ⊥
-unmap_spends_another_index promised =
-    (let kept = promised.unmaps 1 1 (parent_in forked) refl refl in
-    let wrong : false ≡ true = ap (λ o. reserve_at o 1) kept.1 ∙ ap is_unconsumed (kept.2.0 1) in cc)
+unmap_spends_another_index promised = (let wrong : false ≡ true = ap (λ (s : State). reserve_at (map_named s 0 1 1) 1) promised.footprint.0.0 in cc)
 
 range_stays_mapped : IsPromised forked unmapped_first (Ok Done) forked → ⊥
-range_stays_mapped promised =
-    (let kept = promised.unmaps 1 1 (parent_in forked) refl refl in
-    let wrong : true ≡ false = ap (λ o. live_at o 0) kept.1 ∙ ap is_live (kept.2.0 0) in cc)
+range_stays_mapped promised = (let wrong : true ≡ false = ap (λ (s : State). live_at (map_named s 0 1 1) 0) promised.footprint.0.0 in cc)
 
 abbrev child_cut : State
 child_cut = with_map_of 1 (with_place (child_in after_unmap).map 1 Gone) after_unmap
 
 unmap_takes_from_another_map : IsPromised forked unmapped_first (Ok Done) child_cut → ⊥
-unmap_takes_from_another_map promised =
-    (let kept = promised.unmaps 2 1 (child_in forked) refl refl in
-    let wrong : false ≡ true = ap (λ o. live_at o 1) kept.1 ∙ ap is_live (kept.2.0 1) in cc)
+unmap_takes_from_another_map promised = (let wrong : false ≡ true = ap (λ (s : State). live_at (map_named s 0 2 1) 1) promised.footprint.0.0 in cc)
 
 unmap_marks_another_map : IsPromised forked unmapped_first (Ok Done) (with_map_of 1 (record (child_in after_unmap).map { unmapped = true }) after_unmap) → ⊥
-unmap_marks_another_map promised =
-    (let kept = promised.unmaps 2 1 (child_in forked) refl refl in
-    let wrong : true ≡ false = ap (λ o. (spot_or o).map.unmapped) kept.1 ∙ kept.2.2 in cc)
+unmap_marks_another_map promised = (let wrong : true ≡ false = ap (λ (s : State). (child_in s).map.unmapped) promised.footprint.0.0 in cc)
 
 -- ---- a fault that spends an index of another task's map, or marks its own map
 
@@ -280,17 +270,13 @@ abbrev read_spends : State
 read_spends = with_map_of 0 (with_place (parent_in after_read).map 1 (Live true None)) after_read
 
 fault_spends_another_index : IsPromised forked child_reads (Ok Done) read_spends → ⊥
-fault_spends_another_index promised =
-    (let kept = (promised.kept 0 refl).maps 1 1 (parent_in forked) (parent_in read_spends) refl refl in
-    ⊎_elim (λ same. (let wrong : false ≡ true = ap is_unconsumed same in cc)) (λ spent. (let wrong : false ≡ true = spent.own in cc)) (kept.places 1))
+fault_spends_another_index promised = (let wrong : false ≡ true = ap (λ (s : State). reserve_at (map_named s 0 1 1) 1) promised.footprint.0 in cc)
 
 abbrev read_marks : State
 read_marks = with_map_of 1 (record (child_in after_read).map { unmapped = true }) after_read
 
 fault_marks_its_map : IsPromised forked child_reads (Ok Done) read_marks → ⊥
-fault_marks_its_map promised =
-    (let kept = (promised.kept 0 refl).maps 2 1 (child_in forked) (child_in read_marks) refl refl in
-    ⊎_elim (λ was. (let wrong : false ≡ true = was in cc)) (λ lost. lost) (kept.marked refl))
+fault_marks_its_map promised = (let wrong : true ≡ false = ap (λ (s : State). (child_in s).map.unmapped) promised.footprint.0 in cc)
 
 -- ---- an owner's store that leaves its index reserved
 
@@ -306,26 +292,21 @@ unspent_after =
     with_map_of 0 (with_place (parent_in t).map 0 (Live false (copy_of (place_at (parent_in t).map 0)))) t
 
 store_spends_nothing : IsPromised reserved first_store (Ok Done) unspent_after → ⊥
-store_spends_nothing promised = grind (arith, common_steps)
+store_spends_nothing promised = (let wrong : true ≡ false = ap (λ (s : State). reserve_at (map_named s 0 1 1) 0) promised.footprint.0.3.0 in cc)
 
 -- ---- a create, a map and a punch that drop entries of a file
-
-abbrev first_file : State → ℕ × File
-first_file t = (0, elim (slot_at t 2) [ None ↦ new_file None | Some m ↦ file_in m 0 ])
 
 abbrev created_bare : State
 created_bare = (let t : State = (plain_step mounted (Create 2 (codes "b"))).1 in with_slot t 2 (bare (slot_at t 2)))
 
 create_drops_entries : IsPromised mounted (Create 2 (codes "b")) (Ok Done) created_bare → ⊥
-create_drops_entries promised =
-    (let kept = (promised.kept 2 refl).files (codes "a") (first_file mounted) (first_file created_bare) refl refl refl 1 in
-    ⊎_elim (λ same. (let wrong : false ≡ true = ap is_entered same in cc)) (λ never. never) kept)
+create_drops_entries promised = (let wrong : 0 ≡ 3 = ap (λ (s : State). cells_on (slot_at s 2)) promised.footprint.0 in absurd (omega (arith, wrong)))
 
 abbrev punched_bare : State
 punched_bare = (let t : State = (plain_step mounted (Punch 2 (codes "a") 0 1)).1 in with_slot t 2 (bare (slot_at t 2)))
 
 punch_drops_entries : IsPromised mounted (Punch 2 (codes "a") 0 1) (Ok Done) punched_bare → ⊥
-punch_drops_entries promised = grind (arith, common_steps)
+punch_drops_entries promised = (let wrong : 0 ≡ 3 = ap (λ (s : State). cells_on (slot_at s 2)) promised.footprint.0.0 in absurd (omega (arith, wrong)))
 
 -- ---- a fork that gives the child a map without its copies, one that owns, a map more, and a map of another file
 
@@ -342,18 +323,16 @@ abbrev copy_at : Option Spot → ℕ → Bool
 copy_at o i = is_some (copy_of (place_at (spot_or o).map i))
 
 child_has_no_copy : IsPromised unforked (Fork 1 2) (Ok Done) fork_loses → ⊥
-child_has_no_copy promised =
-    (let kept = (promised.forks 0 1 refl).1 in
-    let wrong : false ≡ true = ap (λ o. copy_at o 0) kept.1 ∙ ap (λ x. is_some (copy_of (place_at x 0))) kept.2 in cc)
+child_has_no_copy promised = (let wrong : false ≡ true = ap (λ (s : State). copy_at (map_named s 0 2 1) 0) promised.footprint.0.0 in cc)
 
 child_owns : IsPromised unforked (Fork 1 2) (Ok Done) (with_map_of 1 (record (child_in after_fork).map { owner = true }) after_fork) → ⊥
-child_owns promised = grind (arith, common_steps)
+child_owns promised = (let wrong : true ≡ false = ap (λ (s : State). (child_in s).map.owner) promised.footprint.0.0 in cc)
 
 abbrev fork_makes_one_more : State
 fork_makes_one_more = (plain_step after_fork (Map 2 0 (codes "a") 0 1 Private NoReserve)).1
 
 child_has_a_map_more : IsPromised unforked (Fork 1 2) (Ok Done) fork_makes_one_more → ⊥
-child_has_a_map_more promised = (let wrong : true ≡ false = ap is_some (promised.forks 0 2 refl) in cc)
+child_has_a_map_more promised = (let wrong : true ≡ false = ap (λ (s : State). is_some (map_named s 0 2 2)) promised.footprint.0.0 in cc)
 
 -- the child's map stands on the second file
 abbrev elsewhere : Slot → Slot
@@ -362,7 +341,7 @@ elsewhere (Some m) =
     Some (with_file (with_file m 0 (record (file_in m 0) { maps = (parent_in after_fork).map ∷ [] })) 1 (record (file_in m 1) { maps = (child_in after_fork).map ∷ [] }))
 
 child_maps_another_file : IsPromised unforked (Fork 1 2) (Ok Done) (with_slot after_fork 0 (elsewhere (slot_at after_fork 0))) → ⊥
-child_maps_another_file promised = (let wrong : false ≡ true = (promised.forks 0 1 refl).0 in cc)
+child_maps_another_file promised = (let wrong : 1 ≡ 0 = ap (λ (s : State). (child_in s).file_no) promised.footprint.0.0 in absurd (omega (arith, wrong)))
 
 -- ---- an exit of the child that spends an index of its parent
 
@@ -373,9 +352,7 @@ abbrev exit_spends : State
 exit_spends = with_map_of 0 (with_place (parent_in after_exit).map 1 (Live true None)) after_exit
 
 child_leaves_a_spent_index : IsPromised forked (Exit 2) (Ok Done) exit_spends → ⊥
-child_leaves_a_spent_index promised =
-    (let kept = promised.whole 0 1 1 (parent_in forked) refl refl in
-    let wrong : false ≡ true = ap (λ o. reserve_at o 1) kept.1 ∙ ap (λ x. is_unconsumed (place_at x 1)) kept.2 in cc)
+child_leaves_a_spent_index promised = (let wrong : false ≡ true = ap (λ (s : State). reserve_at (map_named s 0 1 1) 1) promised.footprint.0.0 in cc)
 
 -- ---- an unmap and an exit of a file's last map that drop its entries, and a fork that drops those of a file without maps
 
@@ -390,19 +367,13 @@ abbrev unmapped_all : Step
 unmapped_all = Unmap 1 2 1 0 3
 
 unmap_drops_entries : IsPromised mounted unmapped_all (Ok Done) (unentered (plain_step mounted unmapped_all).1) → ⊥
-unmap_drops_entries promised =
-    (let kept = promised.kept 2 (codes "a") (first_file mounted) refl in
-    let wrong : 0 ≡ 3 = ap entries_of kept.1 ∙ ap (count_by is_entered) kept.2 in absurd (omega (arith, wrong)))
+unmap_drops_entries promised = (let wrong : 0 ≡ 3 = ap (λ (s : State). entries_of (named_on (slot_at s 2) (codes "a"))) promised.footprint.0.0 in absurd (omega (arith, wrong)))
 
 exit_drops_entries : IsPromised mounted (Exit 1) (Ok Done) (unentered (plain_step mounted (Exit 1)).1) → ⊥
-exit_drops_entries promised =
-    (let kept = promised.kept 2 (codes "a") (first_file mounted) refl in
-    let wrong : 0 ≡ 3 = ap entries_of kept.1 ∙ ap (count_by is_entered) kept.2 in absurd (omega (arith, wrong)))
+exit_drops_entries promised = (let wrong : 0 ≡ 3 = ap (λ (s : State). entries_of (named_on (slot_at s 2) (codes "a"))) promised.footprint.0.0 in absurd (omega (arith, wrong)))
 
 abbrev without_maps : State
 without_maps = (plain_step mounted unmapped_all).1
 
 fork_drops_entries : IsPromised without_maps (Fork 1 2) (Ok Done) (unentered (plain_step without_maps (Fork 1 2)).1) → ⊥
-fork_drops_entries promised =
-    (let kept = promised.kept 2 (codes "a") (first_file without_maps) refl in
-    let wrong : 0 ≡ 3 = ap entries_of kept.1 ∙ ap (count_by is_entered) kept.2 in absurd (omega (arith, wrong)))
+fork_drops_entries promised = (let wrong : 0 ≡ 3 = ap (λ (s : State). entries_of (named_on (slot_at s 2) (codes "a"))) promised.footprint.0.0 in absurd (omega (arith, wrong)))

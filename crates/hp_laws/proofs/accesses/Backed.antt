@@ -2,10 +2,10 @@
 use Rattle.std.proofs.Common.{arith, ◌≡◌, ℕ, true, Option, None, Some, List, length}
 use Rattle.hp_laws.proofs.Variants.{Done, Intent, NoSuchMap, Read, Write}
 use Rattle.hp_model.specs.declared.event.SlotEvent.TheVariants as slot
-use Rattle.hp_model.proofs.Words.{Answered, Choice, Mount, Outcome, Slot, Spot, access, again, byte_access, bytes_answer, continued, is_backed, is_cut_off, is_map, is_refused, load, slot_event, spot}
+use Rattle.hp_model.proofs.Words.{Answered, Choice, Mount, Outcome, Slot, Spot, access, again, byte_access, bytes_answer, continued, is_backed, is_map, load, slot_event, spot}
 use Rattle.hp_model.proofs.Words.{spot_on, store, value, with_value, written}
 use Rattle.hp_laws.specs.Laws.{KeepsGoing}
-use Rattle.hp_laws.proofs.steps.Outcomes.{reply_of, Always, always_test, always_then}
+use Rattle.hp_laws.proofs.steps.Outcomes.{Always, always_test, always_then}
 
 module _ (c : Choice) (size : ℕ) (m : Mount) (s : Spot) (home i : ℕ) where
   access_goes : (intent : Intent) → is_backed intent (Some s) i ≡ true → Always KeepsGoing (access c size m s home i intent)
@@ -42,27 +42,3 @@ module _ (size k : ℕ) (c : Choice) (task home number i offset : ℕ) where
 pub fault_goes : (size k : ℕ) (c : Choice) (task home number i : ℕ) (intent : Intent) (old : Slot) → is_backed intent (spot_on old task number) i ≡ true
     → Always KeepsGoing (slot_event size k c old (slot.Fault task home number i intent))
 fault_goes size k c task home number i intent old e = grind (arith, Always, always_test, access_goes)
-
--- ---- an access through a marked map, where it has no copy
-
-abbrev pub Stops : Outcome → Type 0
-Stops o = is_refused (reply_of o) ≡ true
-
-still_stops : (f : Mount → Outcome) (o : Outcome) → Stops o → Stops (continued f o)
-still_stops f o stops = grind arith
-
-module _ (c : Choice) (size : ℕ) (m : Mount) (s : Spot) (home i : ℕ) where
-  bytes_stop : (offset count : ℕ) (intent : Intent) → is_cut_off (Some s) i ≡ true → Always Stops (byte_access c size m home i offset count intent s)
-  bytes_stop offset count intent e = grind arith
-
-module _ (size k : ℕ) (c : Choice) (task home number i offset : ℕ) where
-  pub load_stops : (old : Slot) (count : ℕ) → is_cut_off (spot_on old task number) i ≡ true → Always Stops (slot_event size k c old (slot.Load task home number i offset count))
-  load_stops None count e = cc
-  load_stops (Some m) count e = grind (arith, Always, always_then, still_stops, bytes_stop)
-
-  pub store_stops : (old : Slot) (bytes : List ℕ) → is_cut_off (spot_on old task number) i ≡ true → Always Stops (slot_event size k c old (slot.Store task home number i offset bytes))
-  store_stops old bytes e = grind arith
-
-pub fault_stops : (size k : ℕ) (c : Choice) (task home number i : ℕ) (intent : Intent) (old : Slot) → is_cut_off (spot_on old task number) i ≡ true
-    → Always Stops (slot_event size k c old (slot.Fault task home number i intent))
-fault_stops size k c task home number i intent old e = grind arith

@@ -5,10 +5,12 @@ use Rattle.std.proofs.lemmas.Grind.{common_steps}
 use Rattle.std.proofs.lemmas.Bool.{cond_both}
 use Rattle.hp_laws.proofs.Variants.{Answer, Cell, Done, FillPages, Gone, Hole, Intent, Limits, NoPages, NoSuchMap, OutOfMemory, Place, Read, Refusal, Reserving, Sharing, Write}
 use Rattle.hp_model.specs.declared.event.SlotEvent.TheVariants as slot
-use Rattle.hp_model.proofs.Words.{Answered, Ask, Choice, Copy, File, IsLoaded, IsSoundMount, Map, Mount, Outcome, Page, Plan, Refused, Slot, Spot, access, again, at_least, byte_access, bytes_answer}
-use Rattle.hp_model.proofs.Words.{continued, copy_of, edit_range, entered, file_in, gives, grant, granted, has_page, is_map, is_shared, is_shared_of, lacking, limits, load, map_in, map_on, mapped}
-use Rattle.hp_model.proofs.Words.{mount_on, mount_outcome, new_file, new_map, no_map, over, place_at, range_filled, reaches, remount, remount_outcome, remount_tests, reserves, rising_nodes, seen_on}
-use Rattle.hp_model.proofs.Words.{shown, shown_on, slot_event, spot, spot_on, store, unless, value, wanted_of, when_granted, with_file, with_new, with_value, written, zeros}
+use Rattle.hp_model.proofs.Words.{Answered, Ask, Choice, Copy, File, IsSoundMount, Map, Mount, Outcome, Page, Plan, Refused, Slot, Spot, access, again, at_least, byte_access, bytes_answer}
+use Rattle.hp_model.proofs.Words.{continued, copy_of, edit_range, entered, file_in, gives, grant, granted, has_page, is_map, is_shared, lacking, limits, load, map_in, mapped}
+use Rattle.hp_model.proofs.Words.{mount_on, mount_outcome, new_file, new_map, no_map, over, place_at, range_filled, remount, remount_outcome, remount_tests, reserves, rising_nodes}
+use Rattle.hp_model.proofs.Words.{shown, slot_event, spot, spot_on, store, unless, value, wanted_of, when_granted, with_file, with_new, with_value, written, zeros}
+use Rattle.hp_model.specs.machine.Footprint.{There}
+use Rattle.hp_laws.specs.Follows.{is_shared_of, map_on, reaches, seen_on, shown_on}
 use Rattle.hp_laws.specs.Balance.{left_by}
 use Rattle.hp_laws.proofs.lists.Looks.{same_edit_range, same_more, same_none, same_one, same_put}
 use Rattle.hp_laws.proofs.counts.MountMoves.{IsSpot, spot_is, IsFileAt}
@@ -154,7 +156,7 @@ module _ (size : ℕ) (c : Choice) (m : Mount) (home i : ℕ) where
 -- the files show what they showed, and an answer is what the map shows
 pub record Loads (size : ℕ) (old : Slot) (o : Option Spot) (i offset count : ℕ) (out : Outcome) : Type 0 where
   pub quiet : Quiet size old out
-  pub loaded : (a : Answer) (new : Slot) → out ≡ Answered a new → IsLoaded size old o i offset count a
+  pub loaded : (a : Answer) (new : Slot) → out ≡ Answered a new → There o (λ s. a ≡ bytes_answer offset count (value size s.file s.map i))
 
 load_refused : (size : ℕ) (old : Slot) (o : Option Spot) (i offset count : ℕ) (r : Refusal) → Loads size old o i offset count (Refused r)
 load_refused size old o i offset count r = record { quiet = (λ j x. refl, λ j l x. refl, λ j l. refl); loaded = λ a new e. cc }

@@ -5,8 +5,9 @@ use Rattle.std.proofs.Common.{nat_lt, slice_index_or}
 use Rattle.std.proofs.lemmas.Bool.{cases_eq, cond_both, eq-eqb, ltb-false, eqb-true, eqb-false}
 use Rattle.std.proofs.lemmas.List.{get_or-set_same, get_or-set_other}
 use Rattle.hp_laws.proofs.Variants.{Gone, Live, Place}
-use Rattle.hp_model.proofs.Words.{Copy, File, HasCopy, IsLost, IsSoundMount, Map, Mount, Spot, cell_written, copy_of, edit_at, file_in, file_written, holds, is_same_copy, is_shared, map_in}
+use Rattle.hp_model.proofs.Words.{Copy, File, HasCopy, IsSoundMount, Map, Mount, Spot, cell_written, copy_of, edit_at, file_in, file_written, holds, is_shared, map_in}
 use Rattle.hp_model.proofs.Words.{map_written, new_file, no_map, over, place_at, place_written, robbed, with_map, written}
+use Rattle.hp_laws.specs.Follows.{IsLost, is_same_copy}
 use Rattle.hp_laws.proofs.accesses.CopiesSound.{same_index}
 use Rattle.hp_laws.proofs.lists.Looks.{edit_here, edit_other, get_map, same_edit}
 use Rattle.hp_laws.proofs.counts.MountMoves.{IsSpot}

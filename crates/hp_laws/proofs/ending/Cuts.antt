@@ -1,6 +1,6 @@
 -- What files and maps show after a range of a file or of a map is gone.
 use Rattle.std.proofs.lemmas.Grind.{common_steps}
-use Rattle.std.proofs.Common.{◌≡◌, inl, inr, ◌⊎◌, subst, ℕ, ◌+◌, ◌-◌, ◌<◌, ◌≤◌, ◌&&◌, ◌==◌, Bool, true, false, Option, None, Some, List, length, map, replicate, take, get_or, option_map, refl, sym}
+use Rattle.std.proofs.Common.{◌≡◌, inl, inr, ◌⊎◌, subst, ℕ, ◌+◌, ◌-◌, ◌<◌, ◌≤◌, ◌&&◌, ◌==◌, Bool, true, false, Option, None, Some, List, length, map, get_or, option_map, refl, sym}
 use Rattle.std.proofs.Common.{ap, ◌∙◌, arith, if◌then◌else◌, nat_le, nat_lt}
 use Rattle.std.specs.List.{list_any}
 use Rattle.std.specs.Str.{bytes_eq}
@@ -8,17 +8,18 @@ use Rattle.std.proofs.lemmas.Slice.Eq.{bytes_eq-Decides}
 use Rattle.std.proofs.lemmas.Bool.{cases_eq, cases_lt, eq-eqb, eqb-true, false_from_ne_true, leb-false, leb-true, ltb-false, ltb-true}
 use Rattle.std.proofs.lemmas.List.{get_or-set_other, get_or-set_same, get_or_past}
 use Rattle.std.proofs.lemmas.List.Elements.{All-get_or}
-use Rattle.hp_laws.proofs.Variants.{Cell, Gone, Hole, Place, SlotEvent}
+use Rattle.hp_laws.proofs.Variants.{Cell, Gone, Place, SlotEvent}
 use Rattle.hp_model.specs.declared.event.SlotEvent.TheVariants as slot
-use Rattle.hp_model.proofs.Words.{Copy, File, IsSoundFile, IsSoundMap, IsSoundMount, Map, Mount, Page, Spot, cell_punched, cells_to, edit_range, file_in, file_named, found, has_name, is_in, is_map}
-use Rattle.hp_model.proofs.Words.{map_in, map_punched, means_file, new_file, no_map, place_at, punched, shape_of, shown, spot, spot_in, truncated, unlinked, value, with_file, without_copy, zeros}
+use Rattle.hp_model.proofs.Words.{Copy, File, IsSoundFile, IsSoundMap, IsSoundMount, Map, Mount, Page, Spot, cell_punched, edit_range, file_in, file_named, found, has_name, is_in, is_map}
+use Rattle.hp_model.proofs.Words.{map_in, map_punched, new_file, no_map, place_at, punched, shown, spot, spot_in, truncated, unlinked, value, with_file, without_copy, zeros}
+use Rattle.hp_laws.specs.Follows.{means_file, shape_of}
 use Rattle.hp_model.proofs.Editing.{get_or-edit_below, get_or-edit_in, get_or-edit_past, length-edit_range}
 use Rattle.hp_laws.proofs.names.Accessed.{file_put, get_mapped, key_map, pages_same}
 use Rattle.hp_laws.proofs.names.ByPlace.{PlaceKeeps}
 use Rattle.hp_laws.proofs.names.Changes.{seen_by, stored_by}
 use Rattle.hp_laws.proofs.names.Follows.{some_file}
 use Rattle.hp_laws.proofs.names.Keys.{keys, places}
-use Rattle.hp_laws.proofs.lists.Looks.{same_more, same_none, same_put}
+use Rattle.hp_laws.proofs.lists.Looks.{same_put}
 use Rattle.hp_laws.proofs.making.FilesMade.{in_file, spot_in_file}
 use Rattle.hp_laws.proofs.counts.MountMoves.{file_at, spot_is}
 use Rattle.hp_laws.proofs.names.Placed.{found_set, lead_same, placed, put_at}
@@ -70,9 +71,6 @@ module _ (size a b : ℕ) (f : File) where
   punch_cut = grind (arith, pages_same, places, length-edit_range, punch_cells, seen, look, place_ranged, no_copy)
 
 module _ (size n : ℕ) (f : File) where
-  pub cell_kept : (x : ℕ) → get_or (cells_to n f.cells) x Hole ≡ get_or (take n f.cells) x Hole
-  cell_kept x = same_more (λ (c : Cell Page). c) Hole (take n f.cells) (replicate (n - length f.cells) Hole) (λ j. same_none (λ (c : Cell Page). c) Hole (n - length f.cells) j) x
-
   cut_cells : (x : ℕ) (c : Bool) → nat_le n x ≡ c → look size x (truncated n f) ≡ (if c then zeros size else look size x f)
   cut_cells x c past = grind (arith, common_steps)
 

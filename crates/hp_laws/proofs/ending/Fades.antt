@@ -1,38 +1,30 @@
 -- What a script keeps whose events on slots only end maps of one task: a fork's, or an exit's.
-use Rattle.std.proofs.Common.{false, ◌≡◌, inl, inr, subst, ℕ, ◌<◌, ◌≤◌, ◌==◌, None, Some, Ok, Err, List, [], ◌∷◌, ◌++◌, length, refl, sym, ap, ◌∙◌, arith, slice_index_or, slice_set}
+use Rattle.std.proofs.Common.{◌≡◌, inl, inr, subst, ℕ, ◌<◌, ◌≤◌, ◌==◌, None, Some, Ok, Err, List, [], ◌∷◌, ◌++◌, length, refl, sym, ap, ◌∙◌, arith, slice_index_or, slice_set}
 use Rattle.std.specs.List.{range_with_len}
 use Rattle.std.proofs.lemmas.Bool.{cases_eq, ltb-true}
 use Rattle.std.proofs.lemmas.List.{get_or-set_other, get_or-set_same}
 use Rattle.hp_laws.proofs.Variants.{Done, Event, Exit, Fork, Refusal, Slot as OnSlot, SlotEvent, Tasks}
 use Rattle.hp_model.specs.declared.event.SlotEvent.TheVariants as slot
-use Rattle.hp_model.proofs.Words.{Answer_with, Answered, Choice, Do, IsEvent, IsScript, IsScripted, KeepsFiles, Mount, Outcome, Refused, Reply, SameFiles, SameLimits, Script, Slot, Spot, State}
+use Rattle.hp_model.proofs.Words.{Answer_with, Answered, Choice, Do, IsEvent, IsScript, IsScripted, Mount, Outcome, Refused, Reply, Script, Slot, Spot, State}
 use Rattle.hp_model.proofs.Words.{Where_mapped, exit_slots, file_forked, file_without, fork_slots, fork_tests, forked, gives, has_maps_of, or_undone, script, slot_at, slot_event, slot_usage, spot_on}
 use Rattle.hp_model.proofs.Words.{undone, when_done, without_task}
+use Rattle.hp_laws.specs.Follows.{SameFiles, SameLimits}
 use Rattle.hp_laws.specs.Balance.{Always, left_by}
 use Rattle.hp_laws.proofs.names.Changes.{KeptMap, SlotKeeps}
 use Rattle.hp_laws.proofs.counts.Falls.{forked_falls, without_falls}
-use Rattle.hp_laws.proofs.names.FilesStay.{files_stay, files_then}
 use Rattle.hp_laws.proofs.names.Follows.{both_same}
 use Rattle.hp_laws.proofs.counts.MountMoves.{files_sweep}
 use Rattle.hp_laws.proofs.steps.Outcomes.{either_way, event_ends}
 use Rattle.hp_laws.proofs.accesses.SlotShows.{always_gives, always_unless}
-use Rattle.hp_laws.proofs.ending.Unmaps.{exit_keeps, exit_whole, fork_keeps, fork_whole}
+use Rattle.hp_laws.proofs.ending.Unmaps.{exit_keeps, fork_keeps}
 
 -- ---- one slot
-
--- every other map is as it was, and its file's cells
-abbrev pub Whole : (gone : ℕ) → (x y : Slot) → Type 0
-Whole gone x y =
-    (task number : ℕ) (p : Spot) → (gone == task) ≡ false → spot_on x task number ≡ Some p
-    → (q : Spot) × (spot_on y task number ≡ Some q) × (q.map ≡ p.map) × (q.file.cells ≡ p.file.cells)
 
 -- but for maps of the task, a slot keeps what its names and numbers mean, and its limits, and uses no more
 pub record Fades (size gone : ℕ) (x y : Slot) : Type 0 where
   pub keeps : SlotKeeps size x (slot.ExitMaps gone) y
   pub limits : SameLimits x y
   pub usage : slot_usage y ≤ slot_usage x
-  pub whole : Whole gone x y
-  pub files : KeepsFiles x y
 
 module _ (size gone : ℕ) where
   pub stays : (x : Slot) → Fades size gone x x
@@ -61,9 +53,6 @@ module _ (size gone : ℕ) where
   limits_then : (x y z : Slot) → SameLimits x y → SameLimits y z → SameLimits x z
   limits_then x y z a b = grind arith
 
-  whole_then : (x y z : Slot) → Whole gone x y → Whole gone y z → Whole gone x z
-  whole_then x y z a b task number p other found = grind arith
-
   pub fades_then : (x y z : Slot) → Fades size gone x y → Fades size gone y z → Fades size gone x z
   fades_then x y z a b =
       let first = a.usage in
@@ -72,8 +61,6 @@ module _ (size gone : ℕ) where
         keeps = keeps_then x y z a.keeps b.keeps;
         limits = limits_then x y z a.limits b.limits;
         usage = omega (arith, first, second);
-        whole = whole_then x y z a.whole b.whole;
-        files = files_then x y z a.files b.files;
       }
 
   -- ---- one event
@@ -83,8 +70,6 @@ module _ (size gone : ℕ) where
     keeps = exit_keeps size m gone;
     limits = refl;
     usage = (files_sweep m (file_without gone) (without_falls gone)).usage;
-    whole = exit_whole size m gone;
-    files = files_stay m (file_without gone) (λ f. refl) (λ f. refl);
   }
 
   -- a child's maps end by its fork as by its exit
@@ -102,8 +87,6 @@ module _ (size gone : ℕ) where
         };
         limits = refl;
         usage = (files_sweep m (file_forked parent gone) (forked_falls parent gone)).usage;
-        whole = fork_whole size m parent gone;
-        files = files_stay m (file_forked parent gone) (λ f. refl) (λ f. refl);
       }
 
   abbrev FadesTo : Slot → Outcome → Type 0

@@ -7,7 +7,7 @@ use Rattle.std.proofs.lemmas.Bool.{cases_eq, cond_both, eq-eqb, eqb-true, false_
 use Rattle.std.proofs.lemmas.List.{get_or-set_other, get_or-set_same}
 use Rattle.hp_model.specs.declared.event.SlotEvent.TheVariants as slot
 use Rattle.hp_model.specs.declared.event.TableEvent.TheVariants as table
-use Rattle.hp_model.proofs.Words.{Answer_with, Answered, Ask, Choice, Do, Finish, IsEvent, IsForkLeft, IsScript, IsScripted, IsSettledState, LeavesOthers, Mount, Outcome, Plan, Pool, Refused, Reply}
+use Rattle.hp_model.proofs.Words.{Answer_with, Answered, Ask, Choice, Do, Finish, IsEvent, IsScript, IsScripted, IsSettledState, Mount, Outcome, Plan, Pool, Refused, Reply}
 use Rattle.hp_model.proofs.Words.{Script, Slot, State, Table, added, fall_of, file_forked, file_without, fork_slots, forked, gives, has_maps_of, home_of, is_among, is_crowded, is_known, or_refused}
 use Rattle.hp_model.proofs.Words.{or_undone, planned, pool_of, puts_of, removed, section, slot_at, slot_event, swept, undone, when_done, when_known, with_outcome, with_pool, with_table, without_task}
 use Rattle.hp_model.proofs.Distinct.{is_among-append}
@@ -18,6 +18,18 @@ use Rattle.hp_laws.proofs.steps.RefusalsKeep.{refusals_change_nothing}
 use Rattle.hp_laws.proofs.settled.StaysSettled.{event_settled}
 use Rattle.hp_laws.proofs.ending.Swept.{forked_without, swept_twice, twice_without, without_after, without_none}
 use Rattle.hp_laws.proofs.steps.Walk.{plan_unless}
+
+-- ---- what is left
+
+-- a fork that is refused may have ended maps that stood under the child's number, and what went with them
+abbrev pub IsForkLeft : (child : ℕ) → (old new : Slot) → Type 0
+IsForkLeft child old new = (new ≡ old) ⊎ (new ≡ option_map (without_task child) old)
+
+pub record LeavesOthers (s : State) (child : ℕ) (t : State) : Type 0 where
+  pub table : t.table ≡ s.table
+  pub nr : t.nr ≡ s.nr
+  pub overcommit : t.overcommit ≡ s.overcommit
+  pub slots : (slot : ℕ) → IsForkLeft child (slot_at s slot) (slot_at t slot)
 
 -- ---- plans that only give back
 

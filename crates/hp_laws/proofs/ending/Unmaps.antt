@@ -4,8 +4,9 @@ use Rattle.std.proofs.lemmas.Grind.{common_steps}
 use Rattle.std.proofs.lemmas.Bool.{and_parts, eq-eqb, eqb-false, eqb-true, false_from_ne_true, or_left, or_right}
 use Rattle.hp_laws.proofs.Variants.{Gone, SlotEvent}
 use Rattle.hp_model.specs.declared.event.SlotEvent.TheVariants as slot
-use Rattle.hp_model.proofs.Words.{File, Map, Mount, Spot, file_forked, file_in, file_unmapped, file_without, forked, found, is_at, is_in, is_left, is_map, is_mapped, map_in, map_on, map_unmapped}
-use Rattle.hp_model.proofs.Words.{new_file, no_map, place_at, seen_on, shape_of, shown_on, spot, stays_mapped, swept, unmapped_from, value, without_range, without_task}
+use Rattle.hp_model.proofs.Words.{File, Map, Mount, Spot, file_forked, file_in, file_unmapped, file_without, forked, found, is_in, is_left, is_map, is_mapped, map_in, map_unmapped}
+use Rattle.hp_model.proofs.Words.{new_file, no_map, place_at, spot, swept, unmapped_from, value, without_range, without_task}
+use Rattle.hp_laws.specs.Follows.{is_at, map_on, seen_on, shape_of, shown_on, stays_mapped}
 use Rattle.hp_laws.proofs.names.Accessed.{get_mapped, key_map}
 use Rattle.hp_laws.proofs.names.ByPlace.{PlaceKeeps, by_place}
 use Rattle.hp_laws.proofs.names.Changes.{LosesBy, SlotKeeps, ends_number, seen_by, stored_by}
@@ -155,27 +156,6 @@ module _ (size : ℕ) (m : Mount) (task number a b : ℕ) where
       (sweep_follows (record m { files = map (file_unmapped (is_map task number) a b) m.files })) (subst (λ fs. SlotKeeps size (Some m) e (Some (record m { files = fs }))) same second)
       (λ t u q goes_on found. refl) (λ p q i lost. lost)
 
-  -- a map that stays has its places as they were, but for those of the range where it is the one of the event, and its file its cells
-  pub unmap_cuts : (t u : ℕ) (p : Spot) → ends_number (Some m) (slot.Unmap task number a b) t u ≡ false → spot m (is_map t u) ≡ Some p
-      → (q : Spot) × (spot (unmapped_from task number a b m) (is_map t u) ≡ Some q) × (q.map ≡ cut p.map) × (q.file.cells ≡ p.file.cells)
-  unmap_cuts t u p goes_on found =
-      let keep : Map → Bool = is_left (is_map task number) in
-      let first = (placed m middle (lead_same (keys m) (keys middle) same_keys)).numbers t u p found in
-      let q : Spot = first.0 in
-      let was = spot_is m (is_map t u) p found in
-      let is = spot_is middle (is_map t u) q first.1 in
-      let place : q.file_no ≡ p.file_no = ap (λ (x : Where). x.0) first.2 in
-      let map_q : q.map ≡ cut p.map = sym (map_shown (Some middle) t u q first.1) ∙ ap (λ (x : Where). map_on (Some middle) x.0 x.1) first.2 ∙ map_now t u p found in
-      let cells_q : q.file.cells ≡ p.file.cells =
-      ap (λ (f : File). f.cells) (sym (is.file.is (new_file None)) ∙ ap (file_in middle) place ∙ file_now p.file_no) ∙ ap (λ (f : File). f.cells) (was.file.is (new_file None)) in
-      let thinned : Mount = record middle { files = map (thin keep) middle.files } in
-      let second = (edit_follows middle (thin keep) keep (thin_follows keep)).numbers t u q first.1 (number_left t u q goes_on first.1) in
-      let same : thinned.files ≡ map (file_unmapped (is_map task number) a b) m.files = twice cut_file (thin keep) m.files in
-      let whole : Mount = record m { files = map (file_unmapped (is_map task number) a b) m.files } in
-      let there : spot whole (is_map t u) ≡ Some second.0 = ap (λ (fs : List File). spot (record m { files = fs }) (is_map t u)) (sym same) ∙ second.1 in
-      let third = (sweep_follows whole).numbers t u second.0 there refl in
-      (third.0, third.1, third.3 ∙ second.3 ∙ map_q, third.4 ∙ second.4 ∙ cells_q)
-
 -- ---- an event that changes nothing that is seen
 
 module _ (size : ℕ) (m : Mount) (e : SlotEvent) (stores : (j x : ℕ) (old : List ℕ) → old ≡ stored_by size (Some m) e j x old)
@@ -197,24 +177,6 @@ module _ (size : ℕ) (m : Mount) (e : SlotEvent) (stores : (j x : ℕ) (old : L
         follow size (Some m) e others (swept others) (λ y. true) (sweep_follows others)
         (follow size (Some m) e m others (is_not_of gone) (edit_follows m h (is_not_of gone) each) same_keeps not_gone (none m))
         (λ t u q goes_on found. refl) (none others)
-
-    -- and every other map is as it was, and its file's cells
-    pub task_whole : (t u : ℕ) (p : Spot) → ends_number (Some m) e t u ≡ false → spot m (is_map t u) ≡ Some p
-        → (q : Spot) × (spot (swept others) (is_map t u) ≡ Some q) × (q.map ≡ p.map) × (q.file.cells ≡ p.file.cells)
-    task_whole t u p goes_on found =
-        let first = (edit_follows m h (is_not_of gone) each).numbers t u p found (not_gone t u p goes_on found) in
-        let second = (sweep_follows others).numbers t u first.0 first.1 refl in
-        (second.0, second.1, second.3 ∙ first.3, second.4 ∙ first.4)
-
-pub exit_whole : (size : ℕ) (m : Mount) (task t u : ℕ) (p : Spot) → (task == t) ≡ false → spot m (is_map t u) ≡ Some p
-    → (q : Spot) × (spot (without_task task m) (is_map t u) ≡ Some q) × (q.map ≡ p.map) × (q.file.cells ≡ p.file.cells)
-exit_whole size m task =
-    task_whole size m (slot.ExitMaps task) (λ j x old. refl) (λ j l x old. refl) task (file_without task) (thin_follows (is_not_of task)) (λ t u. refl) (λ n p q i lost. lost)
-
-pub fork_whole : (size : ℕ) (m : Mount) (parent child t u : ℕ) (p : Spot) → (child == t) ≡ false → spot m (is_map t u) ≡ Some p
-    → (q : Spot) × (spot (forked parent child m) (is_map t u) ≡ Some q) × (q.map ≡ p.map) × (q.file.cells ≡ p.file.cells)
-fork_whole size m parent child =
-    task_whole size m (slot.ForkMaps parent child) (λ j x old. refl) (λ j l x old. refl) child (file_forked parent child) (fork_follows parent child) (λ t u. refl) (λ n p q i lost. lost)
 
 pub exit_keeps : (size : ℕ) (m : Mount) (task : ℕ) → SlotKeeps size (Some m) (slot.ExitMaps task) (Some (without_task task m))
 exit_keeps size m task =

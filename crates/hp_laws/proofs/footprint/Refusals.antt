@@ -7,12 +7,12 @@ use Rattle.hp_model.specs.declared.event.SlotEvent.TheVariants as slot
 use Rattle.hp_model.specs.declared.event.TableEvent.TheVariants as table
 use Rattle.hp_model.specs.declared.step.Step.{Step}
 use Rattle.hp_model.specs.declared.step.Step.TheVariants as step
-use Rattle.hp_model.proofs.Words.{Answer_with, Do, IsEvent, IsForkLeft, IsScript, IsScripted, IsSettledState, Outcome, Pool, Refused, Answered, Reply, Script, Slot, State, Where_mapped}
+use Rattle.hp_model.proofs.Words.{Answer_with, Do, IsEvent, IsScript, IsScripted, IsSettledState, Outcome, Pool, Refused, Answered, Reply, Script, Slot, State, Where_mapped}
 use Rattle.hp_model.proofs.Words.{has_maps_of, is_known, pool_event, pool_of}
 use Rattle.hp_model.proofs.Words.{script, slot_at, with_slot}
 use Rattle.hp_laws.specs.Balance.{left_by}
 use Rattle.hp_laws.proofs.ending.Fades.{exit_refused}
-use Rattle.hp_laws.proofs.ending.RefusedForks.{fork_known, fork_refused}
+use Rattle.hp_laws.proofs.ending.RefusedForks.{IsForkLeft, fork_known, fork_refused}
 use Rattle.hp_laws.proofs.steps.Outcomes.{either_way, reply_of}
 use Rattle.hp_laws.proofs.steps.RefusalsKeep.{refusals_change_nothing}
 use Rattle.hp_laws.proofs.steps.Whole.{is_early, is_whole, step_of}

@@ -6,8 +6,9 @@ use Rattle.std.proofs.lemmas.List.{get_or-set_other, get_or-set_same}
 use Rattle.hp_laws.proofs.Variants.{Answer, Event, Exit, Fork, Pool as OnPool, PoolEvent, Refusal, Slot as OnSlot, SlotEvent, Step, TableEvent, Tasks}
 use Rattle.hp_model.specs.declared.event.SlotEvent.TheVariants as slot
 use Rattle.hp_model.specs.declared.event.TableEvent.TheVariants as table
-use Rattle.hp_model.proofs.Words.{Answered, Choice, File, IsEvent, IsKeptMap, IsScripted, IsSettledState, IsSound, IsStep, Outcome, Refused, Reply, SameFiles, Slot, Spot, State, StillMapped}
-use Rattle.hp_model.proofs.Words.{StillNamed, cell_at, is_ended_name, is_ended_number, map_named, named_on, seen_over, shown, slot_at, slot_event, spot_on, stored_over, value}
+use Rattle.hp_model.proofs.Words.{Answered, Choice, File, IsEvent, IsScripted, IsSettledState, IsSound, IsStep, Outcome, Refused, Reply, Slot, Spot, State}
+use Rattle.hp_model.proofs.Words.{cell_at, map_named, named_on, shown, slot_at, slot_event, spot_on, value}
+use Rattle.hp_laws.specs.Follows.{IsKeptMap, SameFiles, StillMapped, StillNamed, is_ended_name, is_ended_number, seen_over, stored_over}
 use Rattle.hp_laws.specs.Balance.{left_by}
 use Rattle.hp_laws.proofs.names.Changes.{KeepsSlot, KeptMap, SlotKeeps, ends_name, ends_number, stored_by}
 use Rattle.hp_laws.proofs.ending.Fades.{AllFade, exit_fade, exit_refused, fork_fade}

@@ -3,8 +3,9 @@ use Rattle.std.proofs.Common.{arith, ◌≡◌, ⊎_elim, inl, inr, subst, ℕ, 
 use Rattle.hp_laws.proofs.Variants.{Done, Intent, MapNo, MountFull, OutOfMemory, Read, Refusal, SlotEvent, Write}
 use Rattle.hp_model.specs.declared.event.SlotEvent.TheVariants as slot
 use Rattle.hp_model.proofs.Words.{Answered, Choice, File, IsSound, IsSoundMount, Mount, Outcome, Plan, Refused, Slot, Spot, access, asked, fault, forked, gives, has_name, is_full, is_in, is_map}
-use Rattle.hp_model.proofs.Words.{lacking, load, map_on, map_punched, mapped, new_file, next_number, punched, range_filled, rise, rising_nodes, slot_event, spot, spot_on, store, swept, truncated}
+use Rattle.hp_model.proofs.Words.{lacking, load, map_punched, mapped, new_file, next_number, punched, range_filled, rise, rising_nodes, slot_event, spot, spot_on, store, swept, truncated}
 use Rattle.hp_model.proofs.Words.{unentered, unlinked, unmapped_from, with_file, with_new, without_task}
+use Rattle.hp_laws.specs.Follows.{map_on}
 use Rattle.hp_laws.proofs.names.ByPlace.{PlaceKeeps, by_place}
 use Rattle.hp_laws.proofs.names.Changes.{KeepsSlot, LosesBy, SlotKeeps, seen_by, stored_by}
 use Rattle.hp_laws.proofs.ending.Cuts.{cut_keeps, punch_cut, truncate_cut, unlink_keeps}

@@ -1,9 +1,9 @@
 -- The number of a new map is one that its task doesn't use, and where such a map is found.
-use Rattle.std.proofs.Common.{◌≡◌, ⊎_elim, inl, inr, ◌⊎◌, subst, ℕ, zero, suc, ◌+◌, ◌<◌, ◌≤◌, ◌||◌, ◌==◌, Bool, true, false, None, Option, Some, List, [], ◌∷◌, ◌++◌, length, option_map, add-one, not}
-use Rattle.std.proofs.Common.{refl, ap, arith, if◌then◌else◌, slice_set}
+use Rattle.std.proofs.Common.{◌≡◌, ⊎_elim, inl, inr, ◌⊎◌, subst, ℕ, zero, suc, ◌+◌, ◌<◌, ◌≤◌, ◌||◌, ◌==◌, Bool, true, false, None, List, [], ◌∷◌, length, not}
+use Rattle.std.proofs.Common.{refl, arith, if◌then◌else◌}
 use Rattle.std.specs.List.{list_any, position_or_len, range_with_len}
 use Rattle.std.proofs.lemmas.Bool.{eqb-true, false_from_ne_true, or_cases}
-use Rattle.hp_model.proofs.Words.{Map, distinct, found, is_among, is_map, least_unused, numbers_of, one_on}
+use Rattle.hp_model.proofs.Words.{Map, distinct, found, is_among, is_map, least_unused, numbers_of}
 use Rattle.hp_laws.proofs.counts.CopiesHeld.{fewer_members}
 
 -- ---- the least unused number
@@ -72,29 +72,3 @@ module _ {X : Type 0} (t : X → Bool) where
   pub found_not : (xs : List X) → list_any t xs ≡ false → found t xs ≡ None
   found_not [] none = refl
   found_not (x ∷ xs) none = rw (none_first (t x) (list_any t xs) none, found_not xs (none_later (t x) (list_any t xs) none)) refl
-
-  pub found_last : (xs : List X) (y : X) → list_any t xs ≡ false → t y ≡ true → found t (xs ++ y ∷ []) ≡ Some (length xs, y)
-  found_last [] y none is = rw is refl
-  found_last (x ∷ xs) y none is = rw (none_first (t x) (list_any t xs) none, found_last xs y (none_later (t x) (list_any t xs) none) is)
-      (ap (λ (n : ℕ). Some (n, y)) {x = length xs + 1} {y = suc (length xs)} (omega arith))
-
-  -- one is put in the place of another, where none passes
-  pub found_put : (xs : List X) (k : ℕ) (y : X) → k < length xs → list_any t xs ≡ false → t y ≡ true → found t (slice_set xs k y) ≡ Some (k, y)
-  found_put [] k y l none is = absurd (omega (arith, l))
-  found_put (x ∷ xs) zero y l none is = rw is refl
-  found_put (x ∷ xs) (suc k) y l none is =
-      rw (none_first (t x) (list_any t xs) none, found_put xs k y (omega (arith, l)) (none_later (t x) (list_any t xs) none) is)
-      (ap (λ (n : ℕ). Some (n, y)) {x = k + 1} {y = suc k} (omega arith))
-
-  -- the one that was found is put again, and still passes
-  again_step : (x : X) (xs : List X) (q : ℕ × X) (y : X) → ((p : ℕ × X) → found t xs ≡ Some p → found t (slice_set xs p.0 y) ≡ Some (p.0, y)) → t y ≡ true
-      → (b : Bool) → t x ≡ b → (r : Option (ℕ × X)) → found t xs ≡ r → (if b then Some (0, x) else option_map one_on r) ≡ Some q → found t (slice_set (x ∷ xs) q.0 y) ≡ Some (q.0, y)
-  again_step x xs q y rest is true here r was e = grind arith
-  again_step x xs q y rest is false here None was e = cc
-  again_step x xs q y rest is false here (Some p) was e =
-      subst (λ (p : ℕ × X). found t (slice_set (x ∷ xs) p.0 y) ≡ Some (p.0, y)) (let same : (p.0 + 1, p.1) ≡ q = cc in same)
-      (rw (add-one, here, rest p was) (ap (λ (n : ℕ). Some (n, y)) {x = p.0 + 1} {y = suc p.0} (omega arith)))
-
-  pub found_again : (xs : List X) (q : ℕ × X) (y : X) → found t xs ≡ Some q → t y ≡ true → found t (slice_set xs q.0 y) ≡ Some (q.0, y)
-  found_again [] q y e is = cc
-  found_again (x ∷ xs) q y e is = again_step x xs q y (λ p w. found_again xs p y w is) is (t x) refl (found t xs) refl e

@@ -3,8 +3,9 @@ use Rattle.std.proofs.lemmas.Grind.{common_steps}
 use Rattle.std.proofs.Common.{◌≡◌, ℕ, ◌<◌, Bool, map, suc, zero, arith, get_or, List, [], ◌∷◌, length, refl, sym, ap, ◌∙◌, slice_index_or, slice_set}
 use Rattle.std.proofs.lemmas.List.{length-set}
 use Rattle.hp_laws.proofs.Variants.{Cell, Intent, Place}
-use Rattle.hp_model.proofs.Words.{Choice, Copy, File, Map, Mount, Page, Spot, access, byte_access, copied, copy_write, edit_at, new_copy, private_access, robbed, shape_of, shared_access}
+use Rattle.hp_model.proofs.Words.{Choice, Copy, File, Map, Mount, Page, Spot, access, byte_access, copied, copy_write, edit_at, new_copy, private_access, robbed, shared_access}
 use Rattle.hp_model.proofs.Words.{uncopied_access, with_file, with_map}
+use Rattle.hp_laws.specs.Follows.{shape_of}
 use Rattle.hp_laws.proofs.counts.FileMoves.{IsMapAt}
 use Rattle.hp_laws.proofs.names.Keys.{file_key, keys}
 use Rattle.hp_laws.proofs.counts.MountMoves.{IsSpot}
@@ -14,7 +15,7 @@ use Rattle.hp_laws.proofs.accesses.SlotShows.{always_unless}
 
 -- ---- the same keys
 
-key_set : {X K : Type 0} (key : X → K) (xs : List X) (k : ℕ) (y : X) → key y ≡ key (get_or xs k y) → map key (slice_set xs k y) ≡ map key xs
+pub key_set : {X K : Type 0} (key : X → K) (xs : List X) (k : ℕ) (y : X) → key y ≡ key (get_or xs k y) → map key (slice_set xs k y) ≡ map key xs
 key_set key [] k y same = refl
 key_set key (x ∷ xs) zero y same = ap (λ z. z ∷ map key xs) same
 key_set key (x ∷ xs) (suc k) y same = ap (λ zs. key x ∷ zs) (key_set key xs k y same)

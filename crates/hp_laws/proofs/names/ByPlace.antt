@@ -2,7 +2,8 @@
 use Rattle.std.proofs.Common.{arith, ◌≡◌, ⊎_elim, inl, inr, ◌⊎◌, subst, ℕ, true, false, ◌==◌, Option, None, Some, List, sym, ap, ◌∙◌}
 use Rattle.hp_laws.proofs.Variants.{Read, SlotEvent, Write}
 use Rattle.hp_model.specs.declared.event.SlotEvent.TheVariants as slot
-use Rattle.hp_model.proofs.Words.{File, IsLost, IsLostTo, Map, Mount, SameFiles, Spot, file_named, is_map, map_on, seen_on, shown_on, spot, spot_on}
+use Rattle.hp_model.proofs.Words.{File, Map, Mount, Spot, file_named, is_map, spot, spot_on}
+use Rattle.hp_laws.specs.Follows.{IsLost, IsLostTo, SameFiles, map_on, seen_on, shown_on}
 use Rattle.hp_laws.proofs.names.Changes.{KeptMap, LosesBy, SlotKeeps, ends_name, ends_number, seen_by, stored_by}
 use Rattle.hp_laws.proofs.names.Keys.{Where, places}
 use Rattle.hp_laws.proofs.names.Named.{file_same, file_shown, map_shown, seen_shown}

@@ -3,8 +3,9 @@ use Rattle.std.proofs.Common.{◌≡◌, ◌⊎◌, ℕ, ◌&&◌, ◌==◌, Boo
 use Rattle.std.specs.Str.{bytes_eq}
 use Rattle.hp_laws.proofs.Variants.{SlotEvent, Write}
 use Rattle.hp_model.specs.declared.event.SlotEvent.TheVariants as slot
-use Rattle.hp_model.proofs.Words.{Answered, File, IsLostTo, IsNameOf, Outcome, Refused, SameFiles, Slot, Spot, StillNamed, cell_at, is_at, is_in, is_shared_of, map_on, means_file, named_on, over}
-use Rattle.hp_model.proofs.Words.{reaches, shape_of, shown, shown_on, spot_on, stays_mapped, value, zeros}
+use Rattle.hp_model.proofs.Words.{Answered, File, Outcome, Refused, Slot, Spot, cell_at, is_in, named_on, over}
+use Rattle.hp_model.proofs.Words.{shown, spot_on, value, zeros}
+use Rattle.hp_laws.specs.Follows.{IsLostTo, IsNameOf, SameFiles, StillNamed, is_at, is_shared_of, map_on, means_file, reaches, shape_of, shown_on, stays_mapped}
 
 -- the bytes of the file at this place
 abbrev pub stored_by : (size : ℕ) → Slot → SlotEvent → (file i : ℕ) → List ℕ → List ℕ

@@ -7,8 +7,9 @@ use Rattle.std.specs.Str.{bytes_eq}
 use Rattle.std.proofs.lemmas.Bool.{cases_eq, cases_order, eq-eqb, eqb-true, false_from_ne_true, or_right, lt-ltb, or_cases, and_parts}
 use Rattle.std.proofs.lemmas.List.Folds.{list_any_at}
 use Rattle.hp_laws.proofs.Variants.{SlotEvent}
-use Rattle.hp_model.proofs.Words.{File, Map, Mount, SameFiles, Slot, Spot, cell_in, file_forked, file_named, found, has_name, is_kept, is_map, is_of, map_for, new_file, one_on, place_at, shape_of}
+use Rattle.hp_model.proofs.Words.{File, Map, Mount, Slot, Spot, cell_in, file_forked, file_named, found, has_name, is_kept, is_map, is_of, map_for, new_file, one_on, place_at}
 use Rattle.hp_model.proofs.Words.{shown, spot, spot_in, spot_on, swept, value}
+use Rattle.hp_laws.specs.Follows.{SameFiles, shape_of}
 use Rattle.hp_laws.proofs.names.Changes.{LosesBy, SlotKeeps, ends_number}
 use Rattle.hp_laws.proofs.names.Keys.{found_mapped, found_same, keyed}
 use Rattle.hp_laws.proofs.making.FilesMade.{any_append, in_file, spot_in_file}

@@ -2,7 +2,8 @@
 use Rattle.std.proofs.Common.{arith, ◌≡◌, ℕ, ◌&&◌, ◌||◌, ◌==◌, Bool, true, false, None, Option, Some, List, [], ◌∷◌, map, option_map, refl, sym, ap, ◌∙◌, if◌then◌else◌}
 use Rattle.std.specs.List.{list_any}
 use Rattle.std.specs.Str.{bytes_eq}
-use Rattle.hp_model.proofs.Words.{File, Map, Mount, Shape, Spot, file_named, found, is_map, one_on, shape_of, spot}
+use Rattle.hp_model.proofs.Words.{File, Map, Mount, Spot, file_named, found, is_map, one_on, spot}
+use Rattle.hp_laws.specs.Follows.{Shape, shape_of}
 use Rattle.hp_laws.proofs.making.FilesMade.{in_file, spot_in_file}
 
 -- ---- keys

@@ -2,19 +2,20 @@
 use Rattle.std.proofs.lemmas.Grind.{common_steps}
 use Rattle.std.proofs.Common.{◌≡◌, subst, ℕ, ◌<◌, ◌==◌, true, None, Some, List, [], ◌∷◌, ◌++◌, length, map, option_map, suc, zero, get_or, arith, refl, sym, ap, ◌∙◌, slice_set}
 use Rattle.std.proofs.lemmas.Bool.{and_parts, cond_both, eqb-true}
-use Rattle.hp_laws.proofs.Variants.{Done, Intent, NoSuchMap, Read, Reserving, Sharing, Write}
+use Rattle.hp_laws.proofs.Variants.{Done, Intent, Read, Reserving, Sharing, Write}
 use Rattle.hp_model.proofs.Words.{Answered, Choice, File, Mount, Outcome, Plan, Spot, access, again, and_then, byte_access, bytes_answer, fault, fault_tests, file_named, file_written, has_name}
-use Rattle.hp_model.proofs.Words.{is_map, load, mapped, new_map, next_number, range_filled, shape_of, spot, store, value, with_file, with_new, with_value, written}
+use Rattle.hp_model.proofs.Words.{load, mapped, new_map, next_number, range_filled, store, value, with_file, with_new, written}
+use Rattle.hp_laws.specs.Follows.{shape_of}
 use Rattle.hp_model.proofs.Editing.{length-edit_at}
 use Rattle.hp_laws.proofs.names.Accessed.{access_on, bytes_on, file_put, key_edit, pages_same}
 use Rattle.hp_laws.proofs.names.Keys.{file_key, is_key, key_places, keys, number_places, places}
 use Rattle.hp_laws.proofs.making.FilesMade.{number_is_new}
 use Rattle.hp_laws.proofs.names.Placed.{KeysLead, Placed, lead_added, lead_more, lead_same, placed}
 use Rattle.hp_laws.proofs.lists.Places.{found_place}
-use Rattle.hp_laws.proofs.counts.MountMoves.{IsSpot, spot_is}
+use Rattle.hp_laws.proofs.counts.MountMoves.{IsSpot}
 use Rattle.hp_laws.proofs.steps.Outcomes.{Always, always_then, always_weaker}
 use Rattle.hp_laws.proofs.accesses.Shown.{On, on_follows, on_weaker}
-use Rattle.hp_laws.proofs.accesses.SlotShows.{always_unless, always_value}
+use Rattle.hp_laws.proofs.accesses.SlotShows.{always_unless}
 
 -- ---- keys of longer lists
 
@@ -76,9 +77,6 @@ module _ (c : Choice) (m : Mount) where
   then_on : (f : Mount → Outcome) (p : Plan) → ((n : Mount) → Stays n → On Stays (f n)) → Always (On Stays) p → Always (On Stays) (and_then f p)
   then_on f p h all = always_then (On Stays) (On Stays) f (on_follows Stays Stays f h) p all
 
-  found_on : (task number : ℕ) (f : Spot → Plan) → ((s : Spot) → IsSpot m s → Always (On Stays) (f s)) → Always (On Stays) (with_value (spot m (is_map task number)) NoSuchMap f)
-  found_on task number f h = always_value (On Stays) (λ r. tt) (spot m (is_map task number)) NoSuchMap f (λ s is. h s (spot_is m (is_map task number) s is))
-
   in_place : (s : Spot) → IsSpot m s → (f : File) → file_key f ≡ file_key s.file → Stays (with_file m s.file_no f)
   in_place s at f same = file_put m s.file_no s.file f at.file.is same
 
@@ -98,15 +96,6 @@ module _ (c : Choice) (m : Mount) where
     pub fault_stays : (intent : Intent) → Always (On Stays) (fault c size m home i intent s)
     fault_stays intent =
         always_unless (On Stays) (λ r. tt) (fault_tests i s) (access c size m s home i intent) (access_on c m Stays refl s at (in_place s at) size home i intent)
-
-  pub load_on : (size task number home i offset count : ℕ) → Always (On Stays) (with_value (spot m (is_map task number)) NoSuchMap (load c size m home i offset count))
-  load_on size task number home i offset count = found_on task number (load c size m home i offset count) (λ s at. load_stays s at size home i offset count)
-
-  pub store_on : (size task number home i offset : ℕ) (bytes : List ℕ) → Always (On Stays) (with_value (spot m (is_map task number)) NoSuchMap (store c size m home i offset bytes))
-  store_on size task number home i offset bytes = found_on task number (store c size m home i offset bytes) (λ s at. store_stays s at size home i offset bytes)
-
-  pub fault_on : (size task number home i : ℕ) (intent : Intent) → Always (On Stays) (with_value (spot m (is_map task number)) NoSuchMap (fault c size m home i intent))
-  fault_on size task number home i intent = found_on task number (fault c size m home i intent) (λ s at. fault_stays s at size home i intent)
 
   pub placed_on : (p : Plan) → Always (On Stays) p → Always (On (Placed m)) p
   placed_on p all = always_weaker (On Stays) (On (Placed m)) (on_weaker Stays (Placed m) (λ n h. placed_same m n h)) p all

@@ -1,6 +1,7 @@
 -- What a name's file and a number's map show is what stands at their places.
 use Rattle.std.proofs.Common.{arith, ◌≡◌, ℕ, None, Some, List, sym, ap, ◌∙◌, slice_index_or}
-use Rattle.hp_model.proofs.Words.{File, Map, Slot, Spot, cell_at, has_name, is_map, map_in, map_on, named_on, new_file, no_map, seen_on, shown, shown_on, spot_on, value}
+use Rattle.hp_model.proofs.Words.{File, Map, Slot, Spot, cell_at, has_name, is_map, map_in, named_on, new_file, no_map, shown, spot_on, value}
+use Rattle.hp_laws.specs.Follows.{map_on, seen_on, shown_on}
 use Rattle.hp_laws.proofs.counts.MountMoves.{spot_is}
 use Rattle.hp_laws.proofs.lists.Places.{found_place}
 

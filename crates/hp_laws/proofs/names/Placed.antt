@@ -2,7 +2,8 @@
 use Rattle.std.proofs.lemmas.Grind.{common_steps}
 use Rattle.std.proofs.Common.{◌≡◌, subst, ℕ, zero, suc, ◌+◌, ◌==◌, Bool, true, false, None, Option, Some, List, [], ◌∷◌, ◌++◌, option_map, get_or, refl, sym, ap, ◌∙◌, arith, if◌then◌else◌, slice_set}
 use Rattle.std.proofs.lemmas.Bool.{eqb-true, false_from_ne_true}
-use Rattle.hp_model.proofs.Words.{File, Mount, Shape, Spot, file_named, found, is_map, one_on, spot}
+use Rattle.hp_model.proofs.Words.{File, Mount, Spot, file_named, found, is_map, one_on, spot}
+use Rattle.hp_laws.specs.Follows.{Shape}
 use Rattle.hp_laws.proofs.names.Keys.{FileKey, Where, file_key, has_key, in_key, is_key, is_named, key_places, keyed, keys, name_place, number_places, places}
 use Rattle.hp_laws.proofs.lists.Places.{found_place}
 

@@ -2,7 +2,7 @@
 use Rattle.std.proofs.Common.{arith, ◌≡◌, subst, ℕ, ◌-◌, ◌&&◌, ◌==◌, Bool, true, false, not, Option, None, Some, Result, Ok, Err, List, [], ◌∷◌, ◌++◌, length, refl, sym, ap, ◌∙◌, if◌then◌else◌}
 use Rattle.std.proofs.lemmas.Bool.{and_parts, cond_both, eqb-true}
 use Rattle.std.specs.List.{range_with_len}
-use Rattle.hp_laws.proofs.Variants.{Cell, Done, Event, FillPages, GrantPage, Intent, Limits, Live, NoPages, NoSuchFile, NoSuchMap, Place, Pool as OnPool, PoolAnswer, PoolEvent, Read, Refusal}
+use Rattle.hp_laws.proofs.Variants.{Cell, Done, Event, FillPages, Intent, Limits, Live, NoPages, NoSuchFile, NoSuchMap, Place, Pool as OnPool, PoolAnswer, PoolEvent, Read, Refusal}
 use Rattle.hp_laws.proofs.Variants.{Reserving, Sharing, Slot as OnSlot, SlotEvent, SlotTaken, Step, TableEvent, Tasks, Write}
 use Rattle.hp_model.specs.declared.event.PoolEvent.TheVariants as pool
 use Rattle.hp_model.specs.declared.event.SlotEvent.TheVariants as slot
@@ -63,9 +63,6 @@ module _ (s : State) where
   granted_lacks : (m : Mount) (pages : ℕ) (b : Bool) (o : Outcome) → is_full m pages ≡ false → can_grant (rise m pages) (pool_of s) ≡ b → Lacks m pages o → (a : PoolAnswer)
       → a.granted ≡ b → Lacks m pages (when_granted o a)
   granted_lacks m pages b o room can h a e = grind arith
-
-  pub page_granted : (home d : ℕ) → (section (pool_of s) (GrantPage home d)).0.granted ≡ can_grant d (pool_of s)
-  page_granted home d = cond_both (can_grant d (pool_of s)) _ _ (λ (x : PoolAnswer × Pool). x.0.granted ≡ can_grant d (pool_of s)) (λ e. sym e) (λ e. sym e)
 
   fill_granted : (d n : ℕ) → (section (pool_of s) (FillPages d n)).0.granted ≡ can_grant d (pool_of s)
   fill_granted d n = cond_both (can_grant d (pool_of s)) _ _ (λ (x : PoolAnswer × Pool). x.0.granted ≡ can_grant d (pool_of s)) (λ e. sym e) (λ e. sym e)

@@ -6,9 +6,10 @@ use Rattle.std.proofs.lemmas.Bool.{cond_both, eqb-true, leb-false, ltb-false}
 use Rattle.std.proofs.lemmas.List.Sums.{sum_by-append, sum_by-cons}
 use Rattle.hp_laws.proofs.Variants.{Done, Read, Reserving, Sharing, SlotEvent, Write}
 use Rattle.hp_model.specs.declared.event.SlotEvent.TheVariants as slot
-use Rattle.hp_model.proofs.Words.{Answered, Choice, File, Map, Mount, Outcome, Shape, Slot, Spot, access, byte_access, distinct, fault_tests, file_unmapped, file_without, file_written, forked, gives}
+use Rattle.hp_model.proofs.Words.{Answered, Choice, File, Map, Mount, Outcome, Slot, Spot, access, byte_access, distinct, fault_tests, file_unmapped, file_without, file_written, forked, gives}
 use Rattle.hp_model.proofs.Words.{is_among, is_kept, is_map, is_new_task_over, is_of, lacking, map_punched, mapped, maps_of, most_maps, most_tasks, new_file, new_map, next_number, on_mount, punched}
-use Rattle.hp_model.proofs.Words.{range_filled, rising_nodes, shape_of, slot_event, swept, tasks_of, truncated, umount_tests, unlinked, with_file, with_new, without_task, written}
+use Rattle.hp_model.proofs.Words.{range_filled, rising_nodes, slot_event, swept, tasks_of, truncated, umount_tests, unlinked, with_file, with_new, without_task, written}
+use Rattle.hp_laws.specs.Follows.{Shape, shape_of}
 use Rattle.hp_model.proofs.Distinct.{is_among-append, length_if, same_members}
 use Rattle.hp_laws.specs.Balance.{Always, left_by}
 use Rattle.hp_laws.proofs.names.Accessed.{access_on, bytes_on, key_edit}

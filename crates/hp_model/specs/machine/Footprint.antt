@@ -35,8 +35,8 @@ use Rattle.hp_model.specs.Lists.{is_among}
 use Rattle.hp_model.specs.machine.Event.{has_maps_of, stamps_in}
 use Rattle.hp_model.specs.machine.Machine.{committed_pages, pool_of, used_at}
 use Rattle.hp_model.specs.machine.Named.{is_in}
-use Rattle.hp_model.specs.machine.Pages.{can_have_page}
 use Rattle.hp_model.specs.machine.Plan.{Reply, Slot}
+use Rattle.hp_model.specs.machine.Short.{can_have_page}
 use Rattle.hp_model.specs.machine.SlotEvent.{file_named}
 use Rattle.hp_model.specs.machine.State.{Node, State, slot_at, with_slot}
 use Rattle.hp_model.specs.machine.Table.{home_of, is_known}

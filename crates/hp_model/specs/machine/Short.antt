@@ -102,3 +102,8 @@ MeetsShortage s (Load task k number i offset count) (Err r) =
 MeetsShortage s (Store task k number i offset bytes) (Err r) =
     IsShortOn (pool_of s) (slot_at s k) (Store task k number i offset bytes) r
 MeetsShortage s step (Err r) = is_for_pages r ≡ false
+
+-- a page could be had for the slot: it is within the mount's limit, and the pool can commit it
+abbrev pub can_have_page : Pool → Slot → Bool
+can_have_page p None = false
+can_have_page p (Some m) = not (is_full m 1) && can_grant (rise m 1) p

@@ -1,0 +1,9 @@
+-- What follows from the footprint of each step.
+pub mod Slots
+pub mod Stays
+pub mod Gone
+pub mod CutOff
+pub mod Others
+pub mod Set
+pub mod Touched
+pub mod Follows
