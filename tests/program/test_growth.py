@@ -162,18 +162,33 @@ ROWS = {
     "a fork and an exit of maps": Row(
         lambda n: [*a_file(), *maps(n)], lambda n: ["fork 1 7", "exit 7"], 128, turns=4, is_linear=True
     ),
+    "a refused map beside maps": Row(
+        lambda n: [*a_file(), *maps(n)], lambda n: ["map 1 0 a 0 70 private"], 128
+    ),
+    "an exit of maps": Row(
+        lambda n: a_file(), lambda n: [*maps(n), "exit 1", "connect 1 0"], 1024, turns=1, is_linear=True
+    ),
     "a list of names": Row(lambda n: files(n), lambda n: ["ls 0"], 128, is_linear=True),
 }
 
 # Rows that grow and should not, or by more than a step for each.
 GROW = {
-    "a refused map beside maps": Row(
-        lambda n: [*a_file(), *maps(n)], lambda n: ["map 1 0 a 0 70 private"], 128
-    ),
     "a fork beside maps of others": Row(
         lambda n: [*a_file(), *of_others(n)], lambda n: ["fork 1 7", "exit 7"], 128
     ),
     "a fork beside files": Row(lambda n: [*a_file(), *files(n)], lambda n: ["fork 1 7", "exit 7"], 128),
+}
+
+
+# Lines before, others before, what is counted behind each, and how many times the second may cost the first.
+PAIRS = {
+    "a fork of a map numbered 4,095": (of_map(1), of_map(4095), ["fork 1 7", "exit 7"], 1.1),
+    "a refused map beside 4,095 maps": (
+        [*a_file(), *maps(0)],
+        [*a_file(), *maps(4094)],
+        ["map 1 0 a 0 70 private"],
+        1.3,
+    ),
 }
 
 
@@ -185,12 +200,15 @@ def instructions(lines: Lines, words: tuple[str, ...]) -> int:
     return int(found[1])
 
 
-def cost(row: Row, size: int) -> float:
+def cost_behind(before: Lines, counted: Lines, turns: int, words: tuple[str, ...]) -> float:
     """Of one turn of the counted lines."""
-    before, counted = row.before(size), row.counted(size)
     once = [*before, *counted]
-    more = instructions([*once, *(row.turns * counted)], row.words)
-    return (more - instructions(once, row.words)) / row.turns
+    more = instructions([*once, *(turns * counted)], words)
+    return (more - instructions(once, words)) / turns
+
+
+def cost(row: Row, size: int) -> float:
+    return cost_behind(row.before(size), row.counted(size), row.turns, row.words)
 
 
 def grows(row: Row) -> tuple[bool, list[float]]:
@@ -211,6 +229,14 @@ needs_valgrind = pytest.mark.skipif(
 def test_a_line_costs_no_more_beside_more(row: Row) -> None:
     does, costs = grows(row)
     assert not does, f"instructions of a turn at N, 2N and 4N: {costs}"
+
+
+@needs_valgrind
+@pytest.mark.parametrize(("near", "far", "counted", "most"), PAIRS.values(), ids=PAIRS)
+def test_a_line_costs_as_much(near: Lines, far: Lines, counted: Lines, most: float) -> None:
+    with ThreadPoolExecutor(2) as pool:
+        costs = list(pool.map(lambda before: cost_behind(before, counted, 20, ()), (near, far)))
+    assert costs[1] <= most * costs[0], f"instructions of a turn: {costs}"
 
 
 @needs_valgrind

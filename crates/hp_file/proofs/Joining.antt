@@ -1,13 +1,12 @@
 use Rattle.std.proofs.lemmas.Grind.{common_steps}
 -- Lists of maps that come behind those of files.
-use Rattle.std.proofs.Common.{◌≡◌, ⊎_elim, ℕ, zero, suc, ◌+◌, ◌<◌, ◌≤◌, ◌++◌, cond, List, [], ◌∷◌, drop, length, take, refl, sym, ap, subst, ◌∙◌, arith, slice_index_or, slice_set, filter, sum_by}
+use Rattle.std.proofs.Common.{◌≡◌, ⊎_elim, ℕ, zero, suc, ◌+◌, ◌<◌, ◌≤◌, ◌++◌, List, [], ◌∷◌, drop, length, take, refl, sym, ap, subst, ◌∙◌, arith, slice_index_or, slice_set, filter, sum_by}
 use Rattle.std.specs.Global.{Vec}
 use Rattle.std.proofs.lemmas.Bool.{cases_lt}
-use Rattle.std.proofs.lemmas.List.{length-append, length-map, nil_from_length, take-set}
-use Rattle.std.proofs.lemmas.List.Sums.{length-filter, sum_by-append, sum_by-cons, sum_by-drop_more, sum_by-set, sum_by_more}
+use Rattle.std.proofs.lemmas.List.{length-map, nil_from_length}
+use Rattle.std.proofs.lemmas.List.Sums.{length-filter, sum_by-cons, sum_by-drop_more}
 use Rattle.hp_model.proofs.Words.{Mapping, is_of, map_for}
-use Rattle.hp_lookup.proofs.Words.{AreFilled, AreReady, HasRoom, HaveRoom, IsReady, NumberedFile, children_of, joined, joined_at, list_length, maps_by, numbered_at, with_list}
-use Rattle.hp_lookup.proofs.Cells.{no_file}
+use Rattle.hp_lookup.proofs.Words.{AreFilled, AreReady, HasRoom, HaveRoom, IsReady, NumberedFile, children_of, joined, list_length, maps_by, with_list}
 use Rattle.hp_file.proofs.Sharing.{sum_end}
 
 module _ (parent child : ℕ) where
@@ -137,34 +136,3 @@ last_joined (f ∷ fs) (w ∷ vs) v d room = ap (λ gs. with_list f w ∷ gs) (l
 pub none_joined : (fs : List NumberedFile) → joined fs [] ≡ fs
 none_joined [] = refl
 none_joined (f ∷ fs) = refl
-
--- ---- maps of a task in files that get lists
-
-joined_more : (task : ℕ) (fs : List NumberedFile) (vs : List (Vec (Mapping ℕ))) → sum_by (maps_by task) fs ≤ sum_by (maps_by task) (joined fs vs)
-joined_more task [] vs = omega arith
-joined_more task (f ∷ fs) [] = omega arith
-joined_more task (f ∷ fs) (v ∷ vs) =
-    let rest = joined_more task fs vs in
-    let here = sum_by-append (λ (m : Mapping ℕ). cond {A = ℕ} (is_of task m) 1 0) f.maps v.items in
-    omega (arith, rest, here, sum_by-cons (maps_by task) f fs, sum_by-cons (maps_by task) (with_list f v) (joined fs vs))
-
--- the files up to the last that has a list have none
-module _ (task : ℕ) (fs : List NumberedFile) (vs : List (Vec (Mapping ℕ))) (v : Vec (Mapping ℕ)) (room : HaveRoom fs (vs ++ v ∷ []))
-    (none : sum_by (maps_by task) (take (length (vs ++ v ∷ [])) fs) ≡ 0) where
-  both_none : sum_by (maps_by task) (take (length vs) fs) + maps_by task (numbered_at fs (length vs)) ≡ 0
-  both_none = grind (arith, common_steps, length-append, sum_by_more, no_file, last_within)
-
-  pub last_none : maps_by task (numbered_at fs (length vs)) ≡ 0
-  last_none = omega (arith, both_none)
-
-  pub rest_none : sum_by (maps_by task) (take (length vs) (joined_at (length vs) v fs)) ≡ 0
-  rest_none = ap (sum_by (maps_by task)) (take-set fs (length vs) (with_list (numbered_at fs (length vs)) v)) ∙ (omega (arith, both_none))
-
-  -- with those of its list there are no more than in the end
-  pub last_keys : sum_by (maps_by task) fs + maps_by task (with_list (numbered_at fs (length vs)) v) ≤ sum_by (maps_by task) (joined fs (vs ++ v ∷ []))
-  last_keys =
-      let step = sum_by-set (maps_by task) fs (length vs) (with_list (numbered_at fs (length vs)) v) no_file (last_within fs vs v room) in
-      let most = joined_more task (joined_at (length vs) v fs) vs in
-      let same = ap (sum_by (maps_by task)) (last_joined fs vs v no_file room) in
-      let own = last_none in
-      omega (arith, step, most, same, own)

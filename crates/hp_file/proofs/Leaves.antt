@@ -1,7 +1,7 @@
 use Rattle.std.proofs.lemmas.Grind.{common_steps}
 -- Indices that leave a map, and what it holds of them.
-use Rattle.std.proofs.Common.{◌≡◌, ℕ, ◌+◌, ◌-◌, ◌≤◌, ◌==◌, ◌&&◌, Bool, true, false, cond, None, take, drop, refl, ap, ◌∙◌, arith, slice_index_or, count_by, nat_lt}
-use Rattle.std.proofs.lemmas.Bool.{cases_lt, ltb-false}
+use Rattle.std.proofs.Common.{◌≡◌, ℕ, ◌+◌, ◌-◌, ◌≤◌, Bool, true, false, cond, None, take, drop, refl, ap, ◌∙◌, arith, slice_index_or, count_by, nat_lt}
+use Rattle.std.proofs.lemmas.Bool.{ltb-false}
 use Rattle.hp_model.proofs.Editing.{sum_by-edit_range}
 use Rattle.std.proofs.lemmas.List.Sums.{sum_by-take-drop}
 use Rattle.hp_mapping.proofs.Ranges.{freed_range}
@@ -9,10 +9,10 @@ use Rattle.hp_file.proofs.Cutting.{none_mapped, punched_place}
 use Rattle.hp_lookup.proofs.Mapped.{sum_edited}
 use Rattle.hp_mapping.specs.Mapped.{IsClear, reserves_in}
 use Rattle.hp_laws.proofs.Variants.{Gone, Live, Place}
-use Rattle.hp_model.proofs.Words.{Mapping, copy_of, edit_range, is_of, is_unconsumed, map_punched, part, without_copy, without_range}
+use Rattle.hp_model.proofs.Words.{Mapping, copy_of, edit_range, is_unconsumed, map_punched, part, without_copy, without_range}
 use Rattle.hp_model.proofs.Editing.{length-edit_range}
 use Rattle.hp_laws.proofs.ending.Cuts.{ranged}
-use Rattle.hp_lookup.proofs.Words.{IsMoreButTask, Noted, in_map, in_place, one_if_named, owed}
+use Rattle.hp_lookup.proofs.Words.{in_map, in_place, owed}
 use Rattle.hp_file.proofs.Punched.{edited_alike, in_from}
 
 -- ---- copies go first
@@ -77,17 +77,3 @@ left_fewer n a b m =
     let front = sum_by-take-drop (in_place n) m.places low in
     let back = sum_by-take-drop (in_place n) (drop low m.places) (high - low) in
     omega (arith, gone, none, front, back)
-
--- ---- what was noted
-
-module _ (task : ℕ) where
-  pub none_gone : (n : Noted) → IsMoreButTask task (λ q. 0) n n
-  none_gone n = grind (arith, common_steps)
-
-  pub gone_then : (f g h : ℕ → ℕ) (old mid new : Noted) → IsMoreButTask task f old mid → IsMoreButTask task g mid new → ((q : ℕ) → h q ≤ f q + g q) → IsMoreButTask task h old new
-  gone_then f g h old mid new first then each = grind (arith, common_steps, cases_lt)
-
-  -- a map of another task
-  pub map_stays : (m : Mapping ℕ) (n : Noted) → is_of task m ≡ false → IsMoreButTask task (one_if_named task m) n n
-  map_stays m n other = gone_then (λ q. 0) (λ q. 0) (one_if_named task m) n n n (none_gone n) (none_gone n)
-      (λ q. (let none = ap (λ b. cond {A = ℕ} (b && (m.number == q)) 1 0) other in omega (arith, none)))

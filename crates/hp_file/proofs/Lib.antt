@@ -9,7 +9,6 @@ pub mod FirstTask
 pub mod Ended
 pub mod Sharing
 pub mod Counting
-pub mod Noting
 pub mod Runs
 pub mod Filling
 pub mod Zeros

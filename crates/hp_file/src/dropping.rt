@@ -1,9 +1,9 @@
 //! What files and maps hold goes.
 ghost use Rattle.std.specs.Prelude.{◌≡◌, ℕ, ◌+◌, ◌<◌, ◌≤◌, ◌^◌, List, IsSome, drop, length, map, slice_index_or, slice_set};
-ghost use Rattle.std.specs.List.{count_by, sum_by};
+ghost use Rattle.std.specs.List.{sum_by};
 ghost use Rattle.hp_model.specs.files.File.{cell_punched};
 ghost use Rattle.hp_model.specs.declared.place.Place.TheVariants.{Gone};
-ghost use Rattle.hp_model.specs.files.Mapping.{copy_of, is_map, map_punched, without_range};
+ghost use Rattle.hp_model.specs.files.Mapping.{copy_of, map_punched, without_range};
 ghost use Rattle.hp_mapping.specs.Mapped.{reserves_in};
 ghost use Rattle.hp_model.specs.Lists.{edit_range};
 ghost use Rattle.hp_store.specs.Store.{dropped, holders_of, page_at};
@@ -11,11 +11,10 @@ ghost use Rattle.hp_lookup.specs.Held.{in_cell, in_map, in_place, more_in};
 ghost use Rattle.hp_lookup.specs.Numbered.{no_mapping};
 ghost use Rattle.hp_file.specs.HeldPages.{AreDropped, AreHeld};
 ghost use Rattle.hp_file.specs.Taking.{robbed_at};
-ghost use Rattle.hp_lookup.specs.Leaving.{IsMoreButTask, ended_for, one_if_named, owed};
+ghost use Rattle.hp_lookup.specs.Leaving.{ended_for, owed};
 
 use crate::held_pages::HeldPages;
 use hp_inode::Inode;
-use hp_lookup::Hints;
 use hp_mapping::{Mapping, PackedPlace, copy_in};
 use hp_model::naming::Naming;
 use hp_model::page_no::PageNo;
@@ -168,49 +167,34 @@ pub fn leave_range<N: Naming>(map: &mut Mapping, a: u64, b: u64, pages: &mut Hel
     map.unmap(a, b)
 }
 
-// A map of the task loses all its indices, with what it holds, and is noted no more. Answers how many reservations went.
-fn end_map_of<N: Naming>(
-    task: u64,
-    map: &mut Mapping,
-    hints: &mut Hints,
-    pages: &mut HeldPages<N>,
-) -> u64
+// A map of the task loses all its indices, with what it holds. Answers how many reservations went.
+fn end_map_of<N: Naming>(task: u64, map: &mut Mapping, pages: &mut HeldPages<N>) -> u64
     requires { AreHeld (λ n. in_map n map.old) pages.old }
     ensures map { map.new ≡ ended_for task map.old }
     ensures dropping { AreDropped (λ n. in_map n map.old)
         (λ n. in_map n map.new) pages.old pages.new }
     ensures reserves { result + owed map.new ≡ owed map.old }
-    ensures hints { IsMoreButTask task (one_if_named task map.old) hints.old hints.new }
 {
     if map.task() != task {
         return 0;
     }
-    hints.forget_map(task, map.number());
     let start = map.start();
     let end = map.end();
     leave_range(map, start, end, pages)
 }
 
-/// The maps of a task lose all their indices, with what they hold, and are noted no more. Answers how many reservations
-/// went.
-pub fn end_maps_of<N: Naming>(
-    task: u64,
-    maps: &mut [Mapping],
-    hints: &mut Hints,
-    pages: &mut HeldPages<N>,
-) -> u64
+/// The maps of a task lose all their indices, with what they hold. Answers how many reservations went.
+pub fn end_maps_of<N: Naming>(task: u64, maps: &mut [Mapping], pages: &mut HeldPages<N>) -> u64
     requires held { AreHeld (λ n. sum_by (in_map n) maps.old) pages.old }
     requires few { sum_by owed maps.old < 2 ^ 64 }
     ensures maps { maps.new ≡ map (ended_for task) maps.old }
     ensures dropping { AreDropped (λ n. sum_by (in_map n) maps.old)
         (λ n. sum_by (in_map n) maps.new) pages.old pages.new }
     ensures reserves { result + sum_by owed maps.new ≡ sum_by owed maps.old }
-    ensures hints { IsMoreButTask task (λ number. count_by (is_map task number) maps.old)
-        hints.old hints.new }
 {
     let mut reserves = 0;
     for map in maps.iter_mut() {
-        reserves += end_map_of(task, map, hints, pages);
+        reserves += end_map_of(task, map, pages);
     }
     reserves
 }

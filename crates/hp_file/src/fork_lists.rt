@@ -1,10 +1,9 @@
 //! A child's maps of all files.
 ghost use Rattle.std.specs.Prelude.{◌≡◌, ◌^◌, ◌+◌, ◌-◌, ◌<◌, ◌≤◌, length, ℕ, IfOk, OnOk};
 ghost use Rattle.std.specs.List.{filter, sum_by};
-ghost use Rattle.hp_lookup.specs.Forking.{AreFilled, AreReady, HasNoted, HasRoom, HaveJoined, HaveNoted, HaveRoom, in_list, in_lists, joined, joined_at, list_copies, list_length, maps_by, with_list};
+ghost use Rattle.hp_lookup.specs.Forking.{AreFilled, AreReady, HasRoom, HaveJoined, HaveRoom, in_list, in_lists, joined_at, list_copies, list_length, maps_by};
 ghost use Rattle.hp_file.specs.HeldPages.{AreHeld, AreShared};
 ghost use Rattle.hp_lookup.specs.Leaving.{is_used};
-ghost use Rattle.hp_model.specs.Profile.{most_maps};
 ghost use Rattle.hp_lookup.specs.Numbered.{numbered_at};
 
 use crate::copies_of;
@@ -13,7 +12,6 @@ use crate::held_pages::HeldPages;
 use hp_lookup::{FileTag, Hints, Tags};
 use hp_mapping::Mapping;
 use hp_model::naming::Naming;
-use hp_model::profile::MOST_MAPS;
 use std::alloc::{AllocError, Global};
 
 // So many empty lists.
@@ -66,16 +64,8 @@ fn fill_at(
     Ok(count)
 }
 
-/// How many numbers are looked up, from 1 on, for so many maps of a task before all files are gone over: a task's maps have
-/// low numbers, but for one that was left by those before it.
-pub fn numbers_tried(count: u64) -> u64
-    ensures { result ≤ most_maps }
-{
-    count.saturating_mul(2).saturating_add(16).min(MOST_MAPS)
-}
-
 /// The maps that a child gets of each file for those of a parent, which are so many: a list for each file, or none where there
-/// are none. The files are found by low numbers of the parent's maps. All are gone over where some are not found so.
+/// are none. The files are found by the parent's own maps. All are gone over where some are not found so, which is never.
 pub fn children(
     files: &FileList,
     hints: &Hints,
@@ -90,12 +80,14 @@ pub fn children(
 {
     let mut lists = empty_lists(alloc, if count > 0 { files.len() } else { 0 })?;
     let mut left = count;
-    let mut number = 1;
-    let last = numbers_tried(count);
-    while left > 0 && number <= last {
+    let mut map = 0;
+    while left > 0 && map < count {
+        let Some(number) = hints.nth(parent, map as usize) else {
+            break;
+        };
         let at = hinted_at(parent, number, files, hints);
         left -= fill_at(at, files, alloc, tags, parent, child, &mut lists)?;
-        number += 1;
+        map += 1;
     }
     if left == 0 {
         return Ok(lists);
@@ -132,25 +124,21 @@ pub fn room_for(held: u64, more: usize, lists: &[Vec<Mapping>]) -> usize
     room.saturating_add(all_copies(lists)) as usize
 }
 
-// The file at a place, which has no map of a child, gets the child's maps of a list: each of their copies has a holder more,
-// and they are noted, for which there is room. No file is looked at where the list is empty.
+// The file at a place gets the child's maps of a list: each of their copies has a holder more, and where they stand is noted.
+// No file is looked at where the list is empty.
 fn join_at<N: Naming>(
     child: u64,
     at: usize,
     list: Vec<Mapping>,
     files: &mut FileList,
-    hints: &mut Hints,
+    hints: &Hints,
     pages: &mut HeldPages<N>,
 )
     requires within { at < length files.old.files }
     requires room { HasRoom (numbered_at files.old.files at) list }
-    requires none { maps_by child (numbered_at files.old.files at) ≡ 0 }
-    requires keys { maps_by child (with_list (numbered_at files.old.files at) list)
-        ≤ hints.old.room }
     requires held { AreHeld (λ n. in_list n list) pages.old }
     requires few { pages.old.more + list_copies list ≤ 2 ^ 32 }
     ensures files { files.new.files ≡ joined_at at list files.old.files }
-    ensures noted { HasNoted child (numbered_at files.new.files at) hints.old hints.new }
     ensures sharing { AreShared (λ n. in_list n list) (list_copies list) pages.old pages.new }
 {
     if list.is_empty() {
@@ -162,22 +150,19 @@ fn join_at<N: Naming>(
 }
 
 /// Each file gets the maps of its list, and each of their copies has a holder more. Where they stand is noted, and their
-/// tags: there is room for them, and the files have no other map of the child.
+/// tags.
 pub fn join_all<N: Naming>(
     child: u64,
     mut lists: Vec<Vec<Mapping>>,
     files: &mut FileList,
-    hints: &mut Hints,
+    hints: &Hints,
     pages: &mut HeldPages<N>,
 )
     requires room { HaveRoom files.old.files lists.items }
-    requires none { sum_by (maps_by child) files.old.files ≡ 0 }
-    requires keys { sum_by (maps_by child) (joined files.old.files lists.items) ≤ hints.old.room }
     requires held { AreHeld (λ n. in_lists n lists.items) pages.old }
     requires few { pages.old.more + sum_by list_copies lists.items ≤ 2 ^ 32 }
     ensures joined { HaveJoined lists.items files.old.files files.new.files pages.old.store
         pages.new.store pages.old.more pages.new.more }
-    ensures noted { HaveNoted child files.new.files hints.old hints.new }
 {
     while let Some(list) = lists.pop() {
         let at = lists.len();

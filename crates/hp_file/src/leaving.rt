@@ -9,25 +9,24 @@ ghost use Rattle.hp_lookup.specs.Leaving.{file_owed, map_sum, swept_at};
 
 use crate::file_list::FileList;
 use crate::held_pages::HeldPages;
-use hp_lookup::{Departed, Hints};
+use hp_lookup::Departed;
 use hp_model::naming::Naming;
 
 /// All maps of a task go from each of some files. A file that is left without name and maps loses its pages and entries.
 pub fn drop_maps_of<N: Naming>(
     task: u64,
     files: &mut FileList,
-    hints: &mut Hints,
     pages: &mut HeldPages<N>,
 ) -> Departed
     requires held { AreHeld (λ n. in_files n files.old.files) pages.old }
     requires few { sum_by file_owed files.old.files < 2 ^ 64 }
     requires few_maps { map_sum files.old.files < 2 ^ 64 }
-    ensures { HaveLeft task files.old files.new hints.old hints.new pages.old pages.new result }
+    ensures { HaveLeft task files.old files.new pages.old pages.new result }
 {
     let mut maps = 0;
     let mut reserves = 0;
     for at in 0..files.len() {
-        let gone = files[at].drop_maps_of(task, hints, pages);
+        let gone = files[at].drop_maps_of(task, pages);
         maps += gone.maps;
         reserves += gone.reserves;
     }
@@ -39,7 +38,6 @@ pub fn drop_some_maps_of<N: Naming>(
     task: u64,
     count: u64,
     files: &mut FileList,
-    hints: &mut Hints,
     pages: &mut HeldPages<N>,
 ) -> Departed
     requires count { count ≡ sum_by (maps_for task) (labels_of files.old.files) }
@@ -47,7 +45,7 @@ pub fn drop_some_maps_of<N: Naming>(
     requires held { AreHeld (λ n. in_files n files.old.files) pages.old }
     requires few { sum_by file_owed files.old.files < 2 ^ 64 }
     requires few_maps { map_sum files.old.files < 2 ^ 64 }
-    ensures { HaveLeft task files.old files.new hints.old hints.new pages.old pages.new result }
+    ensures { HaveLeft task files.old files.new pages.old pages.new result }
 {
     if count == 0 {
         return Departed {
@@ -55,7 +53,7 @@ pub fn drop_some_maps_of<N: Naming>(
             reserves: 0,
         };
     }
-    drop_maps_of(task, files, hints, pages)
+    drop_maps_of(task, files, pages)
 }
 
 /// A file without name and maps goes, with its pages and entries, and those behind it move down. Answers how many of its

@@ -4,7 +4,7 @@ use Rattle.std.proofs.Common.{◌≡◌, ℕ, zero, suc, ◌<◌, List, [], ◌�
 use Rattle.std.proofs.lemmas.List.{length-map, map-set, set-get_or}
 use Rattle.hp_model.proofs.Words.{Mapping}
 use Rattle.hp_store.specs.Store.{Store}
-use Rattle.hp_lookup.proofs.Words.{AreLevel, AreNoted, AreSame, IsFiles, IsHeld, IsKeyed, IsMoreByMap, Label, Noted, NumberedFile, file_shown, files_shown, key_of, label_of, labels_of, mapping_at}
+use Rattle.hp_lookup.proofs.Words.{AreLevel, AreNoted, AreSame, IsFiles, IsHeld, IsKeyed, Label, Noted, NumberedFile, file_shown, files_shown, key_of, label_of, labels_of, mapping_at, tally_of}
 use Rattle.hp_lookup.proofs.Words.{no_mapping}
 use Rattle.hp_lookup.proofs.Level.{level_set}
 
@@ -37,17 +37,23 @@ files_same n s t more now maps tally fs k x g l read same level is held =
       level = level_set fs k x g (let long = length-map fs (file_shown s) in omega (arith, l, long)) read level is.level;
     }
 
--- the same was noted, and then a map
-pub then_map : (task number : ℕ) (old mid new : Noted) → AreSame old mid → IsMoreByMap task number mid new → IsMoreByMap task number old new
-then_map task number old mid new same then = grind (arith, common_steps)
-
 -- the same is noted as before
 pub noted_same : (old new : Noted) (ls : List Label) → AreSame old new → AreNoted old ls → AreNoted new ls
-noted_same old new ls same are = grind (arith, common_steps)
+noted_same old new ls same are = record {
+  names = λ name e. are.names name (sym (same.names name) ∙ e);
+  keys = λ task number e. are.keys task number (sym (same.keys task number) ∙ e);
+  no_name = λ name e. same.names name ∙ are.no_name name e;
+  no_key = λ task number e. same.keys task number ∙ are.no_key task number e;
+}
 
-pub files_noted : (old new : Noted) (s : Store) (more maps : ℕ) (tally : ℕ → ℕ) (fs : List NumberedFile) → AreSame old new → IsFiles old s more maps tally fs → IsFiles new s more maps tally fs
-files_noted old new s more maps tally fs same is =
-    record { held = is.held; keyed = is.keyed; noted = noted_same old new (labels_of fs) same is.noted; level = is.level }
+-- the same is noted
+pub files_same_noted : (old new : Noted) (s : Store) (more maps : ℕ) (fs : List NumberedFile) → AreSame old new → IsFiles old s more maps (tally_of old) fs → IsFiles new s more maps (tally_of new) fs
+files_same_noted old new s more maps fs same is = record {
+  held = is.held;
+  keyed = record { kept = is.keyed.kept; names = is.keyed.names; keys = is.keyed.keys; map_count = is.keyed.map_count; tallied = λ q. same.tally q ∙ is.keyed.tallied q };
+  noted = noted_same old new (labels_of fs) same is.noted;
+  level = is.level;
+}
 
 -- each task has as many maps
 pub files_recounted : (n : Noted) (s : Store) (more maps : ℕ) (tally next : ℕ → ℕ) (fs : List NumberedFile) → ((q : ℕ) → next q ≡ tally q) →

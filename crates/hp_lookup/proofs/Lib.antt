@@ -2,6 +2,9 @@ pub mod Words
 pub mod Keys
 pub mod Level
 pub mod Hinted
+pub mod Rising
+pub mod Tables
+pub mod Notes
 pub mod Lifting
 pub mod Cells
 pub mod Views

@@ -32,7 +32,8 @@ none_in_maps task number (m ∷ ms) e = (let step = count_cons (is_key task numb
         omega (arith, step, here, there)
     either false step e rest = (let there = rest e in omega (arith, step, there))
 
-none_in_files : (task number : ℕ) (fs : List NumberedFile) → is_among number (numbers_in task (flat_map (λ (f : NumberedFile). f.maps) fs)) ≡ false → sum_by (keys_in task number) (labels_of fs) ≡ 0
+pub none_in_files : (task number : ℕ) (fs : List NumberedFile) → is_among number (numbers_in task (flat_map (λ (f : NumberedFile). f.maps) fs)) ≡ false
+    → sum_by (keys_in task number) (labels_of fs) ≡ 0
 none_in_files task number [] e = refl
 none_in_files task number (f ∷ fs) e =
     let rest = flat_map (λ (f : NumberedFile). f.maps) fs in

@@ -1,24 +1,20 @@
-use Rattle.std.proofs.lemmas.Grind.{common_steps}
 -- How many maps each task has, by what files are called, and how many tasks there are.
-use Rattle.std.proofs.Common.{◌≡◌, ◌≢◌, ℕ, zero, suc, ◌+◌, ◌-◌, ◌<◌, ◌==◌, ◌||◌, nat_eq, nat_lt, Bool, true, false, not, cond, List, [], ◌∷◌, length, map, Option, None, Some, is_some, slice_get, refl}
-use Rattle.std.proofs.Common.{sym, ap, ◌∙◌, arith, All, count_by, filter, flat_map, sum_by, unwrap_or}
-use Rattle.std.specs.List.{AllByRecursion, IsDistinct}
-use Rattle.std.specs.Map.{keys_of, lookup, lookup_key}
-use Rattle.std.proofs.lemmas.Bool.{eqb-true}
-use Rattle.std.proofs.lemmas.Bool.Decides.{Decides-eqb, nat_tests}
-use Rattle.std.proofs.lemmas.List.{length-map}
-use Rattle.std.proofs.lemmas.List.Sums.{count_by-le-length, sum_by-append, sum_by-cons}
-use Rattle.std.proofs.lemmas.Map.Made.{lookup_key_same}
-use Rattle.std.proofs.lemmas.Map.Keys.{IsDistinct-head, IsDistinct-tail}
+use Rattle.std.proofs.Common.{◌≡◌, ℕ, suc, ◌+◌, ◌-◌, ◌<◌, ◌==◌, ◌||◌, nat_lt, Bool, true, false, not, cond, List, [], ◌∷◌, length, map, refl}
+use Rattle.std.proofs.Common.{sym, ap, ◌∙◌, arith, All, count_by, filter, flat_map, sum_by, get_or}
+use Rattle.std.specs.List.Sorted.{IsStrictlyIncreasing}
+use Rattle.std.proofs.lemmas.Bool.Decides.{nat_tests}
+use Rattle.std.proofs.lemmas.List.Sums.{sum_by-append, sum_by-cons}
 use Rattle.hp_model.proofs.Words.{Map, Mapping, distinct, is_among, is_of}
 use Rattle.hp_model.proofs.Counting.{count_cons, count_map}
 use Rattle.hp_model.proofs.Distinct.{same_members}
 use Rattle.hp_store.specs.Store.{Store}
-use Rattle.hp_lookup.proofs.Words.{IsFiles, Label, Noted, NumberedFile, all_maps, all_tasks, emptied, files_shown, is_first_of, is_listed, is_used, key_of, label_of, labels_of, left_by, maps_by}
+use Rattle.hp_lookup.proofs.Words.{Label, NumberedFile, all_maps, all_tasks, emptied, files_shown, is_first_of, is_listed, is_used, key_of, label_of, labels_of, left_by, maps_by}
 use Rattle.hp_lookup.proofs.Words.{maps_for, tasks_in, with_truncated}
+use Rattle.hp_lookup.specs.Table.{IsTable, numbers_under}
 use Rattle.hp_lookup.proofs.ForkCounts.{task_maps}
 use Rattle.hp_lookup.proofs.Leaving.{used_label}
 use Rattle.hp_lookup.proofs.MapNumbers.{among_distinct}
+use Rattle.hp_lookup.proofs.Rising.{once, rise_removed}
 use Rattle.hp_lookup.proofs.Unique.{tasks_counted}
 
 pub own_maps : (task : ℕ) (f : NumberedFile) → maps_for task (label_of f) ≡ count_by (is_of task) f.maps
@@ -61,11 +57,6 @@ tasks_tallied task (l ∷ ls) =
     let rest = tasks_tallied task ls in
     omega (arith, here, both, rest, sum_by-cons (maps_for task) l ls)
 
--- one more fits
-pub tally_few : (task : ℕ) (n : Noted) (s : Store) (more maps : ℕ) (tally : ℕ → ℕ) (fs : List NumberedFile) → IsFiles n s more maps tally fs →
-    length (all_maps (files_shown s fs)) < 4096 → tally task < 4096
-tally_few task n s more maps tally fs is few = grind (arith, common_steps, maps_tallied, count_by-le-length)
-
 -- ---- whether there is one
 
 positive : (n : ℕ) → 0 < n → nat_lt 0 n ≡ true
@@ -90,58 +81,23 @@ has_some task count s fs is =
     twice true = refl
     twice false = refl
 
--- ---- a task with a count has one entry
+-- ---- a task that has maps is in the table once
 
-turned : (a b : ℕ) → (a == b) ≡ (b == a)
-turned a b = grind (arith, nat_tests)
+once_rising : (xs : List ℕ) → IsStrictlyIncreasing xs → length (distinct xs) ≡ length xs
+once_rising [] up = refl
+once_rising (x ∷ xs) up =
+    ap (λ b. length (cond b (distinct xs) (x ∷ distinct xs))) (once (x ∷ xs) up 0 (omega arith))
+    ∙ (let rest = once_rising xs (rise_removed (x ∷ xs) up 0 (omega arith)) in omega (arith, rest))
 
-module _ {X : Type 0} where
-  key_found : (q : ℕ) (es : List (ℕ × X)) → is_among q (keys_of es) ≡ is_some (lookup (nat_eq q) es)
-  key_found q [] = refl
-  key_found q (e ∷ es) = ap (λ b. b || is_among q (keys_of es)) (turned e.0 q) ∙ at (q == e.0) (key_found q es)
-    where
-      at : (b : Bool) → is_among q (keys_of es) ≡ is_some (lookup (nat_eq q) es) → (b || is_among q (keys_of es)) ≡ is_some (cond b (Some e.1) (lookup (nat_eq q) es))
-      at true rest = refl
-      at false rest = rest
-
-not_found : (x : ℕ) (xs : List ℕ) → AllByRecursion (λ y. nat_eq x y ≡ false) xs → is_among x xs ≡ false
-not_found x [] all = refl
-not_found x (y ∷ ys) all = ap (λ b. b || is_among x ys) (turned y x ∙ all.0) ∙ not_found x ys all.1
-
-once : (xs : List ℕ) → IsDistinct nat_eq xs → length (distinct xs) ≡ length xs
-once [] d = refl
-once (x ∷ xs) d =
-    ap (λ b. length (cond b (distinct xs) (x ∷ distinct xs))) (not_found x xs (IsDistinct-head nat_eq x xs d))
-    ∙ (let rest = once xs (IsDistinct-tail nat_eq x xs d) in omega (arith, rest))
-
-pub tasks_once : (es : List (ℕ × ℕ)) (tasks : List ℕ) → IsDistinct nat_eq (keys_of es) → ((q : ℕ) → lookup (nat_eq q) es ≢ Some 0) →
-    ((q : ℕ) → unwrap_or (lookup (nat_eq q) es) 0 ≡ count_by (λ t. t == q) tasks) → length es ≡ length (distinct tasks)
-tasks_once es tasks distinct_keys some counts =
-    sym (length-map es (λ (e : ℕ × ℕ). e.0)) ∙ sym (once (keys_of es) distinct_keys)
-    ∙ same_members (keys_of es) tasks (λ q. key_found q es ∙ counted (lookup (nat_eq q) es) (some q) ∙ ap (λ n. nat_lt 0 n) (counts q) ∙ sym (among_count q tasks))
+known_some : (q : ℕ) (ts : List ℕ) (ms : List (List ℕ)) → length ms ≡ length ts → ((i : ℕ) → i < length ms → 0 < length (get_or ms i [])) → is_among q ts ≡ nat_lt 0 (length (numbers_under q ts ms))
+known_some q [] ms each some = refl
+known_some q (t ∷ ts) [] each some = absurd (omega (arith, each))
+known_some q (t ∷ ts) (m ∷ ms) each some = by (t == q) (known_some q ts ms (omega (arith, each)) (λ i l. some (suc i) (omega (arith, l))))
   where
-    counted : (o : Option ℕ) → o ≢ Some 0 → is_some o ≡ nat_lt 0 (unwrap_or o 0)
-    counted None some = refl
-    counted (Some zero) some = absurd (some refl)
-    counted (Some (suc n)) some = sym (positive (suc n) (omega arith))
+    by : (b : Bool) → is_among q ts ≡ nat_lt 0 (length (numbers_under q ts ms)) → (b || is_among q ts) ≡ nat_lt 0 (length (cond b m (numbers_under q ts ms)))
+    by true rest = sym (positive (length m) (some 0 (omega arith)))
+    by false rest = rest
 
--- what a look-up found is the entry of what it looked for
-pub entry_found : {X : Type 0} (q : ℕ) (es : List (ℕ × X)) (i key : ℕ) (x : X) → Some key ≡ lookup_key (nat_eq q) es → slice_get es i ≡ Some (key, x) → slice_get es i ≡ Some (q, x)
-entry_found q es i key x is at = at ∙ ap (λ k. Some (k, x)) (sym (lookup_key_same Decides-eqb q es key (sym is)))
-
--- the entry of one task changes, or goes, so that it counts one less
-pub one_fewer : (task count : ℕ) (left : Option ℕ) (old new : ℕ → Option ℕ) → old task ≡ Some count → unwrap_or left 0 ≡ count - 1 →
-    ((q : ℕ) → new q ≡ cond (task == q) left (old q)) → (q : ℕ) → unwrap_or (new q) 0 ≡ unwrap_or (old q) 0 - cond (task == q) 1 0
-one_fewer task count left old new had less set q = ap (λ o. unwrap_or o 0) (set q) ∙ at (task == q) refl
-  where
-    at : (b : Bool) → (task == q) ≡ b → unwrap_or (cond b left (old q)) 0 ≡ unwrap_or (old q) 0 - cond b 1 0
-    at true e = less ∙ ap (λ o. unwrap_or o 0 - 1) (sym had ∙ ap old (eqb-true task q e))
-    at false e = omega arith
-
--- no entry is 0 where the one that changes is not
-pub stay_positive : (task : ℕ) (left : Option ℕ) (old new : ℕ → Option ℕ) → left ≢ Some 0 → ((q : ℕ) → old q ≢ Some 0) → ((q : ℕ) → new q ≡ cond (task == q) left (old q)) → (q : ℕ) → new q ≢ Some 0
-stay_positive task left old new some all set q e = at (task == q) (sym (set q) ∙ e)
-  where
-    at : (b : Bool) → cond b left (old q) ≡ Some 0 → ⊥
-    at true e = some e
-    at false e = all q e
+pub tasks_once : (ts : List ℕ) (ms : List (List ℕ)) (tasks : List ℕ) → IsTable ts ms → ((q : ℕ) → length (numbers_under q ts ms) ≡ count_by (λ t. t == q) tasks) → length ts ≡ length (distinct tasks)
+tasks_once ts ms tasks is counts =
+    sym (once_rising ts is.rise) ∙ same_members ts tasks (λ q. known_some q ts ms is.each is.some ∙ ap (λ n. nat_lt 0 n) (counts q) ∙ sym (among_count q tasks))

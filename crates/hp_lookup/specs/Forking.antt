@@ -8,7 +8,6 @@ use Rattle.hp_model.specs.files.Mapping.{Mapping, is_map, is_of, map_for}
 use Rattle.hp_store.specs.Store.{Store, held_count, holders_of, page_at}
 use Rattle.hp_lookup.specs.Dropping.{HasHolders, at_node}
 use Rattle.hp_lookup.specs.Held.{in_map, in_place, more_in}
-use Rattle.hp_lookup.specs.Hints.{IsMore, Noted, has_key, is_noted_as}
 use Rattle.hp_lookup.specs.Numbered.{NumberedFile, numbered_at, page_in}
 
 -- how many copies a map has
@@ -108,19 +107,3 @@ maps_by task f = count_by (is_of task) f.maps
 
 abbrev pub maps_named : (task number : ℕ) → NumberedFile → ℕ
 maps_named task number f = count_by (is_map task number) f.maps
-
--- so many maps of a task were noted, and nothing else
-pub record IsNoted (task : ℕ) (old new : Noted) (maps : ℕ) (named : ℕ → ℕ) : Type 0 where
-  pub more : IsMore old new
-  pub room : old.room ≤ new.room + maps
-  pub noted : (number : ℕ) → has_key task number new ≡ false → named number ≡ 0
-  pub names : (name : List ℕ) → is_noted_as name old ≡ false → is_noted_as name new ≡ false
-  pub others : (other number : ℕ) → (other == task) ≡ false → has_key other number old ≡ false → has_key other number new ≡ false
-  pub only : (number : ℕ) → named number ≡ 0 → has_key task number old ≡ false → has_key task number new ≡ false
-
--- a task's maps of a file were noted, or those of files
-abbrev pub HasNoted : ℕ → NumberedFile → Noted → Noted → Type 0
-HasNoted task f old new = IsNoted task old new (maps_by task f) (λ number. maps_named task number f)
-
-abbrev pub HaveNoted : ℕ → List NumberedFile → Noted → Noted → Type 0
-HaveNoted task fs old new = IsNoted task old new (sum_by (maps_by task) fs) (λ number. sum_by (maps_named task number) fs)

@@ -1,13 +1,12 @@
 -- Maps that leave files with their pages by number. No public clause cites this module.
-use Rattle.std.specs.Prelude.{◌≡◌, ℕ, ◌+◌, ◌<◌, ◌≤◌, ◌||◌, ◌==◌, Bool, false, not, is_some, slice_set, min, Option, None, Some, List, length, map, if◌then◌else◌, nat_lt}
+use Rattle.std.specs.Prelude.{◌≡◌, ℕ, ◌+◌, ◌<◌, ◌≤◌, ◌||◌, ◌==◌, Bool, false, true, not, is_some, slice_set, min, Option, None, Some, List, [], length, map, if◌then◌else◌, nat_lt}
 use Rattle.std.specs.List.{count_by, filter, fold, remove, sum_by}
 use Rattle.hp_model.specs.files.Mapping.{Mapping, is_mapped, is_map, is_of, is_unconsumed, without_range}
 use Rattle.hp_model.specs.files.MountCounts.{is_waiting}
 use Rattle.hp_store.specs.Store.{Store}
 use Rattle.hp_lookup.specs.Dropping.{IsDropping}
 use Rattle.hp_lookup.specs.Held.{in_files, more_in}
-use Rattle.hp_lookup.specs.Hints.{IsMore, Noted, has_key, is_noted_as, is_pair}
-use Rattle.hp_lookup.specs.Forking.{maps_named}
+use Rattle.hp_lookup.specs.Hints.{IsMore, Noted, has_key, is_noted_as, is_pair, noted_numbers, tally_of}
 use Rattle.hp_lookup.specs.Numbered.{NumberedFile, mapping_at, numbered_at, with_truncated}
 
 -- the lesser of a task and one that is known, if any
@@ -71,31 +70,23 @@ left_at map a b f =
 abbrev pub swept_at : ℕ → List NumberedFile → List NumberedFile
 swept_at k fs = if is_used (numbered_at fs k) then fs else remove fs k
 
--- one where the map is the task's of that number
-abbrev pub one_if_named : ℕ → Mapping ℕ → ℕ → ℕ
-one_if_named task m number = if is_map task number m then 1 else 0
-
--- of what was noted only maps of one task are forgotten, and each whose number is counted is; or only one map is. Nothing is
--- noted, and there is no less room
-pub record IsMoreButTask (task : ℕ) (named : ℕ → ℕ) (old new : Noted) : Type 0 where
-  pub names : (name : List ℕ) → is_noted_as name new ≡ false → is_noted_as name old ≡ false
-  pub keys : (other number : ℕ) → (other == task) ≡ false → has_key other number new ≡ false → has_key other number old ≡ false
-  pub gone : (number : ℕ) → 0 < named number → has_key task number new ≡ false
-  pub less : IsMore new old
-  pub room : old.room ≤ new.room
+-- of what was noted the maps of one task are forgotten, or only one map is. Nothing is noted, and there is no less room
+pub record IsMoreButMapsOf (task : ℕ) (old new : Noted) : Type 0 where
+  pub names : (name : List ℕ) → is_noted_as name new ≡ is_noted_as name old
+  pub numbers : (t : ℕ) → noted_numbers t new ≡ (if task == t then [] else noted_numbers t old)
+  pub room : old.table.room ≤ new.table.room
 
 pub record IsMoreButMap (task number : ℕ) (old new : Noted) : Type 0 where
   pub names : (name : List ℕ) → is_noted_as name new ≡ false → is_noted_as name old ≡ false
   pub keys : (t n : ℕ) → is_pair t n (task, number) ≡ false → has_key t n new ≡ false → has_key t n old ≡ false
   pub gone : has_key task number new ≡ false
   pub less : IsMore new old
-  pub room : old.room ≤ new.room
+  pub tally : has_key task number old ≡ true → (q : ℕ) → tally_of new q + (if task == q then 1 else 0) ≡ tally_of old q
 
 -- all maps of a task left some files: so many maps and reservations went, and pages of which they were the last holders
-pub record HaveMapsLeft (task : ℕ) (files ended : List NumberedFile) (old new : Noted) (store now : Store) (more maps reserves : ℕ) : Type 0 where
+pub record HaveMapsLeft (task : ℕ) (files ended : List NumberedFile) (store now : Store) (more maps reserves : ℕ) : Type 0 where
   pub left : ended ≡ map (λ f. emptied (left_by task f)) files
   pub dropping : IsDropping (λ n. in_files n files) (λ n. in_files n ended) store now
   pub counted : more ≡ more_in now.pages
   pub waiting : reserves + sum_by file_owed ended ≡ sum_by file_owed files
   pub gone : maps + map_sum ended ≡ map_sum files
-  pub noted : IsMoreButTask task (λ number. sum_by (maps_named task number) files) old new

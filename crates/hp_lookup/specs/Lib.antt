@@ -3,7 +3,7 @@ pub mod Held
 pub mod Files
 pub mod Places
 pub mod Keyed
-pub mod Tally
+pub mod Table
 pub mod Hints
 pub mod Asking
 pub mod Dropping

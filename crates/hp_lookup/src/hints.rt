@@ -1,13 +1,17 @@
 //! What files and maps are found by.
-ghost use Rattle.std.specs.Prelude.{◌≡◌, ◌+◌, ◌<◌, ◌≤◌, false, slice_get, true, [], IfNone, IsOk, IsTrue, OnErr, OnOk, Some};
-ghost use Rattle.hp_lookup.specs.Hints.{AreSame, IsMoreBut, IsMoreByMap, IsMoreByName, has_key, is_noted_as};
-ghost use Rattle.hp_lookup.specs.Leaving.{IsMoreButMap};
+ghost use Rattle.std.specs.Prelude.{◌≡◌, ◌==◌, ◌<◌, ◌≤◌, ℕ, List, false, length, slice_get, true, [], IfNone, IfOk, IsTrue, OnErr, OnOk, Some};
+ghost use Rattle.std.specs.List.{count_by};
+ghost use Rattle.hp_model.specs.Lists.{distinct};
+ghost use Rattle.hp_lookup.specs.Hints.{AreSame, IsCopied, IsMoreBut, IsMoreByMap, IsMoreByName, has_key, is_noted_as, noted_numbers, tally_of};
+ghost use Rattle.hp_lookup.specs.Leaving.{IsMoreButMap, IsMoreButMapsOf};
 
 use crate::file_tag::FileTag;
+use crate::map_table::MapTable;
 use crate::map_tag::MapTag;
 use crate::name::FileName;
 use crate::name_query::NameQuery;
 use crate::tagged::Tagged;
+use crate::task_maps::TaskMaps;
 use indexmap::IndexMap;
 use std::alloc::{AllocError, Global};
 use std::cell::Cell;
@@ -16,25 +20,20 @@ use std::marker::Model;
 
 /// Where each file stood, with its tag, by its name, and each map by its task and number. What is found so is looked at, and
 /// never trusted; but what was never noted, or was forgotten, is not there, and what is gone is forgotten. Contracts see what
-/// is noted, and for how many maps more there is room.
+/// is noted, and for how many more tasks there is room.
 pub struct Hints {
     files: IndexMap<Tagged<FileName, FileTag>, ()>,
     // the place of the name that was found last: a name is looked for right before it is forgotten
     found: Cell<usize>,
-    maps: IndexMap<Tagged<(u64, u64), MapTag>, ()>,
+    maps: MapTable,
 }
 
 impl Model for Hints {
-    ghost use Rattle.indexmap.specs.IndexMap.{spare};
-    ghost use Rattle.hp_lookup.specs.Hints.{Noted, keys_of, names_of};
+    ghost use Rattle.hp_lookup.specs.Hints.{Noted, names_of};
 
     ghost Value = { Noted };
 
-    ghost view = { λ h. record {
-      names = names_of h.files.entries;
-      keys = keys_of h.maps.entries;
-      room = spare h.maps;
-    } };
+    ghost view = { λ h. record { names = names_of h.files.entries; table = h.maps } };
 }
 
 // What drops one calls this, and need not know what it holds.
@@ -59,12 +58,12 @@ impl Hints {
     /// Nothing is noted. Takes no memory.
     pub fn new(alloc: Global) -> Self
         ensures names { result.names ≡ [] }
-        ensures keys { result.keys ≡ [] }
+        ensures keys { (task : ℕ) → noted_numbers task result ≡ [] }
     {
         Hints {
             files: IndexMap::new(alloc),
             found: Cell::new(0),
-            maps: IndexMap::new(alloc),
+            maps: MapTable::new(alloc),
         }
     }
 
@@ -86,11 +85,37 @@ impl Hints {
     pub fn map(&self, task: u64, number: u64) -> Option<&Cell<MapTag>>
         ensures { IfNone result (has_key task number self.now ≡ false) }
     {
-        let key = Tagged::new((task, number), MapTag::NONE);
-        match self.maps.get_key_value(&key) {
-            Some((noted, _)) => Some(noted.tag()),
-            None => None,
-        }
+        self.maps.find(task, number)
+    }
+
+    /// How many maps a task has.
+    pub fn count(&self, task: u64) -> u64
+        ensures { result ≡ tally_of self.now task }
+    {
+        self.maps.count(task)
+    }
+
+    /// How many tasks have maps.
+    pub fn task_count(&self) -> usize
+        ensures { (tasks : List ℕ) → ((task : ℕ) → tally_of self.now task
+            ≡ count_by (λ t. t == task) tasks)
+            → result ≡ length (distinct tasks) }
+    {
+        self.maps.len()
+    }
+
+    /// The least number from 1 on that none of the task's maps has. It is found in some twelve steps.
+    pub fn least_unused(&self, task: u64) -> u64
+        ensures one { 1 ≤ result }
+        ensures used { (k : ℕ) → 1 ≤ k → k < result → has_key task k self.now ≡ true }
+        ensures free { has_key task result self.now ≡ false }
+    {
+        self.maps.least_unused(task)
+    }
+
+    /// The number of one of the task's maps, by its place among them.
+    pub fn nth(&self, task: u64, map: usize) -> Option<u64> {
+        self.maps.nth(task, map)
     }
 
     /// Notes a file's tag. Refused where memory is, and then nothing changes.
@@ -129,36 +154,50 @@ impl Hints {
         }
     }
 
-    /// Notes a map's tag. Refused where memory is, and then nothing changes but the room; never where there is room.
+    /// Notes a map's tag. Refused where memory is, and then nothing changes but the room.
     pub fn note_map(&mut self, task: u64, number: u64, tag: MapTag) -> Result<(), AllocError>
-        ensures more { IsMoreByMap task number self.old self.new }
-        ensures err { OnErr result (self.new ≡ record self.old { room = self.new.room }) }
-        ensures noted { OnOk result (has_key task number self.new ≡ true) }
-        ensures succeeds { 0 < self.old.room → IsOk result }
-        ensures room { self.old.room ≤ self.new.room + 1 }
+        requires { 1 ≤ number }
+        ensures ok { OnOk result (IsMoreByMap task number self.old self.new) }
+        ensures err { OnErr result (AreSame self.old self.new) }
     {
-        let key = Tagged::new((task, number), tag);
-        let Ok((at, _)) = self.maps.insert_full(key, ()) else {
-            return Err(AllocError);
-        };
-        set_tag(&self.maps, at, tag);
-        Ok(())
+        self.maps.note(task, number, tag)
     }
 
-    /// Forgets the task's map of that number.
+    /// Forgets the task's map of that number. No memory is asked for.
     pub fn forget_map(&mut self, task: u64, number: u64)
         ensures { IsMoreButMap task number self.old self.new }
     {
-        let key = Tagged::new((task, number), MapTag::NONE);
-        let _noted = self.maps.swap_remove(&key);
+        self.maps.forget(task, number);
     }
 
-    /// Makes room for so many maps more. Refused where memory is.
-    pub fn reserve(&mut self, maps: u64) -> Result<(), AllocError>
-        ensures same { AreSame self.old self.new }
-        ensures ok { OnOk result (maps ≤ self.new.room) }
+    /// Forgets the task's maps. No memory is asked for.
+    pub fn forget_maps_of(&mut self, task: u64)
+        ensures { IsMoreButMapsOf task self.old self.new }
     {
-        self.maps.reserve(maps as usize)?;
-        Ok(())
+        self.maps.forget_task(task);
+    }
+
+    /// The numbers and tags of a task's maps, for another task. Refused where memory is.
+    pub fn copy_of(&self, task: u64) -> Result<TaskMaps, AllocError>
+        ensures { IfOk result (λ copy. copy ≡ noted_numbers task self.now) }
+    {
+        self.maps.copy_of(task)
+    }
+
+    /// Makes room for a task more. Refused where memory is.
+    pub fn make_room(&mut self) -> Result<(), AllocError>
+        ensures same { AreSame self.old self.new }
+        ensures ok { OnOk result (0 < self.new.table.room) }
+    {
+        self.maps.make_room()
+    }
+
+    /// Notes the maps of a task that has none. It takes no memory: there is room.
+    pub fn put(&mut self, task: u64, maps: TaskMaps)
+        requires none { noted_numbers task self.old ≡ [] }
+        requires room { 0 < self.old.table.room }
+        ensures { IsCopied task maps self.old self.new }
+    {
+        self.maps.put(task, maps);
     }
 }

@@ -12,9 +12,6 @@ pub struct MapTag {
 }
 
 impl MapTag {
-    /// Tells nothing.
-    pub const NONE: MapTag = MapTag { file: 0, map: 0 };
-
     /// A map stands at a place; these are its file's tag and its own.
     pub fn new(at: MapPlace, file: u64, map: u64) -> Self {
         MapTag {

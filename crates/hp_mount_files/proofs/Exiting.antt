@@ -1,15 +1,16 @@
 use Rattle.std.proofs.lemmas.Grind.{common_steps}
 -- All maps of a task leave the files.
 use Rattle.std.proofs.Common.{◌≡◌, ℕ, ◌+◌, ◌-◌, ◌≤◌, ◌==◌, ◌||◌, ◌&&◌, nat_lt, Bool, true, false, not, cond, List, [], ◌∷◌, length, map, refl, sym, ap, ◌∙◌, arith, is_some, count_by, filter, sum_by}
-use Rattle.std.proofs.lemmas.Bool.{cases_lt, eqb-true}
+use Rattle.std.proofs.lemmas.Bool.{eqb-true}
 use Rattle.std.proofs.lemmas.Bool.Decides.{nat_tests}
 use Rattle.std.proofs.lemmas.List.{length-map}
 use Rattle.std.proofs.lemmas.List.Sums.{sum_by-cons}
 use Rattle.hp_laws.proofs.lists.Places.{sum_by-filter_le}
-use Rattle.hp_model.proofs.Words.{Map, Mapping, file_without, is_kept, is_map, is_of, map_punched}
+use Rattle.hp_model.proofs.Words.{Map, Mapping, file_without, is_among, is_kept, is_map, is_of, map_punched}
 use Rattle.hp_model.proofs.Counting.{count_cons, count_map}
 use Rattle.hp_store.specs.Store.{Store}
-use Rattle.hp_lookup.proofs.Words.{HaveMapsLeft, IsDropping, IsFiles, IsLeft, Label, Noted, NumberedFile, emptied, file_owed, file_shown, files_shown, has_key, in_file, in_files, in_map, is_key}
+use Rattle.hp_lookup.proofs.Words.{HaveMapsLeft, IsDropping, IsFiles, IsLeft, IsMoreButMapsOf, Label, Noted, NumberedFile, emptied, file_owed, file_shown, files_shown, has_key, in_file}
+use Rattle.hp_lookup.proofs.Words.{in_files, in_map, is_key}
 use Rattle.hp_lookup.proofs.Words.{is_used, key_of, keys_in, label_of, labels_of, left_by, map_shown, map_sum, maps_for, maps_named, with_truncated}
 use Rattle.hp_file.proofs.Cutting.{none_mapped}
 use Rattle.hp_file.proofs.Drops.{drop_as}
@@ -17,6 +18,7 @@ use Rattle.hp_file.proofs.FileLeaves.{empty_file, others}
 use Rattle.hp_lookup.proofs.Level.{filtered_level}
 use Rattle.hp_lookup.proofs.Leaving.{left_gives, left_keeps, left_noted, left_shows, keys_less}
 use Rattle.hp_lookup.proofs.Mapped.{sum_through}
+use Rattle.hp_lookup.proofs.Notes.{gone_less, gone_other, gone_own}
 use Rattle.hp_lookup.proofs.Tallies.{own_maps}
 use Rattle.hp_lookup.proofs.Views.{view}
 
@@ -136,8 +138,8 @@ maps_in gs = sum_through (λ (q : Label). length q.keys) label_of gs ∙ each gs
 
 -- ---- as code leaves the files: those that it went over, as it left them, and those that it kept
 
-module _ {n later : Noted} {s t : Store} {more now maps : ℕ} {tally : ℕ → ℕ} {fs ended kept : List NumberedFile} {task r k : ℕ}
-    (is : IsFiles n s more maps tally fs) (went : HaveMapsLeft task fs ended n later s t now k r) (kept_is : kept ≡ filter is_used ended) where
+module _ {n : Noted} {s t : Store} {more now maps : ℕ} {tally : ℕ → ℕ} {fs ended kept : List NumberedFile} {task r k : ℕ}
+    (is : IsFiles n s more maps tally fs) (went : HaveMapsLeft task fs ended s t now k r) (kept_is : kept ≡ filter is_used ended) where
   ended_is : ended ≡ map (λ f. emptied (left_by task f)) fs
   ended_is = went.left
 
@@ -214,10 +216,7 @@ module _ {n later : Noted} {s t : Store} {more now maps : ℕ} {tally : ℕ → 
   pub exit_keys : (q m : ℕ) → sum_by (keys_in q m) (labels_of kept) ≤ sum_by (keys_in q m) (labels_of fs)
   exit_keys q m = keys_less n s t more now maps tally fs kept is (left_by task) hs_is dropping went.counted (λ f. refl) less (λ f. refl) keys_same q m
 
-  -- the task's keys are noted no more, and the other tasks keep theirs
-  own_gone : (m : ℕ) → has_key task m later ≡ false
-  own_gone m = grind (arith, common_steps, named_labelled, cases_lt)
-
+  -- the other tasks keep theirs
   keys_kept : (q m : ℕ) → (q == task) ≡ false → sum_by (keys_in q m) (labels_of kept) ≡ sum_by (keys_in q m) (labels_of fs)
   keys_kept q m apart =
       named_labelled q m kept ∙ sym (sum_kept (maps_named q m) (λ f out. ap (maps_named q m) (empty_file f out).1)) ∙ ap (sum_by (maps_named q m)) ended_is ∙ each fs
@@ -235,21 +234,25 @@ module _ {n later : Noted} {s t : Store} {more now maps : ℕ} {tally : ℕ → 
       each (f ∷ fs) = (let here = one f in let rest = each fs in
           omega (arith, here, rest, sum_by-cons (maps_named q m) (emptied (left_by task f)) (map (λ f. emptied (left_by task f)) fs), sum_by-cons (maps_named q m) f fs))
 
-  pub exit_keeps : (left : ℕ) (next : ℕ → ℕ) → left ≡ maps - k → ((q : ℕ) → next q ≡ cond (task == q) 0 (tally q)) → IsFiles later t now left next kept
-  exit_keeps left next left_is next_is =
+  pub exit_keeps : {later : Noted} → IsMoreButMapsOf task n later → (left : ℕ) (next : ℕ → ℕ) → left ≡ maps - k → ((q : ℕ) → next q ≡ cond (task == q) 0 (tally q)) → IsFiles later t now left next kept
+  exit_keeps {later} gone left next left_is next_is =
       left_keeps n s t more now maps tally fs kept is (left_by task) hs_is dropping went.counted (λ f. refl) less (λ f. refl) keys_same
       (λ f. filtered_level (λ m. not (is_of task m)) f.maps) later left next
-      (left_noted n s t more now maps tally fs kept is (left_by task) hs_is dropping went.counted (λ f. refl) less (λ f. refl) keys_same later went.noted.names (λ q m e. at q m e (q == task) refl)
-      went.noted.less (λ q m e. only q m e (q == task) refl))
+      (left_noted n s t more now maps tally fs kept is (left_by task) hs_is dropping went.counted (λ f. refl) less (λ f. refl) keys_same
+      later (λ name e. sym (gone.names name) ∙ e) (λ q m e. at q m e (task == q) refl)
+      (gone_less task n later gone) (λ q m e. only q m e (task == q) refl))
       (left_is ∙ maps_left) (λ q. next_is q ∙ sym (tally_left q))
     where
-      only : (q m : ℕ) → sum_by (keys_in q m) (labels_of kept) ≡ 0 → (b : Bool) → (q == task) ≡ b → has_key q m later ≡ false
-      only q m e true same = ap (λ i. has_key i m later) (eqb-true q task same) ∙ own_gone m
-      only q m e false apart = went.noted.less.keys q m (is.noted.no_key q m (sym (keys_kept q m apart) ∙ e))
+      apart : (q : ℕ) → (task == q) ≡ false → (q == task) ≡ false
+      apart q e = grind (arith, nat_tests, e)
 
-      at : (q m : ℕ) → has_key q m later ≡ false → (b : Bool) → (q == task) ≡ b → sum_by (keys_in q m) (labels_of kept) ≡ 0
-      at q m e true same = ap (λ i. sum_by (keys_in i m) (labels_of kept)) (eqb-true q task same) ∙ keys_gone m
-      at q m e false apart =
+      only : (q m : ℕ) → sum_by (keys_in q m) (labels_of kept) ≡ 0 → (b : Bool) → (task == q) ≡ b → has_key q m later ≡ false
+      only q m e true same = ap (λ i. has_key i m later) (sym (eqb-true task q same)) ∙ gone_own task n later gone m
+      only q m e false other = (gone_less task n later gone).keys q m (is.noted.no_key q m (sym (keys_kept q m (apart q other)) ∙ e))
+
+      at : (q m : ℕ) → has_key q m later ≡ false → (b : Bool) → (task == q) ≡ b → sum_by (keys_in q m) (labels_of kept) ≡ 0
+      at q m e true same = ap (λ i. sum_by (keys_in i m) (labels_of kept)) (sym (eqb-true task q same)) ∙ keys_gone m
+      at q m e false other =
           let few = keys_less n s t more now maps tally fs kept is (left_by task) hs_is dropping went.counted (λ f. refl) less (λ f. refl) keys_same q m in
-          let none = is.noted.keys q m (went.noted.keys q m apart e) in
+          let none = is.noted.keys q m (sym (ap (is_among m) (gone_other task n later gone q other)) ∙ e) in
           omega (arith, few, none)

@@ -266,7 +266,7 @@ module _ (parent child : ℕ) (apart : (parent == child) ≡ false) where
       keys_more : (t q : ℕ) (f : NumberedFile) → keys_in t q (label_of (more_of f)) ≡ keys_in t q (label_of f) + count_by (is_map t q) (kids f.maps)
       keys_more t q f = grind (arith, common_steps, keys_are, sum_by-append)
 
-      keys_child : (q : ℕ) → sum_by (keys_in child q) (labels_of (all_of fs)) ≡ sum_by (keys_in parent q) (labels_of fs)
+      pub keys_child : (q : ℕ) → sum_by (keys_in child q) (labels_of (all_of fs)) ≡ sum_by (keys_in parent q) (labels_of fs)
       keys_child q = (let all = each fs in let none = gone q in omega (arith, all, none))
         where
           each : (fs : List NumberedFile) → sum_by (keys_in child q) (labels_of (all_of fs)) ≡ sum_by (keys_in child q) (labels_of fs) + sum_by (keys_in parent q) (labels_of fs)

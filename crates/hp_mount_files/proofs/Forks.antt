@@ -1,24 +1,26 @@
 use Rattle.std.proofs.lemmas.Grind.{common_steps}
 -- A fork as code leaves the files: maps of the child's number gone, and then the child's maps behind their parent's.
 use Rattle.std.proofs.Common.{◌≡◌, ℕ, suc, ◌+◌, ◌-◌, ◌<◌, ◌≤◌, ◌^◌, ◌==◌, ◌||◌, nat_lt, Bool, true, false, not, cond, None, max, replicate, List, [], ◌∷◌, ◌++◌, length, map, refl, sym, ap, subst, ◌∙◌}
-use Rattle.std.proofs.Common.{arith, is_some, All, count_by, filter, sum_by}
+use Rattle.std.proofs.Common.{arith, is_some, All, filter, sum_by}
 use Rattle.std.specs.Global.{Vec}
 use Rattle.std.proofs.lemmas.Bool.Decides.{nat_tests}
 use Rattle.std.proofs.lemmas.List.{append-nil, length-map}
 use Rattle.std.proofs.lemmas.List.Sums.{length-filter, sum_by-cons}
-use Rattle.hp_model.proofs.Words.{File, Map, Mapping, file_forked, file_without, is_kept, is_map, is_of, map_for, map_punched}
+use Rattle.hp_model.proofs.Words.{File, Map, Mapping, file_forked, file_without, is_among, is_kept, is_of, map_for, map_punched}
 use Rattle.hp_model.proofs.Counting.{count_not}
 use Rattle.hp_store.specs.Store.{Store, held_count, page_at}
-use Rattle.hp_lookup.proofs.Words.{AreReady, AreSame, Files, HaveJoined, HaveMapsLeft, HaveNoted, HaveRoom, IsFiles, IsKeyed, IsLeft, IsSharing, Label, Noted, NumberedFile, all_maps, children_of}
-use Rattle.hp_lookup.proofs.Words.{count_at, emptied, files_shown, in_list, in_lists, in_map, is_listed, is_used, joined, keys_in, label_of, labels_of, left_by, list_copies, map_sum, maps_by}
-use Rattle.hp_lookup.proofs.Words.{maps_for, maps_named, with_children, with_truncated}
+use Rattle.hp_lookup.proofs.Words.{AreReady, AreSame, Files, HaveJoined, HaveMapsLeft, HaveRoom, IsCopied, IsFiles, IsKeyed, IsLeft, IsMoreButMapsOf, IsSharing, Label, Noted, NumberedFile}
+use Rattle.hp_lookup.proofs.Words.{all_maps, children_of}
+use Rattle.hp_lookup.proofs.Words.{count_at, emptied, files_shown, has_key, in_list, in_lists, in_map, is_listed, is_used, joined, keys_in, label_of, labels_of, left_by, list_copies, map_sum, maps_by}
+use Rattle.hp_lookup.proofs.Words.{noted_numbers, tally_of, with_children, with_truncated}
 use Rattle.hp_file.specs.HeldPages.{AreHeld}
 use Rattle.hp_file.proofs.Entering.{room_keeps, room_view}
-use Rattle.hp_mount_files.proofs.Exiting.{exit_files, exit_keeps, exit_keys, exit_left, keys_gone, named_labelled}
+use Rattle.hp_mount_files.proofs.Exiting.{exit_files, exit_keeps, exit_keys, exit_left, keys_gone}
 use Rattle.hp_file.proofs.FileLeaves.{empty_file}
-use Rattle.hp_mount_files.proofs.Forked.{few_kids, fork_held, fork_keeps, fork_keyed, fork_shows, in_kids, owed_same, tally_more}
+use Rattle.hp_mount_files.proofs.Forked.{few_kids, fork_held, fork_keeps, fork_keyed, fork_shows, in_kids, keys_child, owed_same}
 use Rattle.hp_file.proofs.Joining.{none_joined}
 use Rattle.hp_lookup.proofs.Keys.{noted_same}
+use Rattle.hp_lookup.proofs.Notes.{gone_other}
 use Rattle.hp_lookup.proofs.Leaving.{files_owe, used_label, used_sum}
 use Rattle.hp_file.proofs.Sharing.{share_as}
 use Rattle.hp_lookup.proofs.Stored.{stored_at, stored_pages}
@@ -27,10 +29,6 @@ use Rattle.hp_lookup.proofs.Unique.{maps_counted}
 use Rattle.hp_lookup.proofs.Views.{view}
 
 -- ---- files that are used
-
--- the maps of a task are those of files that are used
-used_maps : (task : ℕ) (fs : List NumberedFile) → sum_by (maps_by task) (filter is_used fs) ≡ sum_by (maps_by task) fs
-used_maps task = used_sum (maps_by task) (λ f out. ap (count_by (is_of task)) (empty_file f out).0)
 
 used_still : (fs : List NumberedFile) → All (λ (l : Label). is_listed l ≡ true) (labels_of fs) → filter is_used fs ≡ fs
 used_still [] all = refl
@@ -234,11 +232,24 @@ set_out {parent} {child} {held} {all} {maps} {v} {old} {n} {s} {t} {more} {tally
           ∙ ap (λ (x : Files). record x { room = held }) view_is;
     }
 
+-- ---- the child's numbers are its parent's
+
+pub keys_copied : {first n : Noted} {copy : List ℕ} (parent : ℕ) → AreSame first n → copy ≡ noted_numbers parent first → (q : ℕ) → is_among q copy ≡ has_key parent q n
+keys_copied parent same copy_is q = ap (is_among q) copy_is ∙ sym (same.keys parent q)
+
+pub counts_copied : {first n dropped table : Noted} {copy : List ℕ} (parent child : ℕ) → AreSame first n → IsMoreButMapsOf child n dropped
+    → IsCopied child copy dropped table → copy ≡ noted_numbers parent first → (q : ℕ) → tally_of table q ≡ cond (child == q) (tally_of first parent) (tally_of first q)
+counts_copied {first} {n} {dropped} {table} {copy} parent child same gone copied copy_is q = ap length (copied.maps q) ∙ by (child == q) refl
+  where
+    by : (b : Bool) → (child == q) ≡ b → length (cond b copy (noted_numbers q dropped)) ≡ cond b (tally_of first parent) (tally_of first q)
+    by true own = ap length copy_is
+    by false other = ap length (gone_other child n dropped gone q other) ∙ same.tally q
+
 -- ---- the maps of the child's number are gone
 
 module _ {n dropped : Noted} {s t : Store} {more now maps held : ℕ} {tally : ℕ → ℕ} {fs ended : List NumberedFile} {parent child r k : ℕ}
     {lists : List (Vec (Mapping ℕ))} {v : Files} (set : IsSet parent child held v n s more maps tally fs lists)
-    (apart : (parent == child) ≡ false) (went : HaveMapsLeft child fs ended n dropped s t now k r) where
+    (apart : (parent == child) ≡ false) (went : HaveMapsLeft child fs ended s t now k r) (gone : IsMoreButMapsOf child n dropped) where
   ended_is : ended ≡ map (λ f. emptied (left_by child f)) fs
   ended_is = went.left
 
@@ -246,7 +257,7 @@ module _ {n dropped : Noted} {s t : Store} {more now maps held : ℕ} {tally : �
   K = filter is_used ended
 
   left : IsFiles dropped t now (maps - k) (λ q. cond (child == q) 0 (tally q)) K
-  left = exit_keeps set.is went refl (maps - k) (λ q. cond (child == q) 0 (tally q)) refl (λ q. refl)
+  left = exit_keeps set.is went refl gone (maps - k) (λ q. cond (child == q) 0 (tally q)) refl (λ q. refl)
 
   ready_now : AreReady parent child ended lists
   ready_now = subst (λ gs. AreReady parent child gs lists) (sym ended_is) (ready_ended parent child apart fs lists set.ready)
@@ -272,23 +283,6 @@ module _ {n dropped : Noted} {s t : Store} {more now maps held : ℕ} {tally : �
 
   other_task : (child == parent) ≡ false
   other_task = grind (arith, nat_tests, apart)
-
-  none_left : sum_by (maps_for child) (labels_of K) ≡ 0
-  none_left = sym (left.keyed.tallied child) ∙ ap (λ b. cond b 0 (tally child)) own_task
-
-  pub join_none : sum_by (maps_by child) ended ≡ 0
-  join_none = sym (used_maps child ended) ∙ sym (maps_labelled child K) ∙ none_left
-
-  -- the child gets as many as its parent has
-  pub join_keys : sum_by (maps_by child) (joined ended lists) ≡ tally parent
-  join_keys =
-      let hs : List NumberedFile = map (λ f. with_children parent child f) K in
-      let all : filter is_used (joined ended lists) ≡ hs = ap (filter is_used) (ready_joined parent child apart ended lists ready_now) ∙ used_all parent child apart ended in
-      let labelled = sym (used_maps child (joined ended lists)) ∙ ap (sum_by (maps_by child)) all ∙ sym (maps_labelled child hs) in
-      let came = tally_more parent child apart child K ∙ ap (λ b. sum_by (maps_for child) (labels_of K) + cond b (sum_by (maps_for parent) (labels_of K)) 0) own_task in
-      let its = sym (left.keyed.tallied parent) ∙ ap (λ b. cond b 0 (tally parent)) other_task in
-      let none = none_left in
-      omega (arith, labelled, came, its, none)
 
   module _ {joint : List NumberedFile} {u : Store} {more2 : ℕ} (came : HaveJoined lists ended joint t u now more2) where
     joint_all : joint ≡ map (λ f. with_children parent child f) ended
@@ -347,9 +341,6 @@ module _ {n dropped : Noted} {s t : Store} {more now maps held : ℕ} {tally : �
     fewer : (q m : ℕ) → sum_by (keys_in q m) (labels_of K) ≤ sum_by (keys_in q m) (labels_of fs)
     fewer q m = exit_keys set.is went refl q m
 
-    named_kept : (q : ℕ) → sum_by (maps_named child q) kept ≡ sum_by (maps_named child q) joint
-    named_kept q = ap (sum_by (maps_named child q)) kept_is ∙ used_sum (maps_named child q) (λ f out. ap (count_by (is_map child q)) (empty_file f out).0) joint
-
     module _ (next : ℕ → ℕ) (next_is : (q : ℕ) → next q ≡ cond (child == q) (tally parent) (tally q)) where
       keyed_all : IsKeyed (maps - k + tally parent) next (labels_of (map (λ f. with_children parent child f) K))
       keyed_all =
@@ -361,19 +352,32 @@ module _ {n dropped : Noted} {s t : Store} {more now maps held : ℕ} {tally : �
           at q true = (let own = ap (λ b. cond b 0 (tally parent)) other_task in omega (arith, own))
           at q false = omega arith
 
-      child_keys : (q : ℕ) → sum_by (keys_in child q) (labels_of (map (λ f. with_children parent child f) K)) ≡ sum_by (maps_named child q) joint
-      child_keys q = ap (λ gs. sum_by (keys_in child q) (labels_of gs)) (sym kept_all) ∙ named_labelled child q kept ∙ named_kept q
+      its_keys : (q : ℕ) → sum_by (keys_in child q) (labels_of (map (λ f. with_children parent child f) K)) ≡ sum_by (keys_in parent q) (labels_of K)
+      its_keys q = keys_child parent child apart dropped t u now more2 (maps - k) (λ q. cond (child == q) 0 (tally q)) K left sharing came.counted parts gone_keys q
 
-      pub forked_keeps : (table : Noted) → HaveNoted child joint dropped table → IsFiles table u more2 (maps - k + tally parent) next kept
-      forked_keeps table noted =
+      far : (q : ℕ) → (q == child) ≡ false → (child == q) ≡ false
+      far q e = grind (arith, nat_tests, e)
+
+      -- the child has the numbers that its parent had
+      pub forked_keeps : {copy : List ℕ} {table : Noted} → IsCopied child copy dropped table → ((q : ℕ) → is_among q copy ≡ has_key parent q n)
+          → IsFiles table u more2 (maps - k + tally parent) next kept
+      forked_keeps {copy} {table} copied known =
           subst (IsFiles table u more2 (maps - k + tally parent) next) (sym kept_all)
           (fork_keeps parent child apart dropped t u now more2 (maps - k) (λ q. cond (child == q) 0 (tally q)) K left sharing came.counted parts gone_keys
-          table noted.more.names
-          (λ q m other e. (let none = set.is.noted.keys q m (went.noted.keys q m other (noted.more.keys q m e)) in let less = fewer q m in omega (arith, none, less)))
-          (λ q e. child_keys q ∙ noted.noted q e) noted.names
-          (λ q m other none. noted.others q m other (left.noted.no_key q m none))
-          (λ q none. noted.only q (sym (child_keys q) ∙ none) (left.noted.no_key child q (gone_keys q)))
+          table (λ name e. sym (copied.names name) ∙ e)
+          (λ q m other e. (let none = set.is.noted.keys q m (sym (ap (is_among m) (gone_other child n dropped gone q (far q other))) ∙ sym (ap (is_among m) (others q (far q other))) ∙ e) in
+          let less = fewer q m in omega (arith, none, less)))
+          (λ q e. (let none = set.is.noted.keys parent q (sym (known q) ∙ sym (ap (is_among q) own) ∙ e) in let less = fewer parent q in let all = its_keys q in omega (arith, none, less, all)))
+          (λ name e. copied.names name ∙ e)
+          (λ q m other none. ap (is_among m) (others q (far q other)) ∙ left.noted.no_key q m none)
+          (λ q none. ap (is_among q) own ∙ known q ∙ sym (ap (is_among q) (gone_other child n dropped gone parent other_task)) ∙ left.noted.no_key parent q (sym (its_keys q) ∙ none))
           (maps - k + tally parent) next keyed_all)
+        where
+          others : (q : ℕ) → (child == q) ≡ false → noted_numbers q table ≡ noted_numbers q dropped
+          others q e = copied.maps q ∙ ap (λ b. cond b copy (noted_numbers q dropped)) e
+
+          own : noted_numbers child table ≡ copy
+          own = copied.maps child ∙ ap (λ b. cond b copy (noted_numbers child dropped)) own_task
 
     abbrev next_tally : ℕ → ℕ
     next_tally q = cond (child == q) (tally parent) (tally q)

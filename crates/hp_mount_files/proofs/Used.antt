@@ -1,19 +1,20 @@
 -- The least number that is not used, and which numbers a task's maps have.
-use Rattle.std.proofs.Common.{◌≡◌, ℕ, ◌+◌, ◌-◌, ◌<◌, ◌≤◌, ◌==◌, ◌&&◌, ◌||◌, ⊎_elim, subst, Bool, true, false, not, cond, Option, None, Some, List, [], ◌∷◌, ◌++◌, length, map, refl, sym, ap, ◌∙◌}
-use Rattle.std.proofs.Common.{arith, is_some, IfNone, IfSome, filter, option_map}
+use Rattle.std.proofs.Common.{◌≡◌, ℕ, ◌+◌, ◌-◌, ◌<◌, ◌≤◌, ◌==◌, ◌&&◌, ◌||◌, Bool, true, false, not, cond, Option, None, Some, List, [], ◌∷◌, ◌++◌, length, map, refl, sym, ap, ◌∙◌}
+use Rattle.std.proofs.Common.{arith, is_some, filter, option_map, true≢false}
 use Rattle.std.specs.List.{list_any, position_or_len, range_with_len}
-use Rattle.std.proofs.lemmas.Bool.{cases_lt}
 use Rattle.std.proofs.lemmas.List.{map-append}
 use Rattle.std.proofs.lemmas.List.Elements.{filter-append}
 use Rattle.std.proofs.lemmas.List.FromFn.{get_or-range_with_len, length-range_with_len}
 use Rattle.std.proofs.lemmas.List.Sums.{position_or_len_is}
 use Rattle.hp_laws.proofs.Variants.{Limits}
-use Rattle.hp_model.proofs.Words.{File, Map, distinct, found, is_among, is_map, is_of, least_unused, numbers_of, one_on, spot, spot_in}
+use Rattle.hp_model.proofs.Words.{File, Map, found, is_among, is_map, is_of, least_unused, numbers_of, one_on, spot, spot_in}
 use Rattle.hp_model.proofs.Counting.{count_not, count_outside}
 use Rattle.hp_model.proofs.Distinct.{is_among-append}
-use Rattle.hp_lookup.specs.declared.map_place.MapPlace.{MapPlace}
-use Rattle.hp_lookup.proofs.Words.{IsFound, IsMissing, all_maps, has_it, mount_with}
-use Rattle.hp_lookup.proofs.MapNumbers.{among_distinct, few_among}
+use Rattle.hp_store.specs.Store.{Store}
+use Rattle.hp_lookup.proofs.Words.{IsFiles, IsFound, IsMissing, Noted, NumberedFile, all_maps, files_shown, has_it, has_key, mount_with}
+use Rattle.hp_lookup.proofs.MapNumbers.{few_among, numbers_shown}
+use Rattle.hp_lookup.proofs.NewKey.{none_in_files}
+use Rattle.hp_lookup.proofs.Unique.{no_map_here}
 
 -- ---- the numbers below n are used
 
@@ -38,23 +39,6 @@ module _ (xs : List ℕ) (n : ℕ) (one : 1 ≤ n) (used : (k : ℕ) → 1 ≤ k
       (λ k l. ap (λ m. not (is_among m xs)) (at k (1 + k) (omega (arith, l, most, one)) refl) ∙ ap not (used (1 + k) (omega arith) (omega (arith, l, one))))
       (λ l. ap (λ m. not (is_among m xs)) (at i n (omega (arith, l, len)) (omega (arith, one))) ∙ ap not free) in
       omega (arith, place, one)
-
-numbers_few : (task : ℕ) (ms : List Map) → length (numbers_of task ms) ≤ length ms
-numbers_few task [] = omega arith
-numbers_few task (m ∷ ms) = at (m.task == task) (numbers_few task ms)
-  where
-    at : (b : Bool) → length (numbers_of task ms) ≤ length ms → length (map (λ (x : Map). x.number) (cond b (m ∷ filter (is_of task) ms) (filter (is_of task) ms))) ≤ length (m ∷ ms)
-    at true rest = omega (arith, rest)
-    at false rest = omega (arith, rest)
-
--- the search of a number goes on past a used one, and ends
-pub used_next : (task n : ℕ) (ms : List Map) → length ms < 4096 → 1 ≤ n → ((k : ℕ) → 1 ≤ k → k < n → is_among k (numbers_of task ms) ≡ true) → is_among n (numbers_of task ms) ≡ true
-    → (1 ≤ n + 1) × (n + 1 ≤ 4097) × ((k : ℕ) → 1 ≤ k → k < n + 1 → is_among k (numbers_of task ms) ≡ true)
-used_next task n ms few one used here =
-    let more : (k : ℕ) → 1 ≤ k → k < n + 1 → is_among k (numbers_of task ms) ≡ true = λ k low high.
-    ⊎_elim (used k low) (λ (past : n ≤ k). (let same : n ≡ k = omega (arith, past, high) in subst (λ q. is_among q (numbers_of task ms) ≡ true) same here)) (cases_lt k n) in
-    let most = used_few (numbers_of task ms) (n + 1) (omega arith) more in
-    (omega arith, omega (arith, most, few, numbers_few task ms), more)
 
 -- ---- a task's map of a number
 
@@ -119,31 +103,31 @@ used_if_found fs task number limits = by_found (found (has_it task number) fs) r
 no_limits : Limits
 no_limits = record { max = None; min = 0; inodes = None }
 
-pub used_is : (fs : List File) (task number : ℕ) (r : Option MapPlace) → IfSome r (λ at. IsFound fs task number at.file at.map) →
-    IfNone r (IsMissing fs task number) → is_some r ≡ is_among number (numbers_of task (all_maps fs))
-used_is fs task number None found missing = sym (ap is_some (missing no_limits)) ∙ used_if_found fs task number no_limits
-used_is fs task number (Some at) found missing = sym (ap is_some (found.is no_limits)) ∙ used_if_found fs task number no_limits
+-- ---- as the table of tasks tells
 
--- ---- the tasks that have maps
+module _ (n : Noted) (s : Store) (more maps : ℕ) (tally : ℕ → ℕ) (fs : List NumberedFile) (is : IsFiles n s more maps tally fs) (task number : ℕ) where
+  abbrev used : Bool
+  used = is_among number (numbers_of task (all_maps (files_shown s fs)))
 
--- a task with a number has a map
-pub task_of_number : (task number : ℕ) (ms : List Map) → is_among number (numbers_of task ms) ≡ true → is_among task (map (λ x. x.task) ms) ≡ true
-task_of_number task number [] e = cc
-task_of_number task number (m ∷ ms) e = at (m.task == task) (task_of_number task number ms) e
-  where
-    at : (b : Bool) → (is_among number (numbers_of task ms) ≡ true → is_among task (map (λ x. x.task) ms) ≡ true)
-        → is_among number (map (λ (x : Map). x.number) (cond b (m ∷ filter (is_of task) ms) (filter (is_of task) ms))) ≡ true → (b || is_among task (map (λ x. x.task) ms)) ≡ true
-    at true rest e = refl
-    at false rest e = rest e
+  missing : has_key task number n ≡ false → IsMissing (files_shown s fs) task number
+  missing none = no_map_here s maps tally fs is.keyed task number (is.noted.keys task number none)
 
--- a task without maps gets the first number
-pub first_number : (task : ℕ) (ms : List Map) → is_among task (distinct (map (λ x. x.task) ms)) ≡ false → 1 ≡ least_unused (numbers_of task ms)
-first_number task ms none =
-    least_is (numbers_of task ms) 1 (omega arith) (λ k low high. absurd (omega (arith, low, high))) (by (is_among 1 (numbers_of task ms)) refl)
-  where
-    clash : true ≡ false → ⊥
-    clash e = cc
+  pub key_free : has_key task number n ≡ false → used ≡ false
+  key_free none = sym (used_if_found (files_shown s fs) task number no_limits) ∙ ap is_some (missing none no_limits)
 
-    by : (b : Bool) → is_among 1 (numbers_of task ms) ≡ b → is_among 1 (numbers_of task ms) ≡ false
-    by true e = absurd (clash (sym (among_distinct task (map (λ x. x.task) ms) ∙ task_of_number task 1 ms e) ∙ none))
-    by false e = e
+  pub key_fresh : used ≡ false → has_key task number n ≡ false
+  key_fresh free = is.noted.no_key task number (none_in_files task number fs (ap (is_among number) (numbers_shown s task fs) ∙ free))
+
+  pub key_used : has_key task number n ≡ true → used ≡ true
+  key_used known = by used refl
+    where
+      by : (b : Bool) → used ≡ b → b ≡ true
+      by true e = refl
+      by false e = absurd (true≢false (sym known ∙ key_fresh e))
+
+  pub key_found : (file map : ℕ) → IsFound (files_shown s fs) task number file map → has_key task number n ≡ true
+  key_found file map found = by (has_key task number n) refl
+    where
+      by : (b : Bool) → has_key task number n ≡ b → b ≡ true
+      by true e = refl
+      by false e = absurd (true≢false (ap is_some (sym (found.is no_limits) ∙ missing e no_limits)))

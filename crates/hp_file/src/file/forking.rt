@@ -1,6 +1,6 @@
 //! A child's maps of a file.
 ghost use Rattle.std.specs.Prelude.{◌≡◌, ◌++◌, ◌^◌, ◌+◌, ◌≤◌, ℕ, length, vec_capacity, IfOk};
-ghost use Rattle.hp_lookup.specs.Forking.{HasNoted, IsReady, in_list, list_copies, maps_by, with_list};
+ghost use Rattle.hp_lookup.specs.Forking.{IsReady, in_list, list_copies, with_list};
 ghost use Rattle.hp_file.specs.HeldPages.{AreHeld, AreShared};
 
 use super::File;
@@ -41,20 +41,18 @@ impl File {
         self.maps = list;
     }
 
-    /// The file stands at a place: notes where a task's maps stand, and their tags. There is room for them. Takes a step for
-    /// each map.
-    pub fn note_maps(&self, task: u64, file: FileTag, hints: &mut Hints)
-        requires { maps_by task self.now ≤ hints.old.room }
-        ensures { HasNoted task self.now hints.old hints.new }
-    {
+    /// The file stands at a place: notes where the maps of a task stand that has been put among the hints, and their tags. Takes a
+    /// step for each map.
+    pub fn note_maps(&self, task: u64, file: FileTag, hints: &Hints) {
         for (map, mapping) in self.maps.iter().enumerate() {
             if mapping.task() == task {
                 let at = MapPlace {
                     file: file.at(),
                     map,
                 };
-                let tag = MapTag::new(at, file.tag(), mapping.tag());
-                hints.note_map(task, mapping.number(), tag).unwrap();
+                if let Some(noted) = hints.map(task, mapping.number()) {
+                    noted.set(MapTag::new(at, file.tag(), mapping.tag()));
+                }
             }
         }
     }

@@ -3,15 +3,14 @@ ghost use Rattle.std.specs.Prelude.{◌≡◌, ◌^◌, ◌+◌, ◌<◌, ◌≤
 ghost use Rattle.std.specs.List.{remove};
 ghost use Rattle.hp_model.specs.files.Mapping.{is_mapped, without_range};
 ghost use Rattle.hp_file.specs.HeldPages.{AreDropped, AreHeld};
-ghost use Rattle.hp_lookup.specs.Forking.{maps_named};
 ghost use Rattle.hp_lookup.specs.Held.{in_file};
 ghost use Rattle.hp_lookup.specs.Numbered.{mapping_at};
-ghost use Rattle.hp_lookup.specs.Leaving.{IsMoreButTask, cut_at, emptied, file_owed, is_used, least_among, lesser_task, left_at, left_by};
+ghost use Rattle.hp_lookup.specs.Leaving.{cut_at, emptied, file_owed, is_used, least_among, lesser_task, left_at, left_by};
 
 use super::File;
 use crate::dropping::{drop_map, end_maps_of, leave_range};
 use crate::held_pages::HeldPages;
-use hp_lookup::{Departed, Hints};
+use hp_lookup::Departed;
 use hp_model::naming::Naming;
 
 // The lesser of a task and one that is known, if any.
@@ -45,12 +44,7 @@ impl File {
     }
 
     /// All maps of a task go, with what they hold. A file that is left without name and maps loses its pages and entries.
-    pub fn drop_maps_of<N: Naming>(
-        &mut self,
-        task: u64,
-        hints: &mut Hints,
-        pages: &mut HeldPages<N>,
-    ) -> Departed
+    pub fn drop_maps_of<N: Naming>(&mut self, task: u64, pages: &mut HeldPages<N>) -> Departed
         requires held { AreHeld (λ n. in_file n self.old) pages.old }
         requires few { file_owed self.old < 2 ^ 64 }
         ensures file { self.new ≡ emptied (left_by task self.old) }
@@ -58,12 +52,10 @@ impl File {
             (λ n. in_file n self.new) pages.old pages.new }
         ensures reserves { result.reserves + file_owed self.new ≡ file_owed self.old }
         ensures maps { result.maps + length self.new.maps ≡ length self.old.maps }
-        ensures hints { IsMoreButTask task (λ number. maps_named task number self.old) hints.old
-            hints.new }
     {
         let list = &mut self.maps;
         let before = list.len();
-        let reserves = end_maps_of(task, list, hints, pages);
+        let reserves = end_maps_of(task, list, pages);
         list.retain(|m| m.task() != task);
         let maps = (before - list.len()) as u64;
         if self.is_used() {

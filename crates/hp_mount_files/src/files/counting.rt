@@ -2,13 +2,10 @@
 ghost use Rattle.std.specs.Prelude.{◌≡◌, not, ◌<◌, ◌≤◌, length, IfOk};
 ghost use Rattle.hp_lookup.specs.Asking.{is_first_of, next_of};
 ghost use Rattle.std.specs.List.{All, filter_map};
-ghost use Rattle.hp_model.specs.Lists.{is_among};
-ghost use Rattle.hp_model.specs.files.MakeMap.{numbers_of};
 ghost use Rattle.hp_model.specs.Profile.{most_maps, most_name_bytes};
 ghost use Rattle.hp_lookup.specs.Places.{all_maps, all_tasks};
 
 use super::Files;
-use crate::lookup::Lookup;
 use hp_lookup::NextMap;
 use hp_model::bytes::Bytes;
 use hp_model::names::Names;
@@ -34,51 +31,26 @@ impl<N: Naming> Files<N> {
     pub fn task_count(&self) -> u64
         ensures { result ≡ length (all_tasks self.now.files) }
     {
-        self.counts.len() as u64
+        self.hints.task_count() as u64
     }
 
     /// Whether the task has a map.
     pub fn has_maps(&self, task: u64) -> bool
         ensures { result ≡ not (is_first_of task self.now.files) }
     {
-        self.counts.count(task) > 0
+        self.hints.count(task) > 0
     }
 
-    /// The number that the task's next map gets, which is the least that none of its maps has.
+    /// The number that the task's next map gets, which is the least that none of its maps has. It takes some twelve steps.
     pub fn next_map(&self, task: u64) -> NextMap
         requires { length (all_maps self.now.files) < most_maps }
         ensures number { result.number ≡ next_of task self.now.files }
         ensures first { result.is_first ≡ is_first_of task self.now.files }
     {
-        if !self.has_maps(task) {
-            return NextMap {
-                number: 1,
-                is_first: true,
-            };
-        }
         NextMap {
-            number: self.least_unused(task),
-            is_first: false,
+            number: self.hints.least_unused(task),
+            is_first: !self.has_maps(task),
         }
-    }
-
-    // Whether the task has a map of the number.
-    fn is_used(&self, task: u64, number: u64) -> bool
-        ensures { result ≡ is_among number (numbers_of task (all_maps self.now.files)) }
-    {
-        self.find(task, number).is_some()
-    }
-
-    // The least number from 1 on that none of the task's maps has.
-    fn least_unused(&self, task: u64) -> u64
-        requires { length (all_maps self.now.files) < most_maps }
-        ensures { result ≡ next_of task self.now.files }
-    {
-        let mut number = 1;
-        while self.is_used(task, number) {
-            number += 1;
-        }
-        number
     }
 
     /// The names of the files that have one, in order of creation. Refused where memory is.

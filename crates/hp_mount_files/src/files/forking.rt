@@ -19,7 +19,7 @@ impl<N: Naming> Files<N> {
     pub fn map_count_for(&self, task: u64) -> u64
         ensures { result ≡ count_by (is_of task) (all_maps self.now.files) }
     {
-        self.counts.count(task)
+        self.hints.count(task)
     }
 
     /// A child gets a map for each of its parent's: the same number, range, copies and mark; it owns nothing. Maps that
@@ -41,7 +41,7 @@ impl<N: Naming> Files<N> {
         ensures err { OnErr result (self.new ≡ record self.old { room = self.new.room }) }
         ensures more { OnErr result (self.old.room ≤ self.new.room) }
     {
-        let count = self.counts.count(parent);
+        let count = self.hints.count(parent);
         let lists = children(
             &self.list,
             &self.hints,
@@ -51,28 +51,22 @@ impl<N: Naming> Files<N> {
             child,
             count,
         )?;
-        self.hints.reserve(count)?;
-        self.counts.make_room()?;
+        let theirs = self.hints.copy_of(parent)?;
+        self.hints.make_room()?;
         let room = room_for(held, self.pages.more, &lists);
         self.pages.store.make_room(room)?;
         let gone = drop_some_maps_of(
             child,
-            self.counts.count(child),
+            self.hints.count(child),
             &mut self.list,
-            &mut self.hints,
             &mut self.pages,
         );
-        join_all(
-            child,
-            lists,
-            &mut self.list,
-            &mut self.hints,
-            &mut self.pages,
-        );
+        self.hints.forget_maps_of(child);
+        self.hints.put(child, theirs);
+        join_all(child, lists, &mut self.list, &self.hints, &mut self.pages);
         retain_some_used(gone.maps, &mut self.list);
         self.maps -= gone.maps;
         self.maps += count;
-        self.counts.set(child, count);
         Ok(gone.reserves)
     }
 }

@@ -9,7 +9,7 @@ ghost use Rattle.hp_lookup.specs.Places.{IsFirstTask, IsFound, all_maps};
 
 use super::Files;
 use crate::lookup::Lookup;
-use hp_file::{drop_maps_of, numbers_tried, sweep_file};
+use hp_file::{drop_maps_of, sweep_file};
 use hp_lookup::MapPlace;
 use hp_model::naming::Naming;
 
@@ -39,10 +39,10 @@ impl<N: Naming> Files<N> {
         if !self.has_maps(task) {
             return 0;
         }
-        let gone = drop_maps_of(task, &mut self.list, &mut self.hints, &mut self.pages);
+        let gone = drop_maps_of(task, &mut self.list, &mut self.pages);
+        self.hints.forget_maps_of(task);
         self.list.retain_used();
         self.maps -= gone.maps;
-        self.counts.set(task, 0);
         gone.reserves
     }
 
@@ -64,24 +64,20 @@ impl<N: Naming> Files<N> {
 
     /// All maps of a task go, with their private copies and what their owners have not consumed. Files that are left
     /// without name and maps go, with their pages and entries, and the others move down. Answers how many reservations
-    /// went. It takes a step for each index that the maps had, and for each page that went. A few maps are found by low
-    /// numbers. More, and those of other numbers, by a step for each file and map of the slot. It takes no memory.
+    /// went. It takes a step for each index that the maps had, and for each page that went. A few maps go one by
+    /// one, the last number first. More go by a step for each file and map of the slot. It takes no memory.
     pub fn exit(&mut self, task: u64) -> u64
         requires { sum_by file_reserves self.old.files < 2 ^ 64 }
         ensures files { self.new.files ≡ filter is_kept (map (file_without task) self.old.files) }
         ensures left { IsLeft result self.old self.new }
     {
         let mut reserves = 0;
-        let mut number = 1;
-        let count = self.counts.count(task);
-        let last = if count > FEW_MAPS {
-            0
-        } else {
-            numbers_tried(count)
-        };
-        while number <= last && self.has_maps(task) {
-            reserves += self.exit_map(task, number);
-            number += 1;
+        let count = self.hints.count(task);
+        let few = if count > FEW_MAPS { 0 } else { count };
+        for map in (0..few as usize).rev() {
+            if let Some(number) = self.hints.nth(task, map) {
+                reserves += self.exit_map(task, number);
+            }
         }
         reserves + self.exit_among_all(task)
     }
@@ -106,7 +102,6 @@ impl<N: Naming> Files<N> {
         self.hints.forget_map(task, number);
         let entries = sweep_file(&mut self.list, at.file, &mut self.pages);
         self.maps -= 1;
-        self.counts.remove_one(task);
         gone.reserves + entries
     }
 }

@@ -1,8 +1,6 @@
 //! Files and maps that come.
 ghost use Rattle.std.specs.Prelude.{◌≡◌, ◌^◌, ◌++◌, ◌∷◌, ◌+◌, ◌<◌, ◌≤◌, ℕ, max, length, [], None, Some, OnOk, OnErr, false};
 ghost use Rattle.hp_lookup.specs.Files.{file_at, with_anon, with_file_at, mapped_at};
-ghost use Rattle.hp_lookup.specs.Hints.{AreSame};
-ghost use Rattle.hp_lookup.specs.Tally.{count_of};
 ghost use Rattle.hp_lookup.specs.Asking.{IsAsked, is_first_of, next_of, wants, with_range};
 ghost use Rattle.hp_subpool.specs.Subpool.{is_full, used};
 ghost use Rattle.std.specs.List.{sum_by};
@@ -16,25 +14,13 @@ ghost use Rattle.hp_lookup.specs.Places.{all_maps};
 use super::Files;
 use crate::file_pages::FilePages;
 use hp_file::File;
-use hp_lookup::{FileName, FileTag, Hints, MapPlace, MapRange, MapTag, NextMap, TaskCounts};
+use hp_lookup::{FileName, FileTag, MapPlace, MapRange, MapTag, NextMap};
 use hp_model::naming::Naming;
 use hp_model::refusal::Refusal;
 use hp_model::step::Sharing;
 use hp_mount_door::PoolDoor;
 use hp_subpool::Subpool;
 use std::alloc::AllocError;
-
-// Room to note and to count a map more. Refused where memory is.
-fn make_map_room(hints: &mut Hints, counts: &mut TaskCounts) -> Result<(), AllocError>
-    ensures noted { AreSame hints.old hints.new }
-    ensures counted { (task : ℕ) → count_of counts.new task ≡ count_of counts.old task }
-    ensures hints { OnOk result (0 < hints.new.room) }
-    ensures counts { OnOk result (0 < counts.new.room) }
-{
-    counts.make_room()?;
-    hints.reserve(1)?;
-    Ok(())
-}
 
 impl<N: Naming> Files<N> {
     /// Makes a file of length 0, with a name that no other has. Refused where memory is, and then nothing changes.
@@ -116,7 +102,7 @@ impl<N: Naming> Files<N> {
             map: self.list[file].map_count(),
         };
         let tag = MapTag::new(at, self.list.tag(file), self.tags.take());
-        let Ok(()) = make_map_room(&mut self.hints, &mut self.counts) else {
+        let Ok(()) = self.hints.note_map(range.task, next.number, tag) else {
             self.lower_room(room);
             return Err(Refusal::OutOfMemory);
         };
@@ -131,12 +117,11 @@ impl<N: Naming> Files<N> {
             tag.map(),
             next.number,
         ) {
+            self.hints.forget_map(range.task, next.number);
             self.lower_room(room);
             return Err(refusal);
         }
-        self.hints.note_map(range.task, next.number, tag).unwrap();
         self.maps += 1;
-        self.counts.add_one(range.task);
         Ok(())
     }
 
@@ -183,7 +168,7 @@ impl<N: Naming> Files<N> {
             self.lower_room(room);
             return Err(Refusal::OutOfMemory);
         }
-        let Ok(()) = make_map_room(&mut self.hints, &mut self.counts) else {
+        let Ok(()) = self.hints.note_map(range.task, next.number, tag) else {
             self.lower_room(room);
             return Err(Refusal::OutOfMemory);
         };
@@ -191,14 +176,13 @@ impl<N: Naming> Files<N> {
         let file = match made {
             Ok(file) => file,
             Err(refusal) => {
+                self.hints.forget_map(range.task, next.number);
                 self.lower_room(room);
                 return Err(refusal);
             }
         };
         self.list.push(file, tag.file());
-        self.hints.note_map(range.task, next.number, tag).unwrap();
         self.maps += 1;
-        self.counts.add_one(range.task);
         Ok(())
     }
 }

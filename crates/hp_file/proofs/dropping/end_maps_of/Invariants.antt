@@ -1,6 +1,5 @@
-use Rattle.std.proofs.Common.{◌≡◌, ◌+◌, take, count_by, sum_by}
-use Rattle.hp_model.proofs.Words.{is_map}
-use Rattle.hp_lookup.proofs.Words.{IsMoreButTask, ended_for, in_map, owed}
+use Rattle.std.proofs.Common.{◌≡◌, ◌+◌, sum_by}
+use Rattle.hp_lookup.proofs.Words.{ended_for, in_map, owed}
 use Rattle.hp_file.specs.HeldPages.{AreDropped}
 use Rattle.hp_file.proofs.Punched.{first_mapped}
 use Rattle.hp_file.proofs.dropping.end_maps_of.Given as goal
@@ -9,4 +8,4 @@ abbrev pub invariant-loop-map : goal.invariant-loop-map
 invariant-loop-map g l =
     AreDropped (λ n. sum_by (in_map n) l.initial.maps) (λ n. sum_by (in_map n) l.maps) l.initial.pages l.pages
     × (l.maps ≡ first_mapped (ended_for l.task) l.map-index l.initial.maps)
-    × (l.reserves + sum_by owed l.maps ≡ sum_by owed l.initial.maps) × IsMoreButTask l.task (λ n. count_by (is_map l.task n) (take l.map-index l.initial.maps)) l.initial.hints l.hints
+    × (l.reserves + sum_by owed l.maps ≡ sum_by owed l.initial.maps)

@@ -1,13 +1,11 @@
-use Rattle.std.proofs.Common.{◌≡◌, ℕ, ◌+◌, ◌-◌, ◌≤◌, length, take, sum_by}
-use Rattle.hp_lookup.proofs.Words.{HaveNoted, HaveRoom, IsSharing, in_lists, joined, list_copies, maps_by, more_in}
+use Rattle.std.proofs.Common.{◌≡◌, ℕ, ◌+◌, ◌-◌, ◌≤◌, length, sum_by}
+use Rattle.hp_lookup.proofs.Words.{HaveRoom, IsSharing, in_lists, joined, list_copies, more_in}
 use Rattle.hp_file.proofs.fork_lists.join_all.Given as goal
 
 abbrev pub invariant-loop-list : goal.invariant-loop-list
 invariant-loop-list g l = record {
   room : HaveRoom l.files.files l.lists.items;
   files : joined l.files.files l.lists.items ≡ joined l.initial.files.files l.initial.lists.items;
-  none : sum_by (maps_by l.child) (take (length l.lists.items) l.files.files) ≡ 0;
-  noted : HaveNoted l.child l.files.files l.initial.hints l.hints;
   sharing : IsSharing (λ n. in_lists n l.initial.lists.items - in_lists n l.lists.items) l.initial.pages.store l.pages.store;
   less : (n : ℕ) → in_lists n l.lists.items ≤ in_lists n l.initial.lists.items;
   counted : l.pages.more ≡ more_in l.pages.store.pages;

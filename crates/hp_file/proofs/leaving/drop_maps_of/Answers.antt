@@ -1,11 +1,10 @@
 use Rattle.std.proofs.lemmas.Grind.{common_steps}
-use Rattle.std.proofs.Common.{arith, ap, ◌+◌, ◌<◌, length, take, ◌∙◌, slice_index_or, sum_by}
+use Rattle.std.proofs.Common.{arith, ap, ◌<◌, length, ◌∙◌}
 use Rattle.std.proofs.lemmas.List.{length-set}
-use Rattle.std.proofs.lemmas.List.Sums.{get_or-le-sum_by, sum_by-set, sum_by_more}
-use Rattle.hp_lookup.proofs.Words.{NumberedFile, emptied, file_owed, in_file, left_by, maps_named}
+use Rattle.std.proofs.lemmas.List.Sums.{get_or-le-sum_by, sum_by-set}
+use Rattle.hp_lookup.proofs.Words.{NumberedFile, emptied, file_owed, in_file, left_by}
 use Rattle.hp_file.proofs.Counting.{dropped_then, left_held, part_held}
-use Rattle.hp_file.proofs.Leaves.{gone_then}
-use Rattle.hp_file.proofs.Punched.{first_next, first_step}
+use Rattle.hp_file.proofs.Punched.{first_step}
 use Rattle.hp_file.proofs.leaving.drop_maps_of.Goals as goal
 
 pub loop-at-preserved : goal.loop-at-preserved
@@ -18,7 +17,7 @@ loop-at-preserved g c =
     let one = c.drop_maps_of-gone in
     let n = one.new.self in
     let within : i < length c.args.files.now.files = omega (arith, c.loop-at-test.true, c.len-at-end.ensures) in
-    let inside : i < length fs = omega (arith, within, was.invariant.5) in (
+    let inside : i < length fs = omega (arith, within, was.invariant.4) in (
       dropped_then was.invariant.0 one.ensures.dropping
           (λ k. (let step = sum_by-set (in_file k) fs i n f inside in let same = ap (in_file k) read in omega (arith, step, same))),
       first_step (λ (f : NumberedFile). emptied (left_by c.args.task f)) i c.args.files.now.files fs f n within was.invariant.1
@@ -26,12 +25,7 @@ loop-at-preserved g c =
       (let step = sum_by-set file_owed fs i n f inside in let same = ap file_owed read in let had = was.invariant.2 in let left = one.ensures.reserves in omega (arith, step, same, had, left)),
       (let step = sum_by-set (λ (f : NumberedFile). length f.maps) fs i n f inside in let same = ap (λ (f : NumberedFile). length f.maps) read in
           let had = was.invariant.3 in let left = one.ensures.maps in omega (arith, step, same, had, left)),
-      gone_then c.args.task (λ m. sum_by (maps_named c.args.task m) (take i c.args.files.now.files)) (λ m. maps_named c.args.task m f)
-          (λ m. sum_by (maps_named c.args.task m) (take (i + 1) c.args.files.now.files)) c.args.hints.now was.hints one.new.hints was.invariant.4 one.ensures.hints
-          (λ m. (let step = sum_by_more (maps_named c.args.task m) c.args.files.now.files i f within in
-          let here = ap (maps_named c.args.task m) (read ∙ ap (λ gs. slice_index_or gs i f) was.invariant.1
-          ∙ first_next (λ (f : NumberedFile). emptied (left_by c.args.task f)) i c.args.files.now.files f within) in omega (arith, step, here))),
-      length-set fs i n ∙ was.invariant.5,
+      length-set fs i n ∙ was.invariant.4,
     )
 
 pub overflow_add-maps : goal.overflow_add-maps

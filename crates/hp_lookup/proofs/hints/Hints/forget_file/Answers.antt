@@ -1,10 +1,10 @@
-use Rattle.std.proofs.Common.{rules, ◌≡◌, [], Bool, true, false, None, Some, IfSome, slice_get, refl, ap, subst, sym, ◌∙◌, List, ℕ, swap_remove}
+use Rattle.std.proofs.Common.{rules, ◌≡◌, Bool, true, false, None, Some, IfSome, slice_get, refl, ap, subst, sym, ◌∙◌, List, ℕ, swap_remove}
 use Rattle.std.specs.Bool.{⊤}
 use Rattle.std.specs.Str.{bytes_eq}
 use Rattle.std.proofs.lemmas.Slice.Eq.{bytes_eq-Decides}
 use Rattle.std.proofs.lemmas.Option.{get_or_from_slice_get, slice_get_within}
-use Rattle.indexmap.specs.IndexMap.{Updates, spare}
-use Rattle.hp_lookup.proofs.Words.{IsMoreBut, Noted, is_noted_as, keys_of, names_of}
+use Rattle.indexmap.specs.IndexMap.{Updates}
+use Rattle.hp_lookup.proofs.Words.{IsMoreBut, Noted, is_noted_as, names_of}
 use Rattle.hp_lookup.proofs.Hinted.{key_still_out, keyed_at, not_found, others_stay, rest_stay, still_out}
 use Rattle.hp_lookup.proofs.hints.Hints.forget_file.Goals as goal
 
@@ -30,7 +30,7 @@ returns-then-is_noted_at c =
     let is = c.swap_remove_index-entry.ensures.entry ∙ noted.1 in
     let gone = subst (λ o. IfSome o (λ p. Updates bytes_eq c.self.inside.files c.swap_remove_index-entry.new.self p.0 None)) is c.swap_remove_index-entry.ensures.updates in
     let left = subst (λ o. IfSome o (λ p. new ≡ swap_remove old at p)) is c.swap_remove_index-entry.ensures.entries in
-    let rest : Noted = record { names = names_of new; keys = keys_of c.self.inside.maps.entries; room = spare c.self.inside.maps } in
+    let rest : Noted = record { names = names_of new; table = c.self.inside.maps } in
     let dropped : c.match-entry.self ≡ rest = search rules in
     subst (λ (n : Noted). IsMoreBut name c.args.self.now n) (sym dropped)
     (subst (λ (n : Noted). IsMoreBut name n rest) c.self.view_is
@@ -39,30 +39,32 @@ returns-then-is_noted_at c =
       names = λ other apart e.
           rest_stay (λ (k : List ℕ). k) (bytes_eq other) old at entry (slice_get_within old at entry noted.1)
           (ap (λ p. bytes_eq other p.0) (get_or_from_slice_get old at entry entry noted.1) ∙ not_both name other name apart ((bytes_eq-Decides name name).1 refl))
-          (subst (λ es. is_noted_as other (record { names = names_of es; keys = []; room = 0 }) ≡ false) left e);
+          (subst (λ es. is_noted_as other (record { names = names_of es; table = c.self.inside.maps }) ≡ false) left e);
       keys = λ task number e. e;
       less = record {
         names = λ other e.
-            subst (λ es. is_noted_as other (record { names = names_of es; keys = []; room = 0 }) ≡ false) (sym left)
+            subst (λ es. is_noted_as other (record { names = names_of es; table = c.self.inside.maps }) ≡ false) (sym left)
             (still_out (λ (k : List ℕ). k) (bytes_eq other) old at entry (slice_get_within old at entry noted.1) e);
         keys = λ task number e. e;
       };
+      tally = λ q. refl;
     }))
 
 pub returns-else-is_noted_at : goal.returns-else-is_noted_at
 returns-else-is_noted_at c =
     let new = c.swap_remove-noted.new.self.entries in
-    subst (λ (n : Noted). IsMoreBut c.args.name.now n (record { names = names_of new; keys = keys_of c.self.inside.maps.entries; room = spare c.self.inside.maps })) c.self.view_is
+    subst (λ (n : Noted). IsMoreBut c.args.name.now n (record { names = names_of new; table = c.self.inside.maps })) c.self.view_is
     (record {
       gone = not_found (λ (k : List ℕ). k) (bytes_eq c.args.name.now) _ (λ k. refl) new c.swap_remove-noted.ensures.updates.1;
       names = λ other apart e.
           others_stay (λ (k : List ℕ). k) (bytes_eq other) _ (λ k own. not_both c.args.name.now other k apart own) c.self.inside.files.entries
-          (subst (λ es. is_noted_as other (record { names = names_of es; keys = []; room = 0 }) ≡ false) c.swap_remove-noted.ensures.entries e);
+          (subst (λ es. is_noted_as other (record { names = names_of es; table = c.self.inside.maps }) ≡ false) c.swap_remove-noted.ensures.entries e);
       keys = λ task number e. e;
       less = record {
         names = λ other e.
-            subst (λ es. is_noted_as other (record { names = names_of es; keys = []; room = 0 }) ≡ false) (sym c.swap_remove-noted.ensures.entries)
+            subst (λ es. is_noted_as other (record { names = names_of es; table = c.self.inside.maps }) ≡ false) (sym c.swap_remove-noted.ensures.entries)
             (key_still_out (λ (k : List ℕ). k) (bytes_eq other) _ c.self.inside.files.entries e);
         keys = λ task number e. e;
       };
+      tally = λ q. refl;
     })

@@ -1,32 +1,22 @@
-use Rattle.std.proofs.Common.{◌≡◌, ℕ, List, [], true, false, subst, sym, arith}
-use Rattle.std.specs.Bool.{⊤}
-use Rattle.std.proofs.lemmas.Bool.Decides.{nat_tests}
-use Rattle.indexmap.specs.IndexMap.{spare}
-use Rattle.hp_lookup.proofs.Words.{IsMoreByMap, Noted, has_key, is_pair, keys_of, names_of}
-use Rattle.hp_lookup.proofs.Hinted.{other_in, put_in, stays}
+use Rattle.std.proofs.Common.{OnErr, OnOk, Ok, Err, Result, subst}
+use Rattle.hp_lookup.proofs.Words.{AreSame, IsMoreByMap, Noted, names_of}
+use Rattle.hp_lookup.proofs.Notes.{noted_more, same_noted}
 use Rattle.hp_lookup.proofs.hints.Hints.note_map.Goals as goal
 
-pub returns-clause-more : goal.returns-clause-more
-returns-clause-more c =
-    let new = c.insert_full.new.self.entries in
-    let files = c.self.inside.files.entries in
-    subst (λ (n : Noted). IsMoreByMap c.args.task c.args.number n (record { names = names_of files; keys = keys_of new; room = spare c.insert_full.new.self })) c.self.view_is
-    (record {
-      more = record {
-        names = λ name e. e;
-        keys = λ task number e. stays (λ (k : ℕ × ℕ). k) (is_pair task number) _ c.new-key.result _ c.self.inside.maps.entries
-            (subst (λ es. has_key task number (record { names = []; keys = keys_of es; room = 0 }) ≡ false) c.in-Ok.ensures.entries e);
-      };
-      names = λ name e. e;
-      keys = λ t n apart e.
-          subst (λ es. has_key t n (record { names = []; keys = keys_of es; room = 0 }) ≡ false) (sym c.in-Ok.ensures.entries)
-          (other_in (λ (k : ℕ × ℕ). k) (is_pair t n) _ c.new-key.result _
-          (subst (λ q. is_pair t n q ≡ false) (sym c.new-key.ensures) apart) c.self.inside.maps.entries e);
-    })
+pub returns-clause-ok : goal.returns-clause-ok
+returns-clause-ok c =
+    subst (λ (n : Noted). OnOk c.note.result (IsMoreByMap c.args.task c.args.number n (record { names = names_of c.self.inside.files.entries; table = c.note.new.self }))) c.self.view_is
+    (on_ok c.note.result (noted_more (names_of c.self.inside.files.entries) c.self.inside.maps c.note.new.self c.args.task c.args.number) c.note.ensures.ok)
+  where
+    on_ok : {P Q X E : Type 0} (r : Result X E) → (P → Q) → OnOk r P → OnOk r Q
+    on_ok (Ok x) through p = through p
+    on_ok (Err e) through p = tt
 
-pub returns-clause-noted : goal.returns-clause-noted
-returns-clause-noted c =
-    let key = c.new-key.result in
-    let shown = λ (q : ℕ × ℕ) (es : List ((ℕ × ℕ) × ⊤)). has_key q.0 q.1 (record { names = []; keys = keys_of es; room = 0 }) ≡ true in
-    subst (λ q. shown q c.insert_full.new.self.entries) c.new-key.ensures (subst (shown key) (sym c.in-Ok.ensures.entries)
-    (put_in (λ (k : ℕ × ℕ). k) (is_pair key.0 key.1) _ key _ (λ y e. e) (grind (arith, nat_tests)) c.self.inside.maps.entries))
+pub returns-clause-err : goal.returns-clause-err
+returns-clause-err c =
+    subst (λ (n : Noted). OnErr c.note.result (AreSame n (record { names = names_of c.self.inside.files.entries; table = c.note.new.self }))) c.self.view_is
+    (on_err c.note.result (same_noted (names_of c.self.inside.files.entries) c.self.inside.maps c.note.new.self) c.note.ensures.err)
+  where
+    on_err : {P Q X E : Type 0} (r : Result X E) → (P → Q) → OnErr r P → OnErr r Q
+    on_err (Ok x) through p = tt
+    on_err (Err e) through p = through p

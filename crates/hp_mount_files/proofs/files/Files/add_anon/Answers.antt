@@ -1,57 +1,49 @@
-use Rattle.std.proofs.Common.{◌≡◌, ◌==◌, ℕ, ◌+◌, ◌<◌, cond, List, ◌∷◌, ◌++◌, [], None, length, max, ap, subst, sym, ◌∙◌, rules, arith}
+use Rattle.std.proofs.Common.{◌≡◌, ℕ, ◌+◌, ◌<◌, List, ◌∷◌, ◌++◌, [], None, length, max, ap, subst, sym, ◌∙◌, arith}
 use Rattle.hp_model.proofs.Words.{is_among, mapped, new_file, numbers_of}
-use Rattle.hp_lookup.proofs.Words.{Files, IsFiles, all_maps, count_of, files_shown, next_of, wants, with_anon}
-use Rattle.hp_lookup.proofs.Keys.{then_map}
+use Rattle.hp_lookup.proofs.Words.{Files, IsFiles, all_maps, tally_of, files_shown, next_of, wants, with_anon}
+use Rattle.hp_lookup.proofs.Keys.{files_same_noted}
+use Rattle.hp_lookup.proofs.Notes.{noted_undone}
+use Rattle.hp_mount_files.proofs.Used.{key_fresh}
 use Rattle.hp_lookup.proofs.NewKey.{maps_few}
 use Rattle.hp_lookup.proofs.MapNumbers.{unused_is_new}
-use Rattle.hp_lookup.proofs.Tallies.{tally_few}
 use Rattle.hp_mount_files.proofs.Anon.{anon_files, anon_view}
-use Rattle.hp_mount_files.proofs.MapRoom.{with_room}
 use Rattle.hp_mount_files.proofs.files.Files.add_anon.Given.{Over}
 use Rattle.hp_mount_files.proofs.files.Files.add_anon.Goals as goal
-use Rattle.hp_mount_files.proofs.files.Files.add_anon.Goals.{After-make_map_room}
 
--- room is made
-module _ (g : Over) (c : After-make_map_room g) where
-  roomy : IsFiles c.make_map_room.new.hints c.self.inside.pages.store c.self.inside.pages.more c.self.inside.maps (count_of c.make_map_room.new.counts) c.make_room-2.new.self.files
-  roomy =
-      let s = c.self.inside in
-      subst (IsFiles c.make_map_room.new.hints s.pages.store s.pages.more s.maps (count_of c.make_map_room.new.counts)) (sym c.make_room-2.ensures.same)
-      (with_room s.hints c.make_map_room.new.hints s.pages.store s.pages.more s.maps (count_of s.counts) (count_of c.make_map_room.new.counts) s.list.files
-      c.make_map_room.ensures.noted c.make_map_room.ensures.counted c.self.invariant)
+pub note_map-requires : goal.note_map-requires
+note_map-requires g c = omega (arith, c.requires.number)
 
-pub invariant_of-self-in_default-make_map_room : goal.invariant_of-self-in_default-make_map_room
-invariant_of-self-in_default-make_map_room g c = roomy g (goal.at.invariant_of-self-in_default-make_map_room g c).After-make_map_room
+pub invariant_of-self-in_default-note_map : goal.invariant_of-self-in_default-note_map
+invariant_of-self-in_default-note_map g c =
+    let s = c.self.inside in
+    subst (IsFiles c.note_map.new.self s.pages.store s.pages.more s.maps (tally_of c.note_map.new.self)) (sym c.make_room-2.ensures.same)
+    (files_same_noted s.hints c.note_map.new.self s.pages.store s.pages.more s.maps s.list.files c.in_default-note_map.ensures.err c.self.invariant)
 
 pub invariant_of-self-in-Err : goal.invariant_of-self-in-Err
-invariant_of-self-in-Err g c = roomy g (goal.at.invariant_of-self-in-Err g c).After-make_map_room
-
-pub unwrap-requires : goal.unwrap-requires
-unwrap-requires g c = c.note_map.ensures.succeeds c.in-Ok-make_map_room.ensures.hints
+invariant_of-self-in-Err g c =
+    let s = c.self.inside in
+    let r = c.args.range.now in
+    let numbers : List ℕ = numbers_of r.task (all_maps (files_shown s.pages.store s.list.files)) in
+    let number = subst (λ (v : Files). c.args.next.number ≡ next_of r.task v.files) (sym (c.self.view_is ∙ c.in-Ok.ensures.ok)) c.requires.number in
+    let fresh = ap (λ n. is_among n numbers) number ∙ unused_is_new numbers in
+    let new = key_fresh s.hints s.pages.store s.pages.more s.maps (tally_of s.hints) s.list.files c.self.invariant r.task c.args.next.number fresh in
+    let grown = c.in-Ok-note_map.ensures.ok in
+    let undone = noted_undone r.task c.args.next.number s.hints c.note_map.new.self c.forget_map.new.self new grown c.forget_map.ensures in
+    subst (IsFiles c.forget_map.new.self s.pages.store s.pages.more s.maps (tally_of c.forget_map.new.self)) (sym c.make_room-2.ensures.same)
+    (files_same_noted s.hints c.forget_map.new.self s.pages.store s.pages.more s.maps s.list.files undone c.self.invariant)
 
 pub overflow_add-self : goal.overflow_add-self
 overflow_add-self g c =
     let s = c.self.inside in
-    let few = maps_few s.hints s.pages.store s.pages.more s.maps (count_of s.counts) s.list.files c.self.invariant
+    let few = maps_few s.hints s.pages.store s.pages.more s.maps (tally_of s.hints) s.list.files c.self.invariant
     (subst (λ (v : Files). length (all_maps v.files) < 4096) (sym (c.self.view_is ∙ c.in-Ok.ensures.ok))
     c.requires.maps) in
     omega (arith, few)
 
-pub add_one-requires-clause-few : goal.add_one-requires-clause-few
-add_one-requires-clause-few g c =
-    let s = c.self.inside in
-    let few = tally_few c.args.range.now.task s.hints s.pages.store s.pages.more s.maps (count_of s.counts) s.list.files c.self.invariant
-    (subst (λ (v : Files). length (all_maps v.files) < 4096) (sym (c.self.view_is ∙ c.in-Ok.ensures.ok)) c.requires.maps) in
-    let same = c.make_map_room.ensures.counted c.args.range.now.task in
-    omega (arith, few, same)
-
 -- the file that was added
-module _ (g : Over) (c : goal.After-add_one g) where
+module _ (g : Over) (c : goal.After-self-1 g) where
   files_are : c.push.new.self.files ≡ c.self.inside.list.files ++ c.in-Ok-made.file ∷ []
   files_are = c.push.ensures ∙ ap (λ fs. fs ++ c.in-Ok-made.file ∷ []) c.make_room-2.ensures.same
-
-  one_more : (q : ℕ) → (count_of c.add_one.new.self) q ≡ (count_of c.self.inside.counts) q + cond (c.args.range.now.task == q) 1 0
-  one_more q = c.add_one.ensures q ∙ ap (λ n. n + cond (c.args.range.now.task == q) 1 0) (c.make_map_room.ensures.counted q)
 
 pub invariant_of-self-2 : goal.invariant_of-self-2
 invariant_of-self-2 g c =
@@ -60,11 +52,11 @@ invariant_of-self-2 g c =
     let numbers : List ℕ = numbers_of r.task (all_maps (files_shown s.pages.store s.list.files)) in
     let number = subst (λ (v : Files). c.args.next.number ≡ next_of r.task v.files) (sym (c.self.view_is ∙ c.in-Ok.ensures.ok)) c.requires.number in
     let fresh = ap (λ n. is_among n numbers) number ∙ unused_is_new numbers in
-    anon_files r.task c.args.next.number r.start r.pages r.sharing r.reserving s.hints s.pages.store s.pages.more s.maps (count_of s.counts) s.list.files
+    let new = key_fresh s.hints s.pages.store s.pages.more s.maps (tally_of s.hints) s.list.files c.self.invariant r.task c.args.next.number fresh in
+    let grown = c.in-Ok-note_map.ensures.ok in
+    anon_files r.task c.args.next.number r.start r.pages r.sharing r.reserving s.hints s.pages.store s.pages.more s.maps (tally_of s.hints) s.list.files
     c.self.invariant c.in-Ok-made.file c.push.new.self.files c.in-Ok-made.ensures.ok (files_are g c)
-    fresh c.note_map.new.self
-    (then_map r.task c.args.next.number s.hints c.make_map_room.new.hints c.note_map.new.self c.make_map_room.ensures.noted c.note_map.ensures.more)
-    (search rules) (count_of c.add_one.new.self) (one_more g c)
+    fresh c.note_map.new.self grown grown.noted (tally_of c.note_map.new.self) (grown.tally new)
 
 pub returns-clause-ok : goal.returns-clause-ok
 returns-clause-ok g c =
@@ -72,7 +64,7 @@ returns-clause-ok g c =
     let reserves : c.saturating_add-reserves.result ≡ c.args.share.now.held + wants c.args.range.now (new_file None) =
     omega (arith, c.held.ensures, c.wanted_alone.ensures.alone, c.saturating_add-reserves.ensures, c.in-Ok.ensures.few) in
     let r = c.args.range.now in
-    anon_view r.task c.args.next.number r.start r.pages r.sharing r.reserving s.hints s.pages.store s.pages.more s.maps (count_of s.counts) s.list.files
+    anon_view r.task c.args.next.number r.start r.pages r.sharing r.reserving s.hints s.pages.store s.pages.more s.maps (tally_of s.hints) s.list.files
     c.self.invariant c.in-Ok-made.file c.push.new.self.files c.in-Ok-made.ensures.ok (files_are g c)
     ∙ ap (λ (v : Files). record v { files = v.files ++ mapped r.task c.args.next.number r.start r.pages r.sharing r.reserving (new_file None) ∷ [] }) (c.self.view_is ∙ c.in-Ok.ensures.ok)
     ∙ ap (λ n. with_anon r.task c.args.next.number r.start r.pages (max c.args.self.now.room n) r.sharing r.reserving c.args.self.now) reserves

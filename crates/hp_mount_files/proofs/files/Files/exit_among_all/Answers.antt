@@ -6,6 +6,7 @@ use Rattle.hp_mount_files.proofs.Exiting.{exit_files, exit_keeps, exit_left}
 use Rattle.hp_lookup.proofs.GivingBack.{all_kept}
 use Rattle.hp_lookup.proofs.Leaving.{files_owe}
 use Rattle.hp_mount_files.proofs.OneByOne.{none_leaves}
+use Rattle.hp_lookup.proofs.Notes.{gone_tally}
 use Rattle.hp_lookup.proofs.Views.{view}
 use Rattle.hp_mount_files.proofs.Here.{all_held}
 use Rattle.hp_mount_files.proofs.files.Files.exit_among_all.Goals as goal
@@ -18,7 +19,7 @@ drop_maps_of-gone-requires-clause-few g c = grind (arith, common_steps, files_ow
 
 pub invariant_of-self : goal.invariant_of-self
 invariant_of-self g c =
-    exit_keeps c.self.invariant c.drop_maps_of-gone.ensures c.retain_used.ensures _ _ refl c.set.ensures
+    exit_keeps c.self.invariant c.drop_maps_of-gone.ensures c.retain_used.ensures c.forget_maps_of.ensures _ _ refl (gone_tally c.args.task _ _ c.forget_maps_of.ensures)
 
 pub returns-clause-files : goal.returns-clause-files
 returns-clause-files g c =

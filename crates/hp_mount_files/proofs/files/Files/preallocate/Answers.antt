@@ -3,7 +3,7 @@ use Rattle.std.proofs.Common.{◌≡◌, ℕ, ◌+◌, ◌<◌, ◌≤◌, List,
 use Rattle.hp_model.proofs.Words.{at_least, cell_at, edit_range, is_entered, lacks_page, part}
 use Rattle.hp_model.specs.files.File.{entered}
 use Rattle.hp_store.specs.Store.{Store}
-use Rattle.hp_lookup.proofs.Words.{Files, IsHeld, NumberedFile, count_of, file_at, files_shown, label_of}
+use Rattle.hp_lookup.proofs.Words.{Files, IsHeld, NumberedFile, tally_of, file_at, files_shown, label_of}
 use Rattle.hp_mount_door.specs.Door.{by_node}
 use Rattle.hp_file.specs.Filling.{entered_at, zeros_at}
 use Rattle.hp_file.proofs.Filling.{all_filled, entries_there, lacking_there, range_held, range_view, rising_length, there}
@@ -51,7 +51,7 @@ invariant_of-self-in_default-take_pages g c =
     let y = c.take_pages.new.self in
     let is = c.in_default-take_pages.ensures.ok in
     let shown = subst (λ (v : Files). c.args.file < length v.files) (sym (c.self.view_is ∙ c.in-Ok.ensures.ok)) c.requires.file in
-    files_same s.hints s.pages.store s.pages.store s.pages.more s.pages.more s.maps (count_of s.counts) s.list.files c.args.file x y shown c.index_mut-at.ensures.value (ap label_of is)
+    files_same s.hints s.pages.store s.pages.store s.pages.more s.pages.more s.maps (tally_of s.hints) s.list.files c.args.file x y shown c.index_mut-at.ensures.value (ap label_of is)
     (same_level x.maps y.maps (ap (λ (f : NumberedFile). f.maps) is)) c.self.invariant
     (range_held s.pages.store s.pages.more s.list.files c.self.invariant.held c.args.file c.args.from c.args.to
     (within g (goal.at.invariant_of-self-in_default-take_pages g c).After-take_pages is) x y c.index_mut-at.ensures.value is)

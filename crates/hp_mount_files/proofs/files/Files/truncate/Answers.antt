@@ -1,7 +1,7 @@
 use Rattle.std.proofs.lemmas.Grind.{common_steps}
 use Rattle.std.proofs.Common.{◌<◌, length, ap, subst, sym, ◌∙◌, arith, slice_set}
 use Rattle.hp_model.proofs.Words.{truncated}
-use Rattle.hp_lookup.proofs.Words.{Files, IsLeft, count_of, edited_at, file_at}
+use Rattle.hp_lookup.proofs.Words.{Files, IsLeft, tally_of, edited_at, file_at}
 use Rattle.hp_lookup.proofs.GivingBack.{cut_files, cut_keeps, cut_left}
 use Rattle.hp_lookup.proofs.Views.{view}
 use Rattle.hp_mount_files.proofs.Here.{file_inside, held_inside}
@@ -17,7 +17,7 @@ pub invariant_of-self : goal.invariant_of-self
 invariant_of-self g c =
     let s = c.self.inside in
     let k = c.args.file in
-    cut_keeps s.hints s.pages.store c.truncate.new.pages.store s.pages.more c.truncate.new.pages.more s.maps (count_of s.counts) s.list.files c.self.invariant k
+    cut_keeps s.hints s.pages.store c.truncate.new.pages.store s.pages.more c.truncate.new.pages.more s.maps (tally_of s.hints) s.list.files c.self.invariant k
     (subst (λ v. k < length v.files) (sym c.self.view_is) c.requires.file) c.index_mut-at.result.now c.truncate.new.self
     c.index_mut-at.ensures.value
     c.truncate.ensures.dropping.dropping c.truncate.ensures.dropping.counted c.args.pages c.truncate.result c.truncate.ensures.file c.truncate.ensures.entries
@@ -26,7 +26,7 @@ pub returns-clause-files : goal.returns-clause-files
 returns-clause-files g c =
     let s = c.self.inside in
     let k = c.args.file in
-    cut_files s.hints s.pages.store c.truncate.new.pages.store s.pages.more c.truncate.new.pages.more s.maps (count_of s.counts) s.list.files c.self.invariant k
+    cut_files s.hints s.pages.store c.truncate.new.pages.store s.pages.more c.truncate.new.pages.more s.maps (tally_of s.hints) s.list.files c.self.invariant k
     (subst (λ v. k < length v.files) (sym c.self.view_is) c.requires.file) c.index_mut-at.result.now c.truncate.new.self
     c.index_mut-at.ensures.value
     c.truncate.ensures.dropping.dropping c.truncate.ensures.dropping.counted c.args.pages c.truncate.result c.truncate.ensures.file c.truncate.ensures.entries
@@ -37,7 +37,7 @@ returns-clause-left g c =
     let s = c.self.inside in
     let k = c.args.file in
     subst (λ v. IsLeft c.truncate.result v (view c.truncate.new.pages.store c.truncate.new.pages.more (slice_set s.list.files k c.truncate.new.self))) c.self.view_is
-    (cut_left s.hints s.pages.store c.truncate.new.pages.store s.pages.more c.truncate.new.pages.more s.maps (count_of s.counts) s.list.files c.self.invariant k
+    (cut_left s.hints s.pages.store c.truncate.new.pages.store s.pages.more c.truncate.new.pages.more s.maps (tally_of s.hints) s.list.files c.self.invariant k
     (subst (λ v. k < length v.files) (sym c.self.view_is) c.requires.file) c.index_mut-at.result.now c.truncate.new.self
     c.index_mut-at.ensures.value
     c.truncate.ensures.dropping.dropping c.truncate.ensures.dropping.counted c.args.pages c.truncate.result c.truncate.ensures.file c.truncate.ensures.entries)

@@ -2,15 +2,16 @@ use Rattle.std.proofs.lemmas.Grind.{common_steps}
 use Rattle.std.proofs.Common.{◌≡◌, Bool, cond, ◌+◌, ◌<◌, ◌^◌, ◌≢◌, ℕ, true, false, refl, map, ap, subst, sym, ◌∙◌, arith, slice_set, filter, sum_by}
 use Rattle.hp_model.proofs.Words.{Mapping, file_unmapped, is_kept, is_map, is_mapped, without_range}
 use Rattle.std.proofs.lemmas.List.Sums.{get_or-le-sum_by}
-use Rattle.hp_lookup.proofs.Words.{Files, IsFound, IsLeft, count_of, file_owed, files_shown, mapping_at}
+use Rattle.hp_lookup.proofs.Words.{Files, IsFound, IsLeft, tally_of, file_owed, files_shown, has_key, mapping_at}
 use Rattle.hp_lookup.proofs.Leaving.{files_owe}
 use Rattle.hp_file.proofs.Counting.{part_held}
 use Rattle.hp_mount_files.proofs.Here.{all_held}
 use Rattle.hp_mount_files.proofs.Unmapping.{enough_held, few_reserves, some_maps, stays_files, stays_keeps, stays_left, went_files, went_keeps, went_left}
+use Rattle.hp_mount_files.proofs.Used.{key_found}
 use Rattle.hp_lookup.proofs.Views.{files_len, view}
 use Rattle.hp_mount_files.proofs.files.Files.unmap.Given.{Over}
 use Rattle.hp_mount_files.proofs.files.Files.unmap.Goals as goal
-use Rattle.hp_mount_files.proofs.files.Files.unmap.Goals.{After-unmap-gone, After-sweep_file-entries}
+use Rattle.hp_mount_files.proofs.files.Files.unmap.Goals.{After-unmap-gone}
 
 -- the map that was found, and whether something of it is left
 module _ (g : Over) (c : After-unmap-gone g) where
@@ -34,6 +35,11 @@ module _ (g : Over) (c : After-unmap-gone g) where
       by true e = absurd (some e)
       by false e = refl
 
+  known : has_key c.args.task c.args.number c.self.inside.hints ≡ true
+  known =
+      let s = c.self.inside in
+      key_found s.hints s.pages.store s.pages.more s.maps (tally_of s.hints) s.list.files c.self.invariant c.args.task c.args.number c.args.at.file c.args.at.map there
+
   few : sum_by file_owed c.self.inside.list.files < 2 ^ 64
   few = grind (arith, common_steps, files_owe)
 
@@ -46,7 +52,7 @@ invariant_of-self g c =
     let s = c.self.inside in
     let one = c.unmap-gone in
     let mapped = stays g found c.if-gone-eq0.true in
-    stays_keeps s.hints s.hints s.pages.store one.new.pages.store s.pages.more one.new.pages.more s.maps (count_of s.counts) s.list.files c.self.invariant c.args.task
+    stays_keeps s.hints s.hints s.pages.store one.new.pages.store s.pages.more one.new.pages.more s.maps (tally_of s.hints) s.list.files c.self.invariant c.args.task
     c.args.number c.args.a c.args.b c.args.at.file c.args.at.map (there g found) c.index_mut-file.result.now one.new.self
     c.index_mut-file.ensures.value one.ensures.file one.ensures.dropping.dropping one.result.reserves one.ensures.reserves mapped one.ensures.dropping.counted
 
@@ -56,7 +62,7 @@ returns-then-gone-eq0-clause-files g c =
     let s = c.self.inside in
     let one = c.unmap-gone in
     let mapped = stays g found c.if-gone-eq0.true in
-    stays_files s.hints s.hints s.pages.store one.new.pages.store s.pages.more one.new.pages.more s.maps (count_of s.counts) s.list.files c.self.invariant c.args.task
+    stays_files s.hints s.hints s.pages.store one.new.pages.store s.pages.more one.new.pages.more s.maps (tally_of s.hints) s.list.files c.self.invariant c.args.task
     c.args.number c.args.a c.args.b c.args.at.file c.args.at.map (there g found) c.index_mut-file.result.now one.new.self
     c.index_mut-file.ensures.value one.ensures.file one.ensures.dropping.dropping one.result.reserves one.ensures.reserves mapped one.ensures.dropping.counted
     ∙ ap (λ (v : Files). filter is_kept (map (file_unmapped (is_map c.args.task c.args.number) c.args.a c.args.b) v.files)) c.self.view_is
@@ -68,7 +74,7 @@ returns-then-gone-eq0-clause-left g c =
     let one = c.unmap-gone in
     let mapped = stays g found c.if-gone-eq0.true in
     subst (λ v. IsLeft one.result.reserves v (view one.new.pages.store one.new.pages.more (slice_set s.list.files c.args.at.file one.new.self))) c.self.view_is
-    (stays_left s.hints s.hints s.pages.store one.new.pages.store s.pages.more one.new.pages.more s.maps (count_of s.counts) s.list.files c.self.invariant c.args.task
+    (stays_left s.hints s.hints s.pages.store one.new.pages.store s.pages.more one.new.pages.more s.maps (tally_of s.hints) s.list.files c.self.invariant c.args.task
     c.args.number c.args.a c.args.b c.args.at.file c.args.at.map (there g found) c.index_mut-file.result.now one.new.self
     c.index_mut-file.ensures.value one.ensures.file one.ensures.dropping.dropping one.result.reserves one.ensures.reserves mapped one.ensures.dropping.counted)
 
@@ -81,7 +87,7 @@ overflow_sub-self g c =
     let s = c.self.inside in
     let one = c.unmap-gone in
     let mapped = goes g found c.if-gone-eq0.false in
-    some_maps s.hints s.hints s.pages.store one.new.pages.store s.pages.more one.new.pages.more s.maps (count_of s.counts) s.list.files c.self.invariant c.args.task
+    some_maps s.hints s.hints s.pages.store one.new.pages.store s.pages.more one.new.pages.more s.maps (tally_of s.hints) s.list.files c.self.invariant c.args.task
     c.args.number c.args.a c.args.b c.args.at.file c.args.at.map (there g found) c.index_mut-file.result.now one.new.self
     c.index_mut-file.ensures.value one.ensures.file one.ensures.dropping.dropping one.result.reserves one.ensures.reserves mapped
 
@@ -92,7 +98,7 @@ overflow_add-result g c =
     let one = c.unmap-gone in
     let mapped = goes g found c.if-gone-eq0.false in
     let last = c.sweep_file-entries in
-    let few = few_reserves s.hints c.forget_map.new.self s.pages.store one.new.pages.store s.pages.more one.new.pages.more s.maps (count_of s.counts) s.list.files
+    let few = few_reserves s.hints c.forget_map.new.self s.pages.store one.new.pages.store s.pages.more one.new.pages.more s.maps (tally_of s.hints) s.list.files
     c.self.invariant c.args.task c.args.number c.args.a c.args.b c.args.at.file c.args.at.map (there g found) c.index_mut-file.result.now
     one.new.self c.index_mut-file.ensures.value one.ensures.file one.ensures.dropping.dropping one.result.reserves one.ensures.reserves mapped
     last.new.pages.store last.new.pages.more last.new.files.files last.ensures.files last.ensures.dropping.dropping last.ensures.dropping.counted last.result
@@ -106,12 +112,13 @@ invariant_of-self-2 g c =
     let one = c.unmap-gone in
     let mapped = goes g found c.if-gone-eq0.false in
     let last = c.sweep_file-entries in
-    went_keeps s.hints c.forget_map.new.self s.pages.store one.new.pages.store s.pages.more one.new.pages.more s.maps (count_of s.counts) s.list.files c.self.invariant
+    went_keeps s.hints c.forget_map.new.self s.pages.store one.new.pages.store s.pages.more one.new.pages.more s.maps (tally_of s.hints) s.list.files c.self.invariant
     c.args.task c.args.number c.args.a c.args.b c.args.at.file c.args.at.map (there g found) c.index_mut-file.result.now one.new.self
     c.index_mut-file.ensures.value one.ensures.file one.ensures.dropping.dropping one.result.reserves one.ensures.reserves mapped last.new.pages.store
     last.new.pages.more last.new.files.files last.ensures.files last.ensures.dropping.dropping last.ensures.dropping.counted last.result last.ensures.reserves
     (few g found)
-    c.forget_map.ensures (count_of c.remove_one.new.self) c.remove_one.ensures
+    c.forget_map.ensures (tally_of c.forget_map.new.self)
+    (λ q. (let one = c.forget_map.ensures.tally (known g found) q in omega (arith, one)))
 
 pub returns-clause-files : goal.returns-clause-files
 returns-clause-files g c =
@@ -120,7 +127,7 @@ returns-clause-files g c =
     let one = c.unmap-gone in
     let mapped = goes g found c.if-gone-eq0.false in
     let last = c.sweep_file-entries in
-    went_files s.hints c.forget_map.new.self s.pages.store one.new.pages.store s.pages.more one.new.pages.more s.maps (count_of s.counts) s.list.files c.self.invariant
+    went_files s.hints c.forget_map.new.self s.pages.store one.new.pages.store s.pages.more one.new.pages.more s.maps (tally_of s.hints) s.list.files c.self.invariant
     c.args.task c.args.number c.args.a c.args.b c.args.at.file c.args.at.map (there g found) c.index_mut-file.result.now one.new.self
     c.index_mut-file.ensures.value one.ensures.file one.ensures.dropping.dropping one.result.reserves one.ensures.reserves mapped last.new.pages.store
     last.new.pages.more last.new.files.files last.ensures.files last.ensures.dropping.dropping last.ensures.dropping.counted last.result last.ensures.reserves
@@ -135,7 +142,7 @@ returns-clause-left g c =
     let mapped = goes g found c.if-gone-eq0.false in
     let last = c.sweep_file-entries in
     subst (λ v. IsLeft (one.result.reserves + last.result) v (view last.new.pages.store last.new.pages.more last.new.files.files)) c.self.view_is
-    (went_left s.hints c.forget_map.new.self s.pages.store one.new.pages.store s.pages.more one.new.pages.more s.maps (count_of s.counts) s.list.files c.self.invariant
+    (went_left s.hints c.forget_map.new.self s.pages.store one.new.pages.store s.pages.more one.new.pages.more s.maps (tally_of s.hints) s.list.files c.self.invariant
     c.args.task c.args.number c.args.a c.args.b c.args.at.file c.args.at.map (there g found) c.index_mut-file.result.now one.new.self
     c.index_mut-file.ensures.value one.ensures.file one.ensures.dropping.dropping one.result.reserves one.ensures.reserves mapped last.new.pages.store
     last.new.pages.more last.new.files.files last.ensures.files last.ensures.dropping.dropping last.ensures.dropping.counted last.result last.ensures.reserves

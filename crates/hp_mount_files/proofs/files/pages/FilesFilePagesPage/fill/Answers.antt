@@ -2,7 +2,7 @@ use Rattle.std.proofs.lemmas.Grind.{common_steps}
 use Rattle.std.proofs.Common.{◌≡◌, ◌<◌, length, ap, subst, sym, arith}
 use Rattle.hp_model.proofs.Words.{cell_at}
 use Rattle.hp_laws.proofs.Variants.{Entered}
-use Rattle.hp_lookup.proofs.Words.{NumberedFile, count_of, file_at, label_of}
+use Rattle.hp_lookup.proofs.Words.{NumberedFile, tally_of, file_at, label_of}
 use Rattle.hp_lookup.proofs.Views.{fill_view, fill_keeps}
 use Rattle.hp_lookup.proofs.Keys.{files_same}
 use Rattle.hp_lookup.proofs.Level.{same_level}
@@ -13,7 +13,7 @@ invariant_of-self g c =
     let s = c.self.inside in
     let k = c.args.file in
     let i = c.args.index in
-    files_same s.hints s.pages.store c.insert-number.new.self s.pages.more s.pages.more s.maps (count_of s.counts) s.list.files k c.index_mut-at.result.now
+    files_same s.hints s.pages.store c.insert-number.new.self s.pages.more s.pages.more s.maps (tally_of s.hints) s.list.files k c.index_mut-at.result.now
     c.fill.new.self (subst (λ v. k < length v.files) (sym c.self.view_is) c.requires.file) c.index_mut-at.ensures.value
     (ap label_of c.fill.ensures)
     (same_level c.index_mut-at.result.now.maps c.fill.new.self.maps (ap (λ (f : NumberedFile). f.maps) c.fill.ensures)) c.self.invariant

@@ -3,7 +3,7 @@ use Rattle.std.proofs.Common.{◌≡◌, false, refl, ap, subst, ◌∙◌, arit
 use Rattle.hp_laws.proofs.counts.Copies.{live_of}
 use Rattle.hp_mapping.specs.Mapped.{at_place, with_copy}
 use Rattle.hp_model.proofs.Words.{is_among, place_at, stamps_of}
-use Rattle.hp_lookup.proofs.Words.{Files, count_of, files_shown, label_of, map_among, mapping_at, parted_at}
+use Rattle.hp_lookup.proofs.Words.{Files, tally_of, files_shown, label_of, map_among, mapping_at, parted_at}
 use Rattle.hp_lookup.specs.declared.copy_state.CopyState.TheVariants as state
 use Rattle.hp_lookup.proofs.Keys.{files_same, same_label}
 use Rattle.hp_mount_files.proofs.Parting.{number, part_keeps, part_levels, part_once, part_view, room_there, still_there}
@@ -44,7 +44,7 @@ invariant_of-self g c =
     let several = (state_here c.self.view_is c.args.at.file c.args.at.map c.args.index state.HeldBySeveral c.requires.several) in
     let live = live_of (place_at (map_among (files_shown s.pages.store s.list.files) c.args.at.file c.args.at.map) c.args.index) several.0 several.1 in
     let is = c.self.invariant in
-    files_same s.hints s.pages.store c.drop_holder.new.pages.store s.pages.more c.drop_holder.new.pages.more s.maps (count_of s.counts) s.list.files c.args.at.file x
+    files_same s.hints s.pages.store c.drop_holder.new.pages.store s.pages.more c.drop_holder.new.pages.more s.maps (tally_of s.hints) s.list.files c.args.at.file x
     c.replace_copy-old.new.self (file_here c.self.view_is c.args.at.file c.requires.file) c.index_mut-file.ensures.value
     (ap label_of c.replace_copy-old.ensures.file ∙ same_label x c.args.at.map (at_place (with_copy n) c.args.index (mapping_at x c.args.at.map)) refl)
     (part_levels s.pages.store s.pages.more s.list.files c.self.invariant.held c.args.at.file c.args.at.map c.args.index

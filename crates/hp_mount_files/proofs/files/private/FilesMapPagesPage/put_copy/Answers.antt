@@ -1,7 +1,7 @@
 use Rattle.std.proofs.lemmas.Grind.{common_steps}
 use Rattle.std.proofs.Common.{refl, ◌≡◌, ◌-◌, ◌<◌, false, ap, subst, sym, ◌∙◌, arith, flat_map}
 use Rattle.hp_model.proofs.Words.{is_among, place_at, stamps_of}
-use Rattle.hp_lookup.proofs.Words.{Files, count_of, label_of, map_among, mapping_at}
+use Rattle.hp_lookup.proofs.Words.{Files, tally_of, label_of, map_among, mapping_at}
 use Rattle.hp_file.specs.Taking.{first_copy}
 use Rattle.hp_mapping.specs.Mapped.{at_place}
 use Rattle.hp_mount_files.proofs.HeldOnce.{put_once}
@@ -32,7 +32,7 @@ invariant_of-self g c =
     let n = c.insert-number.result in
     let bare = bare_place (place_at (map_among c.args.self.now.files c.args.at.file c.args.at.map) c.args.index) c.requires.live c.requires.bare in
     let place = place_here c.self.view_is c.args.at.file c.args.at.map c.args.index bare.1 in
-    files_same s.hints s.pages.store c.insert-number.new.self s.pages.more s.pages.more s.maps (count_of s.counts) s.list.files c.args.at.file x c.put_copy.new.self
+    files_same s.hints s.pages.store c.insert-number.new.self s.pages.more s.pages.more s.maps (tally_of s.hints) s.list.files c.args.at.file x c.put_copy.new.self
     (file_here c.self.view_is c.args.at.file c.requires.file) c.index_mut-file.ensures.value
     (ap label_of c.put_copy.ensures ∙ same_label x c.args.at.map (at_place (first_copy (mapping_at x c.args.at.map).owner n) c.args.index (mapping_at x c.args.at.map)) refl)
     (put_stays_level s.pages.store s.pages.more s.list.files c.self.invariant.held c.args.at.file c.args.at.map c.args.index

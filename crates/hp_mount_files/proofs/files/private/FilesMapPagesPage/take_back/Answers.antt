@@ -1,7 +1,7 @@
 use Rattle.std.proofs.lemmas.Grind.{common_steps}
 use Rattle.std.proofs.Common.{◌≡◌, Option, None, Some, refl, ap, subst, ◌∙◌, arith, IsSome, slice_set}
 use Rattle.hp_model.proofs.Words.{Copy, copy_of, place_at}
-use Rattle.hp_lookup.proofs.Words.{Files, IsLeft, count_of, map_among, taken_back_at}
+use Rattle.hp_lookup.proofs.Words.{Files, IsLeft, tally_of, map_among, taken_back_at}
 use Rattle.hp_mount_files.proofs.TakingBack.{back_files, back_keeps, back_left, back_once}
 use Rattle.hp_lookup.proofs.Views.{view}
 use Rattle.hp_mount_files.proofs.Here.{file_here, map_here, file_inside, map_inside, copy_inside, held_inside}
@@ -28,7 +28,7 @@ invariant_of-self g c =
     let s = c.self.inside in
     let found = some_value (copy_of (place_at (map_among c.args.self.now.files c.args.at.file c.args.at.map) c.args.index)) c.requires.copy in
     let there = ap (λ (v : Files). copy_of (place_at (map_among v.files c.args.at.file c.args.at.map) c.args.index)) c.self.view_is ∙ found.1 in
-    back_keeps s.hints s.pages.store c.take_back.new.pages.store s.pages.more c.take_back.new.pages.more s.maps (count_of s.counts) s.list.files c.self.invariant
+    back_keeps s.hints s.pages.store c.take_back.new.pages.store s.pages.more c.take_back.new.pages.more s.maps (tally_of s.hints) s.list.files c.self.invariant
     c.args.at.file c.args.at.map c.args.index (file_here c.self.view_is c.args.at.file c.requires.file)
     (map_here c.self.view_is c.args.at.file c.args.at.map c.requires.map) c.index_mut-file.result.now c.take_back.new.self
     c.index_mut-file.ensures.value c.take_back.ensures.file c.take_back.ensures.dropping.dropping c.take_back.ensures.dropping.counted found.0 there
@@ -36,7 +36,7 @@ invariant_of-self g c =
 pub returns-clause-files : goal.returns-clause-files
 returns-clause-files g c copy there =
     let s = c.self.inside in
-    back_files s.hints s.pages.store c.take_back.new.pages.store s.pages.more c.take_back.new.pages.more s.maps (count_of s.counts) s.list.files c.self.invariant
+    back_files s.hints s.pages.store c.take_back.new.pages.store s.pages.more c.take_back.new.pages.more s.maps (tally_of s.hints) s.list.files c.self.invariant
     c.args.at.file c.args.at.map c.args.index (file_here c.self.view_is c.args.at.file c.requires.file)
     (map_here c.self.view_is c.args.at.file c.args.at.map c.requires.map) c.index_mut-file.result.now c.take_back.new.self
     c.index_mut-file.ensures.value c.take_back.ensures.file c.take_back.ensures.dropping.dropping c.take_back.ensures.dropping.counted copy
@@ -49,7 +49,7 @@ returns-clause-left g c =
     let found = some_value (copy_of (place_at (map_among c.args.self.now.files c.args.at.file c.args.at.map) c.args.index)) c.requires.copy in
     let there = ap (λ (v : Files). copy_of (place_at (map_among v.files c.args.at.file c.args.at.map) c.args.index)) c.self.view_is ∙ found.1 in
     subst (λ v. IsLeft 0 v (view c.take_back.new.pages.store c.take_back.new.pages.more (slice_set s.list.files c.args.at.file c.take_back.new.self))) c.self.view_is
-    (back_left s.hints s.pages.store c.take_back.new.pages.store s.pages.more c.take_back.new.pages.more s.maps (count_of s.counts) s.list.files c.self.invariant
+    (back_left s.hints s.pages.store c.take_back.new.pages.store s.pages.more c.take_back.new.pages.more s.maps (tally_of s.hints) s.list.files c.self.invariant
     c.args.at.file c.args.at.map c.args.index (file_here c.self.view_is c.args.at.file c.requires.file)
     (map_here c.self.view_is c.args.at.file c.args.at.map c.requires.map) c.index_mut-file.result.now c.take_back.new.self
     c.index_mut-file.ensures.value c.take_back.ensures.file c.take_back.ensures.dropping.dropping c.take_back.ensures.dropping.counted found.0 there)
@@ -59,7 +59,7 @@ returns-clause-once g c =
     let s = c.self.inside in
     let found = some_value (copy_of (place_at (map_among c.args.self.now.files c.args.at.file c.args.at.map) c.args.index)) c.requires.copy in
     let there = ap (λ (v : Files). copy_of (place_at (map_among v.files c.args.at.file c.args.at.map) c.args.index)) c.self.view_is ∙ found.1 in
-    back_once s.hints s.pages.store c.take_back.new.pages.store s.pages.more c.take_back.new.pages.more s.maps (count_of s.counts) s.list.files c.self.invariant
+    back_once s.hints s.pages.store c.take_back.new.pages.store s.pages.more c.take_back.new.pages.more s.maps (tally_of s.hints) s.list.files c.self.invariant
     c.args.at.file c.args.at.map c.args.index (file_here c.self.view_is c.args.at.file c.requires.file)
     (map_here c.self.view_is c.args.at.file c.args.at.map c.requires.map) c.index_mut-file.result.now c.take_back.new.self
     c.index_mut-file.ensures.value c.take_back.ensures.file c.take_back.ensures.dropping.dropping c.take_back.ensures.dropping.counted found.0 there
