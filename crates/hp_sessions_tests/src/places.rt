@@ -1,5 +1,4 @@
 //! Each place, held while a session acts: which acts wait there, and what such an act holds meanwhile.
-ghost use Rattle.hp_sessions_tests.specs.Machines.{IsFit};
 
 use crate::gates::{Flag, Free, Hold, Place};
 use crate::machine::{Locks, Machine, Runs, Script};
