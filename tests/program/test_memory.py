@@ -409,7 +409,7 @@ ONE_BY_ONE = {
         ["connect 1 0", "create 0 h"], lambda at: ["map 1 0 h 0 1 shared noreserve"], 1024, 1
     ),
     "maps of tasks": Growing(
-        ["create 0 h"], lambda at: [f"connect {at} 0", f"map {at} 0 h 0 1 shared noreserve"], 1024, 1
+        ["create 0 h"], lambda at: [f"connect {at} 0", f"map {at} 0 h 0 1 shared noreserve"], 1024, 2
     ),
     "files": Growing([], lambda at: [f"create 0 f{at}"], 256),
     "files without a name": Growing(["connect 1 0"], lambda at: ["anon 1 1 shared noreserve"], 256, 2),
