@@ -55,6 +55,16 @@ def test_they_share_each_node(tmp_path: Path) -> None:
     assert answer["fits"] and pools(answer)[1024] == (True, 12, 16)
 
 
+def test_larger_pages_leave_room_for_what_is_bound_to_several_nodes(tmp_path: Path) -> None:
+    """Four pages of 1 GiB find room on the node that the 6 GiB bound to the other two do not want."""
+    host = '[host]\nnodes = ["4GiB", "4GiB", "4GiB"]\nkeep = 0\n'
+    large = '[[map]]\nmemory = "4GiB"\npage = "1GiB"\n'
+    small = '[[map]]\nmemory = "6GiB"\nnode = [0, 1]\nbind = true\n'
+    answer = told(tmp_path, host + large + small)
+    assert answer["fits"], answer["pools"]
+    assert not told(tmp_path, host + large.replace('"4GiB"', '"7GiB"') + small)["fits"]
+
+
 def test_a_mount_has_a_size_of_page(tmp_path: Path) -> None:
     """The programs on a mount have its pages; the overcommit is of the default size alone."""
     text = (
