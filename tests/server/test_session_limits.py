@@ -10,7 +10,8 @@ from serving import Serve, Server, rest_of, whole_replies
 # More of the most sessions than any number at which a body might give up.
 MOST_SESSIONS, MOST_WORKERS, MOST_PLACES = 65_535, 64, ELSEWHERE["most_places"]
 MANY_EVENTS = 1_100_000
-# How many places are filled to the last. HUGETLB_EVENTS=16777216 fills the most that there can be, in some minutes.
+# How many places are filled to the last. HUGETLB_EVENTS=16777216 fills the most that there can be, in some
+# minutes.
 FILLED = int(os.environ.get("HUGETLB_EVENTS", "100000"))
 # Addresses of clients by turns. One has some 28,000 ports, and a port rests for a while after its use: on a
 # quick machine one address would run out of them.
@@ -82,7 +83,8 @@ def test_keeps_and_audits_a_million_events(line: str) -> None:
 
 @pytest.mark.parametrize("count", [FILLED - 1, FILLED, FILLED + 1])
 def test_fills_its_places_to_the_last_and_audits_them(count: int) -> None:
-    """As many events as there are places, one fewer, and one more, which is refused: the audit joins all others."""
+    """As many events as there are places, one fewer, and one more, which is refused: the audit joins all
+    others."""
     with Server(PROGRAM, 1, 1, ["--slots", "1"], trace=FILLED) as server:
         replies = replies_in(asked(server.port, text_of(count * ["nr 4"])))
         assert len(replies) == count

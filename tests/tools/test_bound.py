@@ -1,5 +1,5 @@
-"""Where pages stand that are bound to several nodes: as many as could stand in any way, and none in room that there
-is not."""
+"""Where pages stand that are bound to several nodes: as many as could stand in any way, and none in room that
+there is not."""
 import random
 from itertools import chain, combinations
 
