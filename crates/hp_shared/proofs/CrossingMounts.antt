@@ -25,11 +25,12 @@ use Rattle.hp_file.specs.contracts.file.File as File
 use Rattle.hp_file.specs.contracts.file_list.FileList as FileList
 use Rattle.hp_mount_files.specs.contracts.files.Files as Files
 use Rattle.hp_lookup.specs.contracts.hints.Hints as Hints
+use Rattle.hp_lookup.specs.contracts.map_table.MapTable as MapTable
 use Rattle.hp_lookup.specs.contracts.name.FileName as FileName
 use Rattle.hp_lookup.specs.contracts.name.FileName.TheInside as FileNameInside
 use Rattle.hp_lookup.specs.contracts.name_bytes.NameBytes as NameBytes
 use Rattle.hp_lookup.specs.contracts.tagged.Tagged as Tagged
-use Rattle.hp_lookup.specs.contracts.task_counts.TaskCounts as TaskCounts
+use Rattle.hp_lookup.specs.contracts.task_maps.TaskMaps as TaskMaps
 use Rattle.hp_nodes.proofs.Crossing.{page_send}
 use Rattle.hp_permit.proofs.Crossing.{permit_send}
 use Rattle.hp_store.specs.contracts.holdings.Holdings as Holdings
@@ -98,11 +99,14 @@ file_list_send = files.file_list_send file_send
 tagged_send : (K T : RattleType) → IsSend K → IsSend T → IsSend (Tagged.the_row K T)
 tagged_send K T k t = search (sendable, crosses) depth 30
 
-task_counts_send : IsSend TaskCounts.the_row
-task_counts_send = search (sendable, crosses) depth 40 fits 5000
+task_maps_send : IsSend TaskMaps.the_row
+task_maps_send = search (sendable, crosses, tagged_send) depth 40 fits 5000
+
+map_table_send : IsSend MapTable.the_row
+map_table_send = search (sendable, crosses, task_maps_send) depth 40 fits 5000
 
 hints_send : IsSend Hints.the_row
-hints_send = search (sendable, crosses, tagged_send, file_name_send) depth 40 fits 5000
+hints_send = search (sendable, crosses, tagged_send, file_name_send, map_table_send) depth 40 fits 5000
 
 module _ (N : RattleType) (names : Ghosts N.Denot) where
   subpool_send : IsSend (Subpool.the_row N names)
@@ -118,7 +122,7 @@ module _ (N : RattleType) (names : Ghosts N.Denot) where
   store_send = search (sendable, crosses, slots_send, page_send) depth 30
 
   files_send : IsSend (Files.the_row N names)
-  files_send = search (sendable, crosses, store_send, file_list_send, task_counts_send, hints_send) depth 40 fits 5000
+  files_send = search (sendable, crosses, store_send, file_list_send, hints_send) depth 40 fits 5000
 
   pub mount_send : IsSend (Mount.the_row N names)
   mount_send = search (sendable, subpool_send, files_send) depth 40
