@@ -35,7 +35,7 @@ NAMES_IT = re.compile(r"AllocError|AllocFailed|OutOfMemory|\bMemory\b|out of mem
 OUTER = ("hp_serving_tests", "hp_server_tests")
 # In these several threads meet: where one is refused memory the others have other replies. They are run once,
 # too.
-TOGETHER = ("places::", "rows::", "stress::", "filling::", "making::")
+TOGETHER = ("rows::", "stress::", "filling::", "making::")
 WORDS = [
     ["--help"],
     ["--version"],

@@ -2,6 +2,8 @@
 #![tactic(auto)]
 
 #[cfg(test)]
+mod acts;
+#[cfg(test)]
 mod asking;
 #[cfg(test)]
 mod draws;
@@ -20,8 +22,6 @@ mod machine;
 #[cfg(test)]
 mod making;
 #[cfg(test)]
-mod places;
-#[cfg(test)]
 mod playing;
 #[cfg(test)]
 mod preallocating;
@@ -39,5 +39,3 @@ mod steps;
 mod stress;
 #[cfg(test)]
 mod whole;
-#[cfg(test)]
-mod works;
