@@ -102,3 +102,13 @@ def tell_of_crates() -> Iterator[Fault]:
             for other in {it for it in named if it in wanted and it != name}:
                 if name not in wanted[other] and not any(name in wanted.get(it, []) for it in wanted[other]):
                     yield readme, at, f"names a caller in {other}, which does not stand on it"
+
+
+def words_stand_in_their_crates() -> Iterator[Fault]:
+    """Where the glossary gives a word a crate, the crate's README has the word, in a form of its own."""
+    page = TOP / "docs/dev/GLOSSARY.md"
+    for at, line in numbered(page):
+        found = re.match(r"- \*\*([^*]+)\*\*: .*\((hp_\w+)\)", line)
+        readme = TOP / "crates" / found[2] / "README.md" if found else page
+        if found and (not readme.is_file() or found[1] not in readme.read_text().lower()):
+            yield page, at, f"gives {found[1]} to {found[2]}, whose README has no such word: name its crate"

@@ -44,15 +44,27 @@ def run(program: Path) -> built.Run:
     return run
 
 
+def preloaded(source: Path, folder: Path) -> Path:
+    """The library of a source in C."""
+    library = folder / f"{source.stem}.so"
+    compiler = next((it for it in (os.environ.get("CC"), "cc", "gcc", "clang") if it and which(it)), None)
+    assert compiler, f"no C compiler was found for {source}: set CC"
+    subprocess.run([compiler, "-O2", "-shared", "-fPIC", "-o", library, source], check=True)
+    return library
+
+
 @pytest.fixture(scope="session")
 def refuse(tmp_path_factory: pytest.TempPathFactory) -> Path:
     """The library of tests/refuse.c."""
-    library = tmp_path_factory.mktemp("refuse") / "refuse.so"
-    compiler = next((it for it in (os.environ.get("CC"), "cc", "gcc", "clang") if it and which(it)), None)
-    assert compiler, "no C compiler was found for tests/refuse.c: set CC"
-    source = built.TOP / "tests/refuse.c"
-    subprocess.run([compiler, "-O2", "-shared", "-fPIC", "-o", library, source], check=True)
-    return library
+    return preloaded(built.TOP / "tests/refuse.c", tmp_path_factory.mktemp("refuse"))
+
+
+@pytest.fixture(scope="session")
+def on_disk(tmp_path_factory: pytest.TempPathFactory) -> list[str]:
+    """The words before a program whose large blocks are to be on disk."""
+    folder = tmp_path_factory.mktemp("on-disk")
+    library = preloaded(built.TOP / "tests/server/on_disk.c", folder)
+    return ["env", f"LD_PRELOAD={library}", f"ON_DISK={os.environ.get('HUGETLB_DISK', folder)}"]
 
 
 @pytest.fixture

@@ -1,4 +1,8 @@
-"""Every limit of the profile, with lines one below it, at it and one above, and their last reply."""
+"""Every limit of the profile, with lines one below it, at it and one above, and their last reply; and those
+of the program's words.
+
+The lint compares them with the definitions, the code, the help and PROTOCOL.md.
+"""
 from collections.abc import Iterator
 from dataclasses import dataclass, field
 
@@ -347,6 +351,24 @@ LIMITS = [
     of_nodes(),
     *of_pages(),
 ]
+# The limits of words alone.
+OF_WORDS = {"most_port": 65_535, "most_sessions": 65_535, "most_workers": 64, "most_idle": 4_294_967_295}
+# What the help says of an option's values, by the names of limits.
+TOLD = {
+    "frames": "1 to {most_frames}, of 1 to {most_nodes} nodes",
+    "page": "a power of two, {least_page_bytes} to {most_page_bytes}",
+    "slots": "1 to {most_slots}",
+    "port": "0 to {most_port}",
+    "sessions": "1 to {most_sessions}",
+    "workers": "1 to {most_workers}",
+    "trace": "0 to {most_places}",
+    "idle": "0 to {most_idle}",
+}
+
+
+def profile() -> dict[str, int]:
+    """Each limit of the definitions by its name."""
+    return {it.name: it.value for it in LIMITS} | ELSEWHERE
 
 
 def sizes() -> Iterator[tuple[str, Size]]:

@@ -35,7 +35,7 @@ NAMES_IT = re.compile(r"AllocError|AllocFailed|OutOfMemory|\bMemory\b|out of mem
 OUTER = ("hp_serving_tests", "hp_server_tests")
 # In these several threads meet: where one is refused memory the others have other replies. They are run once,
 # too.
-TOGETHER = ("rows::", "stress::", "filling::", "making::")
+TOGETHER = ("places::", "rows::", "stress::", "filling::", "making::")
 WORDS = [
     ["--help"],
     ["--version"],
@@ -279,7 +279,9 @@ def begun(
 ) -> Iterator[dict[str, Future[None]]]:
     """The tries that this run has of this file, begun side by side, by the names of the tests that wait."""
     folder = tmp_path_factory.mktemp("reports")
-    items: list[Any] = [it for it in request.session.items if getattr(it, "module", None) is request.module]
+    items: list[Any] = [
+        it for it in request.session.items if isinstance(it, pytest.Function) and it.module is request.module
+    ]
     with ThreadPoolExecutor(len(os.sched_getaffinity(0))) as pool:
 
         def begin(at: int, tries: Callable[..., None], *given: object) -> Future[None]:

@@ -88,6 +88,38 @@ def texts(case: Case) -> Iterator[tuple[str, str]]:
             yield line[:-1].decode("latin-1"), reply.decode()
 
 
+# The method of each command.
+METHODS: tuple[Callable[..., object], ...] = (
+    Session.connect,
+    Session.attach,
+    Session.fork,
+    Session.exit,
+    Session.mount,
+    Session.remount,
+    Session.umount,
+    Session.create,
+    Session.unlink,
+    Session.truncate,
+    Session.punch,
+    Session.preallocate,
+    Session.read,
+    Session.ls,
+    Session.stat,
+    Session.map,
+    Session.anon,
+    Session.unmap,
+    Session.fault,
+    Session.load,
+    Session.store,
+    Session.nr,
+    Session.overcommit,
+    Session.meminfo,
+    Session.nodes,
+    Session.df,
+)
+BY_NAME = {it.__name__: it for it in METHODS}
+
+
 def called(session: Session, line: str) -> str:
     """Calls the method that a line names, and writes its value as the reply was."""
     command, *words = line.split(" ")
@@ -97,7 +129,7 @@ def called(session: Session, line: str) -> str:
     if command in ("map", "anon") and words[-1] == "noreserve":
         arguments[-1] = True
     try:
-        return as_text(command, getattr(session, command)(*arguments))
+        return as_text(command, BY_NAME[command](session, *arguments))
     except Refused as refused:
         return f"error {refused.number} {refused.name}\n"
 

@@ -48,7 +48,7 @@ def first(tmp_path_factory: pytest.TempPathFactory) -> Path:
     kit = code.rattle.Kit("wrong-bodies")
     sums = code.Sums(code.rattle.logic(kit.folder))
     for crate in kit.crates(top).values():
-        code.keep(crate, code.Trial(crate, sums, anew=False).sums)
+        code.keep(crate, code.trial_of(crate, sums, anew=False).sums)
     return top
 
 

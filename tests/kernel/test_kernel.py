@@ -95,4 +95,5 @@ def test_document_tells_of_all() -> None:
     alike, text = sum(len(it.lines) for it in SCRIPTS) - len(KNOWN), DOCUMENT.read_text()
     told = f"Of the answers to {len(SCRIPTS)} scripts {alike:,} are the kernel's. {len(KNOWN)} are not"
     assert told in text
+    assert set(re.findall(r"\b(\d+) scripts\b", text)) == {str(len(SCRIPTS))}
     assert sorted({it.name for it in KNOWN.values()} - set(re.findall(r"### `(.*)`", text))) == []

@@ -6,8 +6,10 @@ import re
 import subprocess
 import sys
 import urllib.request
+from collections.abc import Iterable, Iterator, Mapping
 from pathlib import Path
 from shutil import which
+from typing import Any
 
 import pytest
 from built import PROGRAM, QUICK, SECONDS, TOP, version, version_line
@@ -19,7 +21,12 @@ WHERE = ["PREFIX=/usr", "MODULES=/usr/lib/python3/modules"]
 HOME = {"PATH": os.environ["PATH"], "HOME": "/nonexistent"}
 
 
-def run(words, environment=None, cwd=None, script=b""):
+def run(
+    words: Iterable[object],
+    environment: Mapping[str, str] | None = None,
+    cwd: Path | str | None = None,
+    script: bytes = b"",
+) -> "subprocess.CompletedProcess[bytes]":
     return subprocess.run(
         [str(word) for word in words],
         input=script,
@@ -30,19 +37,19 @@ def run(words, environment=None, cwd=None, script=b""):
     )
 
 
-def make(folder, *words):
+def make(folder: Path, *words: str) -> "subprocess.CompletedProcess[bytes]":
     return run(["make", "-s", "-C", TOP, *words, f"DESTDIR={folder}", *WHERE])
 
 
 @pytest.fixture
-def usr(tmp_path):
+def usr(tmp_path: Path) -> Path:
     """A folder into which all is installed, below `tmp_path`."""
     ran = make(tmp_path, "install", f"PROGRAM={PROGRAM}")
     assert ran.returncode == 0, ran.stderr.decode()
     return tmp_path / "usr"
 
 
-def files_of(folder):
+def files_of(folder: Path) -> list[str]:
     return sorted(str(path.relative_to(folder)) for path in folder.rglob("*") if not path.is_dir())
 
 
@@ -110,11 +117,11 @@ def test_takes_what_run_would(tmp_path: Path) -> None:
         assert chosen.stderr.strip() in ran.stderr
 
 
-def is_proved(program):
+def is_proved(program: Path) -> bool:
     return run([PACKAGING / "is-proved", program]).stdout.decode().strip() == "yes"
 
 
-def links_of(folder):
+def links_of(folder: Path) -> Iterator[tuple[Path, str]]:
     """Each link of the installed documents to a file, with the document."""
     for document in folder.rglob("*.md"):
         for path in re.findall(r"\]\(([^)\s#]+)", document.read_text()):
@@ -122,7 +129,7 @@ def links_of(folder):
                 yield document, path
 
 
-def dead_links(folder):
+def dead_links(folder: Path) -> list[tuple[str, str]]:
     return [
         (document.name, path) for document, path in links_of(folder) if not (document.parent / path).exists()
     ]
@@ -134,7 +141,7 @@ def test_links_lead_somewhere(usr: Path) -> None:
     assert dead_links(doc) == [] and len(list(links_of(doc))) > 10
 
 
-def other_program(folder):
+def other_program(folder: Path) -> Path:
     """A program that does what the tested one does, and is not it: one byte stands behind its end."""
     program = folder / "other-hugetlbd"
     program.write_bytes(PROGRAM.read_bytes() + b"\0")
@@ -169,10 +176,12 @@ define void @one(ptr %r0) {
 """.splitlines()
 
 
-def quick():
+def quick() -> Any:
     """The commands of .ci/quick."""
     loader = importlib.machinery.SourceFileLoader("quick", str(TOP / ".ci/quick"))
-    module = importlib.util.module_from_spec(importlib.util.spec_from_loader("quick", loader))
+    spec = importlib.util.spec_from_loader("quick", loader)
+    assert spec is not None
+    module = importlib.util.module_from_spec(spec)
     loader.exec_module(module)
     return module
 
@@ -184,8 +193,8 @@ def test_a_build_with_no_proofs_says_so_in_its_version(monkeypatch: pytest.Monke
     module = quick()
     made = [*module.with_word_of_proofs(MODULE)]
     assert (
-        made[1]
-        == '@static.6 = private unnamed_addr constant [38 x i8] c"hugetlbd 0.2.0 (built without proofs)\\0A", align 1'
+        made[1] == "@static.6 = private unnamed_addr constant [38 x i8] "
+        'c"hugetlbd 0.2.0 (built without proofs)\\0A", align 1'
     )
     assert [at for at, (old, new) in enumerate(zip(MODULE, made, strict=True)) if old != new] == [1, 5]
     assert made[5] == "  store i64 38, ptr %r1, align 8"
@@ -206,7 +215,7 @@ def test_a_proved_program_says_nothing_of_the_kind() -> None:
     assert run([TOP / "out/hugetlbd", "--version"]).stdout == f"hugetlbd {version()}\n".encode()
 
 
-def make_deb(program):
+def make_deb(program: Path) -> Path:
     ran = run(
         [
             "make",
@@ -247,7 +256,7 @@ def test_makes_a_deb(tmp_path: Path) -> None:
         assert [line for line in ran.stdout.decode().splitlines() if not re.search(ALLOWED, line)] == []
 
 
-def dpkg(root, *words):
+def dpkg(root: Path, *words: object) -> "subprocess.CompletedProcess[bytes]":
     return run(
         [
             "dpkg",
@@ -284,12 +293,13 @@ def test_the_deb_is_installed_and_runs(tmp_path: Path) -> None:
         assert run([usr / "bin/hugetlbctl", "--version"]).stdout.startswith(
             b"hugetlbctl " + version().encode()
         )
-        for words in (
+        asked: list[list[object]] = [
             ["observe"],
             ["who"],
             ["help"],
             ["plan", "--from", usr / "share/doc/hugetlbd/examples/libvirt.xml"],
-        ):
+        ]
+        for words in asked:
             assert run([usr / "bin/hugetlbctl", *words]).returncode == 0
         modules = {"PYTHONPATH": str(usr / "lib/python3/dist-packages"), "PYTHONDONTWRITEBYTECODE": "1"}
         assert (
@@ -303,7 +313,8 @@ def test_the_deb_is_installed_and_runs(tmp_path: Path) -> None:
         for name in ("hugetlbd", "hugetlbctl"):
             ran = run(["man", "-M", usr / "share/man", name], {"MANPAGER": "cat", "MANWIDTH": "100"})
             assert ran.returncode == 0 and name.upper().encode() in ran.stdout
-    completes = f"source {usr}/share/bash-completion/completions/hugetlbctl; COMP_WORDS=(hugetlbctl wh); COMP_CWORD=1; _hugetlbctl; echo ${{COMPREPLY[@]}}"
+    completes = f"source {usr}/share/bash-completion/completions/hugetlbctl; "
+    completes += "COMP_WORDS=(hugetlbctl wh); COMP_CWORD=1; _hugetlbctl; echo ${COMPREPLY[@]}"
     assert run(["bash", "-c", completes], cwd=tmp_path).stdout == b"who\n"
     assert dead_links(usr / "share/doc/hugetlbd") == []
     if which("systemd-analyze"):
@@ -333,10 +344,8 @@ def test_is_one_version() -> None:
         assert set(re.findall(r"hugetlbd (\d+\.\d+\.\d+)", (PACKAGING / name).read_text())) == {
             version()
         }, name
-    assert (
-        re.search(r'needed="(.*)"', (TOP / ".ci/kit").read_text())[1]
-        in (PACKAGING / "hugetlbd.1").read_text()
-    )
+    needed = re.search(r'needed="(.*)"', (TOP / ".ci/kit").read_text())
+    assert needed and needed[1] in (PACKAGING / "hugetlbd.1").read_text()
 
 
 def test_has_a_manual() -> None:
@@ -388,10 +397,11 @@ def test_man_finds_the_manual(usr: Path) -> None:
         "hugetlbctl plan --s": ["--svg", "--sysctl"],
     }.items(),
 )
-def test_completes(line: str, wanted) -> None:
+def test_completes(line: str, wanted: list[str]) -> None:
     """Words of each option and the subcommand, in bash."""
     typed = line.split(" ")
-    script = f"source {PACKAGING}/hugetlbd.bash; COMP_WORDS=({' '.join(repr(it) for it in typed)}); COMP_CWORD={len(typed) - 1}; "
+    script = f"source {PACKAGING}/hugetlbd.bash; COMP_WORDS=({' '.join(repr(it) for it in typed)}); "
+    script += f"COMP_CWORD={len(typed) - 1}; "
     script += f"_{typed[0]}; printf '%s\\n' \"${{COMPREPLY[@]}}\""
     assert run(["bash", "-c", script], cwd=TOP).stdout.decode().split() == wanted
 
@@ -402,7 +412,7 @@ def test_completions_have_each_option() -> None:
     assert [option for option in re.findall(r"--[a-z]+", told) if option not in bash] == []
     told = "".join(
         run([TOP / "tools/hugetlbctl", *words, "--help"]).stdout.decode()
-        for words in ([], ["plan"], ["observe"], ["who"])
+        for words in (list[str](), ["plan"], ["observe"], ["who"])
     )
     assert [
         option for option in set(re.findall(r"--[a-z]+", told)) if option not in bash or option not in zsh
@@ -425,7 +435,7 @@ def test_has_a_unit(name: str, usr: Path, tmp_path: Path) -> None:
         assert [line for line in ran.stderr.decode().splitlines() if f"{name}.service" in line] == []
 
 
-def settings_of(name):
+def settings_of(name: str) -> dict[str, str]:
     """The settings of a unit's service."""
     lines = (PACKAGING / f"{name}.service.in").read_text().splitlines()
     return {
@@ -447,10 +457,12 @@ def test_the_exporter_serves_what_its_unit_says(usr: Path) -> None:
         stdout=subprocess.PIPE,
         text=True,
     )
+    assert server.stdout is not None
     port = server.stdout.readline().split()[1]
     words[words.index("--port") + 1], words[words.index("--listen") + 1] = port, "0"
     exporter = subprocess.Popen(words, stdout=subprocess.PIPE, text=True, env=HOME)
     try:
+        assert exporter.stdout is not None
         address = exporter.stdout.readline().split()[-1]
         told = urllib.request.urlopen(address, timeout=SECONDS).read().decode()
         assert "hugetlb_page_size_bytes 1024" in told
@@ -460,22 +472,18 @@ def test_the_exporter_serves_what_its_unit_says(usr: Path) -> None:
             one.communicate()
 
 
-def bytes_of(text):
+def bytes_of(text: str) -> int:
     """A size as units of systemd write it."""
-    return int(text.rstrip("KMGT")) * 1024 ** " KMGT".index(text[-1]) if text[-1] in "KMGT" else int(text)
+    power = " KMGT".index(text[-1]) if text[-1] in "KMGT" else 0
+    return int(text.rstrip("KMGT")) << 10 * power
 
 
 def test_has_a_unit_that_lasts() -> None:
     """The unit's server keeps no trails, serves as many sessions as it can, is started again after any end,
     and may have memory for all its frames."""
-    lines = (PACKAGING / "hugetlbd.service.in").read_text().splitlines()
-    settings = {
-        name: value
-        for name, at, value in (line.partition("=") for line in lines if not line.startswith("#"))
-        if at
-    }
-    words = settings["ExecStart"].split()[2:]
-    words = dict(zip(words[::2], words[1::2]))
+    settings = settings_of("hugetlbd")
+    line = settings["ExecStart"].split()[2:]
+    words = dict(zip(line[::2], line[1::2]))
     assert (words["--trace"], words["--sessions"], settings["Restart"]) == ("0", "65535", "always")
     frames = sum(map(int, words["--frames"].split(","))) * int(words["--page"])
     assert bytes_of(settings.get("MemoryMax", "1024T")) > frames

@@ -10,6 +10,7 @@ import socket
 import subprocess
 import sys
 import time
+import urllib.request
 from collections.abc import Callable, Iterator
 from pathlib import Path
 from shutil import which
@@ -18,23 +19,20 @@ import pytest
 from built import PROGRAM, SECONDS, TOP
 
 UNIT = TOP / "packaging/hugetlbd.service.in"
+EXPORTER = TOP / "packaging/hugetlbd-exporter.service.in"
 # What it leaves open at most, as systemd counts it.
 MOST_EXPOSURE = 1.2
-# Each setting that keeps the service in, or starts it again.
-SETTINGS = {
+# The settings of both units that keep the service in, or start it again.
+COMMON = {
     "CapabilityBoundingSet": [""],
     "DynamicUser": ["yes"],
     "IPAddressAllow": ["localhost"],
     "IPAddressDeny": ["any"],
-    "LimitNOFILE": ["1024"],
     "LockPersonality": ["yes"],
-    "MemoryDenyWriteExecute": ["yes"],
     "NoNewPrivileges": ["yes"],
     "PrivateDevices": ["yes"],
-    "PrivateMounts": ["yes"],
     "PrivateTmp": ["yes"],
     "PrivateUsers": ["yes"],
-    "ProcSubset": ["pid"],
     "ProtectClock": ["yes"],
     "ProtectControlGroups": ["yes"],
     "ProtectHome": ["yes"],
@@ -46,7 +44,6 @@ SETTINGS = {
     "ProtectSystem": ["strict"],
     "Restart": ["always"],
     "RestartPreventExitStatus": ["2"],
-    "RestartSec": ["100ms"],
     "RestrictAddressFamilies": ["AF_INET"],
     "RestrictNamespaces": ["yes"],
     "RestrictRealtime": ["yes"],
@@ -55,8 +52,30 @@ SETTINGS = {
     "SystemCallFilter": ["@system-service", "~@privileged @resources"],
     "Type": ["exec"],
     "UMask": ["0077"],
-    "Environment": ["MALLOC_ARENA_MAX=1"],
+    "WantedBy": ["multi-user.target"],
 }
+# All settings of each, but for what it says of itself and its command.
+SETTINGS = {
+    "hugetlbd": COMMON
+    | {
+        "Environment": ["MALLOC_ARENA_MAX=1"],
+        "LimitNOFILE": ["1024"],
+        "MemoryDenyWriteExecute": ["yes"],
+        "PrivateMounts": ["yes"],
+        "ProcSubset": ["pid"],
+        "RestartSec": ["100ms"],
+    },
+    "hugetlbd-exporter": COMMON
+    | {
+        "After": ["hugetlbd.service"],
+        "MemoryMax": ["256M"],
+        "RestartSec": ["1"],
+        "RestrictSUIDSGID": ["yes"],
+        "TasksMax": ["64"],
+        "Wants": ["hugetlbd.service"],
+    },
+}
+TOLD = {"Description", "Documentation", "ExecStart"}
 by_analysis = pytest.mark.skipif(not which("systemd-analyze"), reason="systemd-analyze is not here")
 SCRIPT = "nr 4\nconnect 1 0\nanon 1 2 private\nstore 1 0 1 0 0 61\nload 1 0 1 0 0 2\nexit 1\n"
 REPLIES = "ok 4\nok\nok 1\nok\nok 6100\nok\n"
@@ -72,9 +91,9 @@ def settings(text: str) -> dict[str, list[str]]:
     return found
 
 
-def command() -> list[str]:
-    """The words of the unit behind its program."""
-    return settings(UNIT.read_text())["ExecStart"][0].split()[1:]
+def command(unit: Path = UNIT) -> list[str]:
+    """The words of a unit behind its program."""
+    return settings(unit.read_text())["ExecStart"][0].split()[1:]
 
 
 def written(folder: Path, prefix: str, change: Callable[[str], str] = str) -> Path:
@@ -97,11 +116,16 @@ def exposure(unit: Path) -> float:
     return float(said[1])
 
 
-def test_has_each_setting() -> None:
-    found = settings(UNIT.read_text())
-    assert {name: found.get(name) for name in SETTINGS} == SETTINGS
-    words = command()
-    assert words[words.index("--idle") + 1] == "600"
+@pytest.mark.parametrize("name", SETTINGS)
+def test_has_each_setting(name: str) -> None:
+    """None is missing or changed, and there is no other."""
+    found = settings((TOP / f"packaging/{name}.service.in").read_text())
+    assert {setting: it for setting, it in found.items() if setting not in TOLD} == SETTINGS[name]
+
+
+def test_ends_silent_clients_and_serves_several() -> None:
+    words = dict(zip(command()[1::2], command()[2::2]))
+    assert words["--idle"] == "600" and int(words["--workers"]) > 1
 
 
 @by_analysis
@@ -149,10 +173,10 @@ def calls_of(name: str) -> set[str]:
 
 
 def allowed() -> set[str]:
-    """The system calls that the unit allows: of its lines, the first adds, and one that begins with ~ takes
+    """The system calls that both units allow: of the lines, the first adds, and one that begins with ~ takes
     away."""
     calls: set[str] = set()
-    for line in settings(UNIT.read_text())["SystemCallFilter"]:
+    for line in COMMON["SystemCallFilter"]:
         taken = {it for name in line.removeprefix("~").split() for it in calls_of(name)}
         calls = calls - taken if line.startswith("~") else calls | taken
     return calls
@@ -174,7 +198,7 @@ def filtered(calls: set[str]) -> Callable[[], None]:
 
     def load() -> None:
         os.umask(0o077)
-        files = int(SETTINGS["LimitNOFILE"][0])
+        files = int(SETTINGS["hugetlbd"]["LimitNOFILE"][0])
         resource.setrlimit(resource.RLIMIT_NOFILE, (files, files))
         if library.seccomp_load(rules) != 0:
             os._exit(99)
@@ -198,12 +222,15 @@ def served(port: int) -> str:
         return b"".join(iter(lambda: link.recv(65536), b"")).decode()
 
 
-@pytest.mark.skipif(not has_seccomp(), reason="libseccomp or systemd-analyze is not here")
+by_seccomp = pytest.mark.skipif(not has_seccomp(), reason="libseccomp or systemd-analyze is not here")
+
+
+@by_seccomp
 def test_serves_under_its_limits() -> None:
     """The unit's command serves clients with its system calls, descriptors and environment alone; with one
     set of calls less it does not."""
     words = [re.sub("^7070$", "0", it) for it in command()]
-    home = dict([it.split("=") for it in SETTINGS["Environment"]])
+    home = dict([it.split("=") for it in SETTINGS["hugetlbd"]["Environment"]])
 
     def started(calls: set[str]) -> subprocess.Popen[str]:
         return subprocess.Popen(
@@ -226,6 +253,49 @@ def test_serves_under_its_limits() -> None:
             program.kill()
     with started(allowed() - calls_of("@network-io")) as program:
         assert program.wait(SECONDS) == -signal.SIGSYS
+
+
+@by_seccomp
+def test_the_exporter_serves_under_its_limits() -> None:
+    """Its unit's command tells the counts with its system calls alone, in little memory and few threads, and
+    without network calls it does not."""
+    words = [str(TOP / "tools/hugetlbctl"), *command(EXPORTER)]
+    words[words.index("--listen") + 1] = "0"
+    served = ["serve", "--port", "0", "--sessions", "2", "--workers", "1", "--trace", "0"]
+    with subprocess.Popen([PROGRAM, *served], stdout=subprocess.PIPE, text=True) as server:
+        assert server.stdout is not None
+        words[words.index("--port") + 1] = server.stdout.readline().split()[1]
+
+        def started(calls: set[str]) -> subprocess.Popen[str]:
+            return subprocess.Popen(
+                [sys.executable, *words],
+                stdin=subprocess.DEVNULL,
+                stdout=subprocess.PIPE,
+                stderr=subprocess.DEVNULL,
+                text=True,
+                env={"PATH": os.environ["PATH"]},
+                preexec_fn=filtered(calls),
+            )
+
+        try:
+            with started(allowed() - calls_of("@network-io")) as exporter:
+                assert exporter.wait(SECONDS) == -signal.SIGSYS
+            with started(allowed()) as exporter:
+                try:
+                    assert exporter.stdout is not None
+                    at = exporter.stdout.readline().split()[-1]
+                    for _ in range(20):
+                        with urllib.request.urlopen(at, timeout=SECONDS) as told:
+                            assert b"hugetlb_page_size_bytes 1024" in told.read()
+                    status = Path(f"/proc/{exporter.pid}/status").read_text()
+                finally:
+                    exporter.kill()
+        finally:
+            server.kill()
+    kilobytes, threads = (re.search(rf"(?m)^{name}:\s+(\d+)", status) for name in ("VmHWM", "Threads"))
+    limits = SETTINGS["hugetlbd-exporter"]
+    assert kilobytes and int(kilobytes[1]) < int(limits["MemoryMax"][0].removesuffix("M")) << 9
+    assert threads and int(threads[1]) < int(limits["TasksMax"][0])
 
 
 # ---- under a systemd of its own

@@ -5,10 +5,9 @@ from collections.abc import Callable
 from pathlib import Path
 
 import pytest
-from built import TOP, replies_in, text_of
-from limit_table import ELSEWHERE, LIMITS, Size, sizes
+from built import replies_in, text_of
+from limit_table import ELSEWHERE, OF_WORDS, Size, sizes
 
-ALL = {it.name: it.value for it in LIMITS} | ELSEWHERE
 SECONDS = 60
 
 
@@ -20,33 +19,30 @@ def test_answers_within_and_refuses_above(run: Callable[..., tuple[int, bytes, b
     assert replies[-len(size.replies) :] == size.replies
 
 
-def test_the_table_has_all_limits_of_the_definitions() -> None:
-    """By name and value, as the definitions and the code have them."""
-    text = (TOP / "crates/hp_model/specs/Profile.antt").read_text()
-    told = {name: int(value) for name, value in re.findall(r"(?m)^(\w+) = (\d+)$", text)}
-    told["most_frames_in_all"] = told["most_nodes"] * told["most_frames"]
-    assert told == ALL
-    code = (TOP / "crates/hp_model/src/profile.rt").read_text()
-    constants = {
-        name.lower(): int(value.replace("_", ""))
-        for name, value in re.findall(r"pub const (\w+): \w+ = ([\d_]+);", code)
-    }
-    assert constants.items() <= ALL.items()
+def started(program: Path, option: str, value: int) -> str:
+    """The first line of a server with this value of an option, or of its fault, with no numbers."""
+    values = {"port": 0, "sessions": 1, "workers": 1, "trace": 0} | {option: value}
+    words = [word for name, it in values.items() for word in (f"--{name}", str(it))]
+    with subprocess.Popen(
+        [program, "serve", *words], stdout=subprocess.PIPE, stderr=subprocess.STDOUT, text=True
+    ) as server:
+        assert server.stdout
+        try:
+            return re.sub(r"\d+", "N", server.stdout.readline())
+        finally:
+            server.kill()
 
 
-@pytest.mark.parametrize(
-    "words, name",
-    [
-        ("frames of each node, in pages: 1 to {}", "most_frames"),
-        ("of 1 to {} nodes", "most_nodes"),
-        ("a power of two, 1024 to {}", "most_page_bytes"),
-        ("mounts: 1 to {}", "most_slots"),
-        ("0 to {}; at 0 none", "most_places"),
-    ],
-)
-def test_the_words_tell_the_limits(words: str, name: str) -> None:
-    help_text = " ".join((TOP / "tests/help.txt").read_text().split())
-    assert words.format(ALL[name]) in help_text
+@pytest.mark.parametrize("name", OF_WORDS)
+def test_serves_with_words_up_to_their_limit(program: Path, name: str) -> None:
+    """Also with a worker for each of the most sessions at a time; a port may be another's."""
+    option, most = name.removeprefix("most_"), OF_WORDS[name]
+    may = {"port N\n"} | ({"hugetlbd: network failed\n"} if name == "most_port" else set())
+    assert {started(program, option, value) for value in (most - 1, most)} <= may
+    words = ["serve", "--port=0", "--sessions=1", "--workers=1", "--trace=0"]
+    words = [it for it in words if not it.startswith(f"--{option}=")]
+    ran = subprocess.run([program, *words, f"--{option}={most + 1}"], capture_output=True, timeout=SECONDS)
+    assert (ran.returncode, ran.stderr) == (2, f"hugetlbd: bad value for --{option}\n".encode())
 
 
 def fed(program: Path, count: int, end: bytes) -> tuple[int, bytes, bytes]:
@@ -70,7 +66,7 @@ def fed(program: Path, count: int, end: bytes) -> tuple[int, bytes, bytes]:
 def test_takes_an_input_of_so_many_bytes(program: Path, more: int, ended: bool) -> None:
     """The last line of an input at the limit has its reply; one byte more, and it has none."""
     line = b"\nnr 3\n"
-    status, output, faults = fed(program, ALL["most_input_bytes"] + more - len(line), line)
+    status, output, faults = fed(program, ELSEWHERE["most_input_bytes"] + more - len(line), line)
     if ended:
         assert (status, output, faults) == (0, b"error 22 LineTooLong\nok 3\n", b"")
     else:

@@ -61,6 +61,8 @@ class Server:
         prepared: Prepare | None = None,
     ) -> None:
         self.sessions, self.trace, self.opened = sessions, trace, 0
+        # how long its end may take
+        self.seconds = SECONDS
         self.program = subprocess.Popen(
             [*under, program, *words_of(sessions, workers, trace, words)],
             stdin=subprocess.DEVNULL,
@@ -110,7 +112,7 @@ class Server:
         """Opens and closes the sessions that are left, and looks at the server's end."""
         for _ in range(self.sessions - self.opened):
             self.link().close()
-        output, faults = self.program.communicate(timeout=SECONDS)
+        output, faults = self.program.communicate(timeout=self.seconds)
         lines = output.splitlines()
         audited = ["audit ok"] if self.trace else []
         labels = [line.split(":")[0] for line in lines]
@@ -199,10 +201,7 @@ def cut(link: socket.socket) -> None:
 
 def rest_of(link: socket.socket) -> bytes:
     """All that comes until the other side ends."""
-    got = b""
-    while more := link.recv(65536):
-        got += more
-    return got
+    return b"".join(iter(lambda: link.recv(65536), b""))
 
 
 def whole_replies(link: socket.socket, script: bytes) -> bytes:

@@ -1,11 +1,12 @@
 """How a server starts, and why one does not."""
+import shlex
 import socket
 import subprocess
 import time
 from pathlib import Path
 
 import pytest
-from built import OUT_OF_MEMORY, SECONDS, Memory, Run
+from built import OUT_OF_MEMORY, SECONDS, TOP, Memory, Run, blocks_of
 from serving import ended, whole_replies, words_of
 
 
@@ -24,6 +25,30 @@ def test_tells_its_port_in_a_file(program: Path, tmp_path: Path) -> None:
         with socket.create_connection(("127.0.0.1", int(told.read_text().split()[1]))) as link:
             assert whole_replies(link, b"nr 3\n") == b"ok 3\n"
         assert started.stderr and (started.wait(SECONDS), started.stderr.read()) == (0, b"")
+    finally:
+        started.kill()
+        started.communicate()
+
+
+def test_answers_in_two_terminals(program: Path) -> None:
+    """The server and the session that docs/PROTOCOL.md shows, at a port that the system chooses."""
+    shown = next(it.lines for it in blocks_of(TOP / "docs/PROTOCOL.md") if it.head == ["text"])
+    at = shown.index("")
+    serves, printed = shlex.split(shown[0])[2:], shown[1:at]
+    _, _, lines, *_, port = shlex.split(shown[at + 1])
+    assert printed == [f"port {port}"] and f"--port {port} " in shown[0]
+    started = subprocess.Popen(
+        [program, *("0" if word == port else word for word in serves)],
+        stdin=subprocess.DEVNULL,
+        stdout=subprocess.PIPE,
+        stderr=subprocess.PIPE,
+    )
+    try:
+        assert started.stdout
+        chosen = int(started.stdout.readline().split()[1])
+        with socket.create_connection(("127.0.0.1", chosen), timeout=SECONDS) as link:
+            replies = whole_replies(link, lines.encode().decode("unicode_escape").encode())
+        assert replies.decode().splitlines() == shown[at + 2 :]
     finally:
         started.kill()
         started.communicate()

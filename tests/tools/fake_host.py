@@ -52,6 +52,7 @@ class FakeHost:
     memory: dict[int, int] = field(default_factory=lambda: {0: 8192, 1: 8192})
     free: dict[int, int] = field(default_factory=dict)
     pages: dict[int, int] = field(default_factory=dict)
+    surplus: dict[int, int] = field(default_factory=dict)
     counts: dict[str, int] = field(default_factory=dict)
     mounts: list[str] = field(default_factory=lambda: ["/dev/hugepages rw,relatime,pagesize=2M"])
 
@@ -79,7 +80,7 @@ class FakeHost:
             for name, count in (
                 ("nr", self.pages.get(node, 0)),
                 ("free", self.pages.get(node, 0)),
-                ("surplus", 0),
+                ("surplus", self.surplus.get(node, 0)),
             ):
                 self.write(f"{folder}/hugepages/hugepages-{PAGE_KB}kB/{name}_hugepages", f"{count}\n")
 

@@ -29,7 +29,7 @@ def test_places_as_many_as_any_way_could(seed: int) -> None:
     together = {it: draw.randrange(12) for it in draw.sample(sets, draw.randrange(1, len(sets) + 1))}
     placement = Placement(together, room)
     shares = [placement.share(node) for node in range(len(room))]
-    placed = {nodes: placement.placed(nodes) for nodes in together}
+    placed = {nodes: placement.places(nodes) for nodes in together}
     assert all(0 <= share <= most for share, most in zip(shares, room)), (together, room, shares)
     assert all(0 <= placed[nodes] <= pages for nodes, pages in together.items())
     assert sum(shares) == sum(placed.values()) == most_placed(together, room), (together, room, placed)

@@ -4,6 +4,7 @@ import re
 
 import pytest
 from pathlib import Path
+from built import Block, blocks_of
 from common import EXAMPLES, PROGRAM, TOP, answer_of, run
 
 from hugetlb import command, refusals, talk
@@ -11,6 +12,12 @@ from hugetlb_session import Session
 
 TUTORIAL = TOP / "docs/TUTORIAL.md"
 DOCUMENTS = [TOP / "README.md", TUTORIAL]
+PAGES = sorted(
+    it
+    for pattern in ("*.md", "docs/**/*.md", "bench/*.md", "crates/*/README.md", "tests/**/*.md")
+    for it in TOP.glob(pattern)
+    if "```" in it.read_text()
+)
 TRANSCRIPT = re.compile(r"(<!-- transcript: (\w+) (\d+) (\d+) -->\n```text\n).*?(```\n)", re.DOTALL)
 PLAN = re.compile(r"(<!-- plan: (\S+) -->\n```text\n\$ [^\n]*\n).*?(```\n)", re.DOTALL)
 FILE = re.compile(r"(<!-- file: (\S+) -->\n```toml\n).*?(```\n)", re.DOTALL)
@@ -19,7 +26,7 @@ FILE = re.compile(r"(<!-- file: (\S+) -->\n```toml\n).*?(```\n)", re.DOTALL)
 def transcript(name: str, first: int, last: int) -> str:
     """What the tool prints for some lines of an example, which it has run from the start."""
     script = EXAMPLES / f"{name}.script"
-    machine = command.machine_words(command.words_of([str(script)]))
+    machine = command.machine_words(command.words_of(command.parse([str(script)])))
     words = [word for option, value in machine.items() for word in (f"--{option}", value)]
     out = io.StringIO()
     with Session.over_pipe([PROGRAM, "script", *words]) as session:
@@ -57,6 +64,24 @@ def test_there_are_blocks() -> None:
         3,
         1,
     )
+
+
+def is_run(text: str, block: Block) -> bool:
+    """Whether a test runs this block of a page: by its fence, or by what stands before it."""
+    lines = text.splitlines()
+    at = int(block.place.rpartition(":")[2])
+    before = next((line for line in reversed(lines[: at - 1]) if line), "")
+    is_marked = re.fullmatch(r"<!-- (file|plan|transcript|answers): .* -->", before) is not None
+    is_shown = before == "It prints:" or block.lines[0].startswith("$ out/hugetlbd serve ")
+    kinds = {"script": True, "replies": True, "python": True, "sh": True, "toml": is_marked}
+    return kinds.get(block.head[0] if block.head else "", is_marked or is_shown)
+
+
+@pytest.mark.parametrize("document", PAGES, ids=[str(it.relative_to(TOP)) for it in PAGES])
+def test_each_block_is_run(document: Path) -> None:
+    """No page has a block that no test looks at."""
+    text = document.read_text()
+    assert [it.place for it in blocks_of(document) if not is_run(text, it)] == []
 
 
 def test_pictures_are_there() -> None:

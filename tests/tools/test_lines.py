@@ -90,10 +90,10 @@ def heard(options: dict[str, str], lines_: list[str]) -> list[tuple[talk.Row, li
 
 def is_granted(options: dict[str, str], before: list[str], line: str) -> bool:
     words = [word for name, value in (MACHINE | options).items() for word in (f"--{name}", value)]
-    asked = [one for it in [*before, line] for one in lines.expanded(lines.without_comment(it)) if one]
+    asked = [one for it in [*before, line] for one in lines.expand(lines.without_comment(it)) if one]
     with Session.over_pipe([PROGRAM, "script", *words]) as session:
         replies = session.replies(asked)
-    return all(reply[0] != "error 2 NoPages" for reply in replies[-len(lines.expanded(line)) :])
+    return all(reply[0] != "error 2 NoPages" for reply in replies[-len(lines.expand(line)) :])
 
 
 RANGES = [

@@ -13,7 +13,7 @@ from common import TOP, run
 from pool import empty_pool, fill
 
 from hugetlb import postgresql
-from hugetlb.lines import expanded, without_comment
+from hugetlb.lines import expand, without_comment
 
 PLANS = {
     "a snapshot": (
@@ -64,7 +64,7 @@ def test_answer_holds_on_linux(name: str, replay: Path, tmp_path: Path) -> None:
     assert json.loads(run(["plan", file, "--json"])[1])["nr"] == nr
     lines = run(["plan", file, "--lines"])[1].splitlines()
     words = lines[0].split()[2:-1]
-    lines = [one for line in map(without_comment, lines) if line for one in expanded(line)]
+    lines = [one for line in map(without_comment, lines) if line for one in expand(line)]
     with empty_pool():
         fill(64)
         fill(0)
@@ -79,7 +79,7 @@ def test_answer_holds_on_linux(name: str, replay: Path, tmp_path: Path) -> None:
 @pytest.fixture
 def cluster() -> Iterator[tuple[str, str]]:
     """A database that listens to nobody, of a user that is no superuser."""
-    program = postgresql.installed()
+    program = postgresql.find_postgres()
     initdb = Path(program).resolve().with_name("initdb") if program else None
     if not program or not initdb or not initdb.exists():
         pytest.skip("PostgreSQL is not here")
@@ -172,7 +172,7 @@ def test_plan_starts_whole_on_linux(name: str, replay: Path, tmp_path: Path) -> 
     assert json.loads(run(["plan", file, "--json"])[1])["nr"] == nr
     lines = run(["plan", file, "--lines"])[1].splitlines()
     words = lines[0].split()[2:-1]
-    lines = [one for line in map(without_comment, lines) if line for one in expanded(line)]
+    lines = [one for line in map(without_comment, lines) if line for one in expand(line)]
     with empty_pool():
         fill(64)
         fill(0)

@@ -50,7 +50,8 @@ def test_a_host_in_a_folder(tmp_path: Path) -> None:
     host = FakeHost(
         tmp_path,
         counts={"nr": 40, "free": 30, "resv": 5, "surplus": 4, "nr_overcommit": 10},
-        pages={0: 18, 1: 18},
+        pages={0: 20, 1: 20},
+        surplus={0: 2, 1: 2},
         mounts=mounts,
     )
     host.process(10, 1, "redis server", Map(ANONYMOUS, 7), Map("/lib/libc.so", 9, flags="", page_kb=4))
@@ -127,10 +128,15 @@ def test_nodes_by_their_numbers(tmp_path: Path) -> None:
     assert "node 10" in answer and "node 5 " not in answer
 
 
-def test_ranges_of_one_file(tmp_path: Path) -> None:
-    """A file counts each index once: ranges that meet, that overlap, and that leave a hole."""
+@pytest.mark.parametrize(
+    "ranges, pages",
+    [([(0, 3), (2, 4), (10, 2)], 8), ([(0, 10), (2, 3), (4, 1)], 10), ([(10, 2), (2, 4), (0, 3)], 8)],
+    ids=["they meet and leave a hole", "one has the others", "the last is first"],
+)
+def test_ranges_of_one_file(tmp_path: Path, ranges: list[tuple[int, int]], pages: int) -> None:
+    """A file counts each index once, of one process' ranges and of another's."""
     host = FakeHost(tmp_path)
-    ranges = [
+    maps = [
         Map(
             "/dev/hugepages/f",
             5,
@@ -139,11 +145,30 @@ def test_ranges_of_one_file(tmp_path: Path) -> None:
             start=0x7F0000000000 + at * (1 << 32),
             is_shared=True,
         )
-        for at, (first, count) in enumerate([(0, 3), (2, 4), (10, 2)])
+        for at, (first, count) in enumerate(ranges)
     ]
-    host.process(10, 1, "one", *ranges[:2])
-    host.process(11, 1, "two", ranges[2])
-    assert [it["pages"] for it in maps_of(host)] == [8]
+    host.process(10, 1, "one", *maps[:2])
+    host.process(11, 1, "two", maps[2])
+    assert [it["pages"] for it in maps_of(host)] == [pages]
+
+
+def test_pages_that_ranges_of_a_file_have(tmp_path: Path) -> None:
+    """Those of ranges that share no index add up, in one process or in several; of others the most count."""
+    host = FakeHost(tmp_path)
+    for number, (first, pages, own) in enumerate([(0, 3, 2), (1, 4, 3), (3, 2, 2), (7, 1, 1)], 10):
+        one = Map("/dev/hugepages/f", 5, pages=pages, first=first, own=own, is_shared=True, flags="nr ht")
+        host.process(number, 1, "p", one)
+    for number, own in ((20, 1), (21, 3)):
+        host.process(number, number - 1, "p", Map(ANONYMOUS, 7, own=own, flags="nr ht"))
+    assert [(it["pages"], it["used"]) for it in maps_of(host)] == [(6, "5 pages"), (3, "3 pages")]
+
+
+def test_a_file_whose_ranges_have_all_their_pages(tmp_path: Path) -> None:
+    host = FakeHost(tmp_path)
+    for number, first in ((10, 0), (11, 3)):
+        one = Map("/dev/hugepages/f", 5, first=first, own=1, common=2, is_shared=True)
+        host.process(number, 1, "p", one)
+    assert [(it["pages"], it.get("prealloc")) for it in maps_of(host)] == [(6, True)]
 
 
 def test_grandchildren(tmp_path: Path) -> None:
@@ -161,6 +186,14 @@ def test_nested_mounts(tmp_path: Path) -> None:
     for number, path in ((10, "/mnt/a/f"), (11, "/mnt/a/b/f"), (12, "/mnt/ab/f"), (13, "/mnt/abc/f")):
         host.process(number, 1, "p", Map(path, number, is_shared=True))
     assert [it.get("mount") for it in maps_of(host)] == ["mnt-a", "mnt-a-b", "mnt-ab", None]
+
+
+def test_what_has_no_file_is_on_no_mount(tmp_path: Path) -> None:
+    """Also where a mount stands at the root, below which each path would be."""
+    host = FakeHost(tmp_path, mounts=["/ rw,pagesize=2M"])
+    host.process(10, 1, "p", Map(ANONYMOUS, 7))
+    host.process(11, 1, "p", Map("/f", 8, is_shared=True))
+    assert [it.get("mount") for it in maps_of(host)] == [None, "root"]
 
 
 def test_a_host_without_maps(tmp_path: Path) -> None:
@@ -221,3 +254,18 @@ def test_what_is_bound_to_several_nodes(tmp_path: Path) -> None:
     assert run(["plan", "-"], text)[0] == 0
     status, output, _ = run(["plan", "-"], text.replace("pages = 8", "pages = 6000", 1))
     assert status == 1 and "nodes 0 and 1 are asked for" in output
+
+
+@pytest.mark.parametrize("policy", ["bind:2", "bind:0,2"])
+def test_what_is_bound_to_a_node_that_is_not_there(tmp_path: Path, policy: str) -> None:
+    """A node of no memory that the host tells is none of the plan, which is answered."""
+    host = FakeHost(tmp_path)
+    host.process(10, 1, "p", Map("/dev/hugepages/f", 5, is_shared=True, policy=policy))
+    assert [it.get("node") for it in maps_of(host)] == [None]
+    assert run(["plan", "-"], plan_of(LinuxHost(tmp_path)))[0] == 0
+
+
+def test_one_node_binds_nothing(tmp_path: Path) -> None:
+    host = FakeHost(tmp_path, memory={0: 8192})
+    host.process(10, 1, "p", Map("/dev/hugepages/f", 5, is_shared=True, policy="bind:0"))
+    assert [(it.get("node"), it.get("bind")) for it in maps_of(host)] == [(None, None)]

@@ -15,7 +15,7 @@ import pytest
 from common import EXAMPLES, PICTURES, PROGRAM, TOOL, TOP, must_hold, run
 
 from hugetlb.fit import answer_of
-from hugetlb.lines import expanded, without_comment
+from hugetlb.lines import expand, without_comment
 from hugetlb.machine import Question, Scale
 from hugetlb.plan_file import KINDS, plan_of, read_plan
 
@@ -44,7 +44,8 @@ KNOWN = {
     "as PostgreSQL counts": (HOSTS.replace('shared_memory = "64GiB"', "pages = 33502"), True, 117470, 113374),
     "one database": (HOST + '[[postgresql]]\nshared_memory = "8GB"\n', True, 4096, None),
     "a database and three guests": (
-        '[host]\nnodes = ["8GiB", "8GiB"]\n[[postgresql]]\npages = 4304\n[[guest]]\ncount = 3\nmemory = "2G"\nminimum = true\nnode = 1\n',
+        '[host]\nnodes = ["8GiB", "8GiB"]\n[[postgresql]]\npages = 4304\n'
+        '[[guest]]\ncount = 3\nmemory = "2G"\nminimum = true\nnode = 1\n',
         True,
         7376,
         None,
@@ -71,8 +72,8 @@ KNOWN = {
     "a store": (HOST + '[[redis]]\nmemory = "16GiB"\n', True, 8192, None),
     "a store that rewrites all": (HOST + '[[redis]]\nmemory = "1GiB"\nsnapshot = true\n', True, 1024, None),
     "two stores at once": (
-        HOST
-        + '[[redis]]\ncount = 2\nmemory = "2GiB"\nsnapshot = true\nrewritten = "10%"\n[overcommit]\nat_most = "1GiB"\n',
+        HOST + '[[redis]]\ncount = 2\nmemory = "2GiB"\nsnapshot = true\nrewritten = "10%"\n'
+        '[overcommit]\nat_most = "1GiB"\n',
         True,
         2 * (1024 + 103),
         2 * (1024 + 103) - 512,
@@ -86,8 +87,8 @@ KNOWN = {
         None,
     ),
     "private without reservations on a mount": (
-        HOST
-        + '[[mount]]\nname = "m"\nsize = "1GiB"\n[[map]]\nmemory = "2GiB"\nshared = false\nreserve = false\nused = "1GiB"\nmount = "m"\n',
+        HOST + '[[mount]]\nname = "m"\nsize = "1GiB"\n'
+        '[[map]]\nmemory = "2GiB"\nshared = false\nreserve = false\nused = "1GiB"\nmount = "m"\n',
         True,
         512,
         None,
@@ -99,8 +100,8 @@ KNOWN = {
         None,
     ),
     "guests above a minimum": (
-        HOST
-        + '[[mount]]\nname = "m"\nsize = "40GiB"\nminimum = "10GiB"\n[[guest]]\ncount = 3\nmemory = "12GiB"\nmount = "m"\n',
+        HOST + '[[mount]]\nname = "m"\nsize = "40GiB"\nminimum = "10GiB"\n'
+        '[[guest]]\ncount = 3\nmemory = "12GiB"\nmount = "m"\n',
         True,
         18432,
         None,
@@ -126,7 +127,8 @@ KNOWN = {
         None,
     ),
     "an overcommit below the unit": (
-        '[host]\nmemory = "4TiB"\n[[postgresql]]\npages = 262147\n[[guest]]\ncount = 3\nmemory = "100GiB"\n[overcommit]\nat_most = "1 pages"\n',
+        '[host]\nmemory = "4TiB"\n[[postgresql]]\npages = 262147\n'
+        '[[guest]]\ncount = 3\nmemory = "100GiB"\n[overcommit]\nat_most = "1 pages"\n',
         True,
         415748,
         415748,
@@ -144,9 +146,8 @@ KNOWN = {
         None,
     ),
     "eight nodes of 256 GiB": (
-        "[host]\nnodes = ["
-        + '"256GiB", ' * 8
-        + ']\n[[postgresql]]\nshared_memory = "512GiB"\n[[guest]]\ncount = 8\nmemory = "128GiB"\nminimum = true\n',
+        "[host]\nnodes = [" + '"256GiB", ' * 8 + ']\n[[postgresql]]\nshared_memory = "512GiB"\n'
+        '[[guest]]\ncount = 8\nmemory = "128GiB"\nminimum = true\n',
         True,
         786432,
         None,
@@ -158,7 +159,9 @@ KNOWN = {
         None,
     ),
     "pages of 1 GiB": (
-        '[host]\nmemory = "96GiB"\npage = "1GiB"\n[[postgresql]]\nshared_memory = "40.5GiB"\n[[guest]]\ncount = 5\nmemory = "10GiB"\n',
+        '[host]\nmemory = "96GiB"\npage = "1GiB"\n'
+        '[[postgresql]]\nshared_memory = "40.5GiB"\n'
+        '[[guest]]\ncount = 5\nmemory = "10GiB"\n',
         True,
         91,
         None,
@@ -183,7 +186,8 @@ KNOWN = {
         None,
     ),
     "an nr that the overcommit helps": (
-        '[host]\nmemory = "16GiB"\nnr = 4000\n[[postgresql]]\nshared_memory = "8GiB"\n[overcommit]\nat_most = "96 pages"\n',
+        '[host]\nmemory = "16GiB"\nnr = 4000\n[[postgresql]]\nshared_memory = "8GiB"\n'
+        '[overcommit]\nat_most = "96 pages"\n',
         True,
         4096,
         4000,
@@ -191,13 +195,13 @@ KNOWN = {
 }
 
 
-def plan(tmp_path, text, *words):
+def plan(tmp_path: Path, text: str, *words: object) -> tuple[int, str, str]:
     file = tmp_path / "host.toml"
     file.write_text(text)
     return run(["plan", file, *words], cwd=tmp_path)
 
 
-def replies_of(lines, nr, unit):
+def replies_of(lines: str, nr: int, unit: int) -> str:
     """What the program says to the lines of a plan, with another nr."""
     words = lines.splitlines()[0].split()[2:-1]
     script = [line for line in map(without_comment, lines.splitlines()) if line]
@@ -206,7 +210,7 @@ def replies_of(lines, nr, unit):
         for line in script
         if not line.startswith("overcommit ")
     ]
-    text = "".join(f"{one}\n" for line in script for one in expanded(line))
+    text = "".join(f"{one}\n" for line in script for one in expand(line))
     ran = subprocess.run([PROGRAM, "script", *words], input=text, capture_output=True, text=True)
     assert (ran.returncode, ran.stderr) == (0, "")
     return ran.stdout
@@ -367,7 +371,8 @@ def test_files_of_the_host(tmp_path: Path) -> None:
     )
     assert plan(tmp_path, KNOWN["an nr that is too small"][0], "--sysctl")[:2] == (
         1,
-        f"# /etc/sysctl.d/60-hugetlb.conf for {tmp_path}/host.toml\n# It does not fit: 1 of 1 get less than they ask for.\n",
+        f"# /etc/sysctl.d/60-hugetlb.conf for {tmp_path}/host.toml\n"
+        f"# It does not fit: 1 of 1 get less than they ask for.\n",
     )
     must_hold(plan(tmp_path, KNOWN["pages of 1 GiB"][0], "--sysctl")[1], "default_hugepagesz=1G")
     must_hold(
@@ -493,7 +498,10 @@ BAD = [
         HOST + '[[guest]]\nmemory = "4GiB"\nused = "1GiB"\n',
         "host.toml:5: guest.used: what is reserved counts whole, whatever is used of it",
     ),
-    (HOST + '[[guest]]\nmemory = "4GiB"\nbind = true\n', "host.toml:5: guest.bind: bind = true wants a node: add node = 0"),
+    (
+        HOST + '[[guest]]\nmemory = "4GiB"\nbind = true\n',
+        "host.toml:5: guest.bind: bind = true wants a node: add node = 0",
+    ),
     (
         HOST + '[[guest]]\nnode_memory = ["1GiB", "1GiB"]\n',
         "host.toml:4: guest.node_memory: it has 2 sizes, and there is 1 node",
@@ -555,7 +563,7 @@ BAD = [
 
 
 @pytest.mark.parametrize(("text", "said"), BAD, ids=range(len(BAD)))
-def test_bad_plan(text: str, said, tmp_path: Path) -> None:
+def test_bad_plan(text: str, said: str, tmp_path: Path) -> None:
     """A plan that can't be read ends with status 2, and its line and key are named."""
     file = tmp_path / "host.toml"
     file.write_text(text)
@@ -567,7 +575,11 @@ def test_bad_plan(text: str, said, tmp_path: Path) -> None:
 
 def test_all_faults_at_once(tmp_path: Path) -> None:
     """Each fault of a plan is told, in the order of its lines."""
-    text = '[host]\nmemory = 256\nmemroy = 3\n[[guest]]\nmemory = 4GiB\ncount = 0\n[[redsi]]\nmemory = "1GiB"\n[[java]]\nnode = 7\n[[guest]]\nused = "1GiB"\nmemory = "4GiB"\n'
+    text = (
+        "[host]\nmemory = 256\nmemroy = 3\n[[guest]]\nmemory = 4GiB\ncount = 0\n"
+        '[[redsi]]\nmemory = "1GiB"\n[[java]]\nnode = 7\n'
+        '[[guest]]\nused = "1GiB"\nmemory = "4GiB"\n'
+    )
     status, output, faults = plan(tmp_path, text)
     assert (status, output) == (2, "")
     places = [
@@ -607,13 +619,13 @@ def test_helps() -> None:
         assert run(["help", name])[:2][0] == 0 and f"usage: hugetlbctl {name}" in run(["help", name])[1]
 
 
-def catches_interrupts(number):
+def catches_interrupts(number: int) -> bool:
     found = re.search(r"SigCgt:\t([0-9a-f]+)", Path(f"/proc/{number}/status").read_text())
     return bool(int(found[1], 16) & 2) if found else False
 
 
 @pytest.mark.parametrize("wait", [0.0, 0.03, 0.06, 0.1, 0.2, 0.5])
-def test_an_interrupt_while_it_starts(wait, tmp_path: Path) -> None:
+def test_an_interrupt_while_it_starts(wait: float, tmp_path: Path) -> None:
     """Ctrl-C ends it without a word, whenever it comes: from its first line on, and while the program that
     it asks does not answer."""
     file, slow = tmp_path / "host.toml", tmp_path / "slow"
@@ -681,9 +693,9 @@ def test_units() -> None:
         "1,024M": 1 << 30,
     }.items():
         assert size_in_bytes(text, 2 << 20) == size, text
-    for text in ("4096", 4096, True, 1.5, "12 GiB of it", "-1GiB", ""):
+    for wrong in ("4096", 4096, True, 1.5, "12 GiB of it", "-1GiB", ""):
         with pytest.raises(NoSize):
-            size_in_bytes(text, 2 << 20)
+            size_in_bytes(wrong, 2 << 20)
     assert (in_words(3 << 39), in_words(1 << 21), in_words(100)) == ("1.5 TiB", "2 MiB", "100 bytes")
     assert (exactly(3 << 39), exactly(1 << 30), exactly(5), exactly(0)) == ("1536GiB", "1GiB", "5B", "0")
     assert (as_option(12 << 30), as_option(1 << 21), as_option(1536 << 20)) == ("12G", "2M", "1536M")
@@ -697,7 +709,7 @@ def test_order_of_starting() -> None:
 
 
 @pytest.mark.parametrize("seed", range(8))
-def test_plan_by_chance(seed, tmp_path: Path) -> None:
+def test_plan_by_chance(seed: int, tmp_path: Path) -> None:
     """Of programs that reserve all that they touch the answer is the sum of what they ask for, and of what
     their snapshots copy."""
     chance = random.Random(seed)

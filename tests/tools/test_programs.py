@@ -32,7 +32,7 @@ SETTINGS = [
     ),
     postgresql.Settings(shared_buffers=3 * GIB, min_dynamic_shared_memory=GIB, wal_buffers=MIB),
 ]
-needs_postgres = pytest.mark.skipif(not postgresql.installed(), reason="PostgreSQL is not here")
+needs_postgres = pytest.mark.skipif(not postgresql.find_postgres(), reason="PostgreSQL is not here")
 
 
 @pytest.mark.parametrize("connections", KNOWN)
@@ -60,7 +60,7 @@ def test_the_formula_beside_postgresql(settings: postgresql.Settings) -> None:
 @needs_postgres
 def test_postgresql_is_asked(tmp_path: Path) -> None:
     """Where it is installed its own answer is the plan's, for pages of 1 GiB too."""
-    program = postgresql.installed() or ""
+    program = postgresql.find_postgres() or ""
     for text, pages in (
         ('shared_buffers = "64GB"\nmax_connections = 500\n', KNOWN[500]),
         ('shared_buffers = "64GB"\npage = "1GiB"\n', 66),

@@ -221,4 +221,4 @@ def test_script_is_plain(script: Path) -> None:
     """A file named .script is for ./run as it is: it has no comments and no ranges, which are the tool's own
     and stand in files named .annotated."""
     for line in script.read_bytes().decode("latin-1").split("\n"):
-        assert lines.expanded(lines.without_comment(line)) == [line]
+        assert lines.expand(lines.without_comment(line)) == [line]

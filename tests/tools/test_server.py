@@ -1,5 +1,4 @@
 """A server's counts, its end, and the exporter."""
-import os
 import re
 import signal
 import socket
@@ -9,24 +8,32 @@ import threading
 import time
 import urllib.error
 import urllib.request
-from concurrent.futures import ThreadPoolExecutor
+from collections.abc import Iterator
+from concurrent.futures import Future, ThreadPoolExecutor
 from contextlib import contextmanager, suppress
 from pathlib import Path
 from shutil import which
+from typing import IO
 
 import built
 import pytest
 from common import PROGRAM, TOOL, must_hold, run
 
 
+def line_of(stream: IO[str] | None) -> str:
+    """The next line of a process."""
+    assert stream is not None
+    return stream.readline()
+
+
 @contextmanager
-def server():
+def server() -> Iterator[tuple[int, list[int]]]:
     """The program behind a port, as a server of one connection after another stands there; `served` counts
     them."""
-    served = []
+    served: list[int] = []
     with socket.create_server(("127.0.0.1", 0)) as listens:
 
-        def serves():
+        def serves() -> None:
             while True:
                 try:
                     link, _ = listens.accept()
@@ -34,7 +41,8 @@ def server():
                     return
                 served.append(1)
                 with link:
-                    subprocess.run([PROGRAM, "script"], stdin=link, stdout=link, timeout=3 * built.SECONDS)
+                    at = link.fileno()
+                    subprocess.run([PROGRAM, "script"], stdin=at, stdout=at, timeout=3 * built.SECONDS)
 
         threading.Thread(target=serves, daemon=True).start()
         yield listens.getsockname()[1], served
@@ -71,12 +79,12 @@ WAITING = "hugetlbctl: waits for a worker that is free: all workers of the serve
 
 
 @contextmanager
-def held_server():
+def held_server() -> Iterator[tuple[int, socket.socket]]:
     """A server whose one worker has a session that stays open until it is ended."""
     words = ["serve", "--port", "0", "--sessions", "9", "--workers", "1", "--trace", "0"]
     with subprocess.Popen([PROGRAM, *words], stdout=subprocess.PIPE, text=True) as program:
         try:
-            port = int(program.stdout.readline().split()[1])
+            port = int(line_of(program.stdout).split()[1])
             with socket.create_connection(("127.0.0.1", port), timeout=built.SECONDS) as held:
                 held.sendall(b"nr 4\n")
                 assert held.recv(64) == b"ok 4\n"
@@ -98,10 +106,11 @@ def test_a_client_that_waits_for_a_worker_says_so(words: list[str]) -> None:
             stderr=subprocess.PIPE,
             text=True,
         )
+        assert tool.stdin is not None
         tool.stdin.write("meminfo\nmeminfo\n")
         tool.stdin.close()
         tool.stdin = None
-        assert tool.stderr.readline() == WAITING
+        assert line_of(tool.stderr) == WAITING
         held.close()
         output, faults = tool.communicate(timeout=built.SECONDS)
     assert (tool.returncode, faults) == (0, "") and "4" in output
@@ -110,9 +119,9 @@ def test_a_client_that_waits_for_a_worker_says_so(words: list[str]) -> None:
 def test_a_client_that_is_answered_says_nothing() -> None:
     """Later waits are none for a worker: a server that answered once may take its time."""
     held = Held()
-    words = [sys.executable, TOOL, "--watch", str(held.port), "--times", "2", "--seconds", "0"]
+    words = [sys.executable, str(TOOL), "--watch", str(held.port), "--times", "2", "--seconds", "0"]
     with subprocess.Popen(words, stdout=subprocess.PIPE, stderr=subprocess.PIPE, text=True) as tool:
-        assert "Total" in tool.stdout.readline() and tool.stdout.readline()
+        assert "Total" in line_of(tool.stdout) and line_of(tool.stdout)
         held.free.clear()
         time.sleep(1.3)
         held.free.set()
@@ -120,8 +129,9 @@ def test_a_client_that_is_answered_says_nothing() -> None:
     held.ends()
 
 
-def numbers_of(text):
-    return dict(line.rsplit(" ", 1) for line in text.splitlines() if not line.startswith("#"))
+def numbers_of(text: str) -> dict[str, str]:
+    pairs = (line.rpartition(" ") for line in text.splitlines() if not line.startswith("#"))
+    return {name: number for name, _, number in pairs}
 
 
 def test_counts_once() -> None:
@@ -154,17 +164,17 @@ def test_promtool_reads_the_counts() -> None:
 
 
 @contextmanager
-def exporter(port):
+def exporter(port: int) -> Iterator[tuple["subprocess.Popen[str]", int]]:
     """An exporter of the server at this port, as a process, and the port where it is asked.
 
     It closes each session itself: Python warns of a connection that is dropped, and at the end nothing was
     said.
     """
     warns = [sys.executable, "-W", "always::ResourceWarning"]
-    words = [*warns, TOOL, "--port", str(port), "--prometheus", "--listen", "0"]
+    words = [*warns, str(TOOL), "--port", str(port), "--prometheus", "--listen", "0"]
     with subprocess.Popen(words, stdout=subprocess.PIPE, stderr=subprocess.PIPE, text=True) as process:
         try:
-            line = process.stdout.readline()
+            line = line_of(process.stdout)
             assert re.fullmatch(r"metrics at http://127\.0\.0\.1:\d+/metrics\n", line), line
             yield process, int(line.split(":")[2].split("/")[0])
             assert process.poll() is None
@@ -174,7 +184,9 @@ def exporter(port):
     assert faults == ""
 
 
-def asked(port, host=None, path="/metrics", method="GET"):
+def asked(
+    port: int, host: str | list[str] | None = None, path: str = "/metrics", method: str = "GET"
+) -> tuple[int, str]:
     """Status and text of an answer at a port, to a request with these hosts: one, several or none."""
     hosts = [f"127.0.0.1:{port}"] if host is None else host if isinstance(host, list) else [host]
     with socket.create_connection(("127.0.0.1", port), timeout=built.SECONDS) as link:
@@ -187,17 +199,21 @@ def asked(port, host=None, path="/metrics", method="GET"):
     return int(head.split(" ")[1]), body
 
 
-def age_of(body):
+def age_of(body: str) -> float:
     return float(numbers_of(body)["hugetlb_counts_age_seconds"])
 
 
-def pages_of(body):
+def pages_of(body: str) -> str:
     return numbers_of(body)['hugetlb_pages{node="0"}']
 
 
-def wait_for(count, questions):
+Answer = tuple[int, str]
+
+
+def wait_for(count: int, questions: "list[Future[Answer]]") -> "tuple[list[Answer], Future[Answer]]":
     """The answers of the first so many questions, and the one that is left."""
-    done, until = [], time.monotonic() + 4 * built.SECONDS
+    done: list[Future[Answer]] = []
+    until = time.monotonic() + 4 * built.SECONDS
     while len(done) < count and time.monotonic() < until:
         done = [it for it in questions if it.done()]
         time.sleep(0.01)
@@ -209,14 +225,16 @@ class Held:
     """A server of counts that can be held: it answers the two questions of the exporter once it may, and
     counts its sessions."""
 
-    def __init__(self, port=0, pages=3):
-        self.pages, self.free, self.links, self.left = pages, threading.Event(), [], []
+    def __init__(self, port: int = 0, pages: int = 3) -> None:
+        self.pages, self.free = pages, threading.Event()
+        self.links: list[socket.socket] = []
+        self.left: list[socket.socket] = []
         self.free.set()
         self.listens = socket.create_server(("127.0.0.1", port))
         self.port = self.listens.getsockname()[1]
         threading.Thread(target=self._accepts, daemon=True).start()
 
-    def _accepts(self):
+    def _accepts(self) -> None:
         while True:
             try:
                 link, _ = self.listens.accept()
@@ -225,7 +243,7 @@ class Held:
             self.links.append(link)
             threading.Thread(target=self._serves, args=(link,), daemon=True).start()
 
-    def _serves(self, link):
+    def _serves(self, link: socket.socket) -> None:
         lines = {
             "meminfo": [
                 f"HugePages_Total: {self.pages}",
@@ -248,7 +266,7 @@ class Held:
         self.left.append(link)
         link.close()
 
-    def ends(self):
+    def ends(self) -> None:
         self.listens.shutdown(socket.SHUT_RDWR)
         self.listens.close()
         for link in self.links:
@@ -283,7 +301,7 @@ def test_exporter_answers_to_its_own_name() -> None:
     with server() as (port, _), exporter(port) as (_, at):
         for host in (f"127.0.0.1:{at}", f"localhost:{at}", f"LocalHost:{at}", "127.0.0.1", "localhost"):
             assert asked(at, host)[0] == 200, host
-        others = [
+        others: list[str | list[str]] = [
             "evil.example",
             f"evil.example:{at}",
             f"127.0.0.1.evil.example:{at}",
@@ -296,9 +314,9 @@ def test_exporter_answers_to_its_own_name() -> None:
             [f"127.0.0.1:{at}"] * 2,
             f"evil.example@127.0.0.1:{at}",
         ]
-        for host in others:
-            status, body = asked(at, host)
-            assert status == 403 and "hugetlb_pages" not in body, host
+        for other in others:
+            status, body = asked(at, other)
+            assert status == 403 and "hugetlb_pages" not in body, other
         assert asked(at, method="POST")[0] == 405
         assert asked(at, path="/nothing")[0] == 404
         assert asked(at, path="http://evil.example/metrics")[0] == 404
@@ -440,9 +458,10 @@ def test_exporter_asked_by_ten_at_once() -> None:
 def test_ends_a_server() -> None:
     """The sessions that are left of a server's number are opened and closed, one waiting for the other."""
     with socket.create_server(("127.0.0.1", 0)) as listens:
-        port, served = listens.getsockname()[1], []
+        port: int = listens.getsockname()[1]
+        served: list[bytes] = []
 
-        def serves():
+        def serves() -> None:
             for number in range(3):
                 link, _ = listens.accept()
                 if number == 2:
@@ -466,7 +485,7 @@ def test_ends_a_server_with_idle_workers() -> None:
     words = ["serve", "--port", "0", "--sessions", "9", "--workers", "1", "--trace", "0"]
     program = subprocess.Popen([PROGRAM, *words], stdout=subprocess.PIPE, text=True)
     try:
-        port = int(program.stdout.readline().split()[1])
+        port = int(line_of(program.stdout).split()[1])
         with socket.create_connection(("127.0.0.1", port)) as idle:
             idle.sendall(b"nr 4\n")
             assert idle.recv(64) == b"ok 4\n"

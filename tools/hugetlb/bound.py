@@ -64,7 +64,7 @@ class Placement:
         self.on[nodes][node] += pages
         self.left[node] -= pages
 
-    def placed(self, nodes: Nodes) -> int:
+    def places(self, nodes: Nodes) -> int:
         """How many pages of a set have a place."""
         return sum(self.on[nodes].values())
 

@@ -25,7 +25,7 @@ import re
 import signal
 import sys
 from collections.abc import Callable
-from dataclasses import dataclass
+from dataclasses import dataclass, fields
 from pathlib import Path
 
 from hugetlb_session import Ended, Session, Unreadable
@@ -36,14 +36,12 @@ from .program import NoProgram, program, proof, version
 from .prompt import prompts
 from .refusals import Machine
 from .server import ends
+from .subcommand import Subcommands, subparser
 from .talk import Prompt, Script, Talk
 
 MACHINE = {"frames": "4,4", "page": "1024", "slots": "4"}
-SUBCOMMANDS: dict[str, Callable[[list[str]], int]] = {
-    "plan": plan.main,
-    "observe": observe.main,
-    "who": who.main,
-}
+# The name of the subcommand of words that name none.
+NONE = ""
 MOST_PORTS = 65_535
 WAITS = "waits for a worker that is free: all workers of the server have other sessions"
 
@@ -69,13 +67,18 @@ class Words:
     @classmethod
     def of(cls, given: argparse.Namespace) -> "Words":
         values = vars(given)
-        machine = {name: value for name in MACHINE if (value := values.pop(name))}
-        return cls(machine=machine, **values)
+        machine = {name: value for name in MACHINE if (value := values[name])}
+        names = {it.name for it in fields(cls)} & values.keys()
+        return cls(machine=machine, **{name: values[name] for name in names})
 
     @property
     def server(self) -> int | None:
         """The port of the server that is spoken with."""
         return next((it for it in (self.port, self.watch, self.end) if it is not None), None)
+
+
+class NoServer(Exception):
+    """No server listens at a port."""
 
 
 def a_port(text: str) -> int:
@@ -85,11 +88,8 @@ def a_port(text: str) -> int:
     return number
 
 
-def parser() -> argparse.ArgumentParser:
-    made = argparse.ArgumentParser(
-        prog="hugetlbctl", description=__doc__, formatter_class=argparse.RawDescriptionHelpFormatter
-    )
-    add = made.add_argument
+def add_to(tool: Subcommands) -> None:
+    add = subparser(tool, NONE, __doc__, run).add_argument
     add(
         "script",
         nargs="?",
@@ -156,18 +156,44 @@ def parser() -> argparse.ArgumentParser:
     add("--pid", type=int, help="the server's process, which --end sends SIGTERM after that")
     add("--seconds", type=float, default=1, help="how long to wait between two lines of --watch")
     add("--times", type=int, help="how many lines --watch writes")
-    return made
 
 
-def words_of(arguments: list[str]) -> Words:
-    made = parser()
-    words = Words.of(made.parse_args(arguments))
+def add_help_to(tool: Subcommands) -> None:
+    def run(given: argparse.Namespace) -> int:
+        tool.choices[given.name or NONE].print_help()
+        if not given.name:
+            print(f"\nhugetlbctl help {'|'.join(names)}: tells of one of these.")
+        return 0
+
+    names = [name for name in tool.choices if name != NONE]
+    subparser(tool, "help", "Tells of the tool, or of one of its subcommands.", run).add_argument(
+        "name", nargs="?", choices=names
+    )
+
+
+def subcommands(tool: argparse.ArgumentParser) -> dict[str, argparse.ArgumentParser]:
+    """The parser of each subcommand, by its name."""
+    made = tool.add_subparsers(required=True)
+    for add in (add_to, plan.add_to, observe.add_to, who.add_to, add_help_to):
+        add(made)
+    return made.choices
+
+
+def parse(arguments: list[str]) -> argparse.Namespace:
+    known = subcommands(argparse.ArgumentParser())
+    is_named = bool(arguments) and arguments[0] != NONE and arguments[0] in known
+    name, *words = arguments if is_named else [NONE, *arguments]
+    return known[name].parse_args(words)
+
+
+def words_of(given: argparse.Namespace) -> Words:
+    words = Words.of(given)
     if words.port is not None and words.machine.keys() - {"frames"}:
-        made.error("--page and --slots are a program's own: a server has its own")
+        given.fail("--page and --slots are a program's own: a server has its own")
     if words.listen is not None and (words.port is None or not words.prometheus):
-        made.error("--listen goes with --prometheus and the --port of a server")
+        given.fail("--listen goes with --prometheus and the --port of a server")
     if words.pid is not None and words.end is None:
-        made.error("--pid goes with --end")
+        given.fail("--pid goes with --end")
     return words
 
 
@@ -188,7 +214,7 @@ def over_socket(port: int) -> Session:
     return Session.over_socket(port, on_wait=tell_of_waiting)
 
 
-def opened(words: Words, machine: dict[str, str]) -> Session:
+def open_session(words: Words, machine: dict[str, str]) -> Session:
     if words.port is not None:
         return over_socket(words.port)
     options = [word for name, value in machine.items() for word in (f"--{name}", value)]
@@ -222,7 +248,7 @@ def talks(words: Words) -> None:
     machine = machine_words(words)
     at_prompt = words.script is None and sys.stdin.isatty()
     lines = [] if at_prompt or words.prometheus and words.script is None else lines_of(words.script)
-    session = opened(words, machine)
+    session = open_session(words, machine)
     frames = words.machine.get("frames") if words.port is not None else machine["frames"]
     out = open(os.devnull, "w") if words.prometheus else sys.stdout
     say = Prompt(out) if at_prompt else Script(out)
@@ -243,23 +269,23 @@ def talks(words: Words) -> None:
     session.close()
 
 
-def what_failed(error: Exception, words: Words | None) -> str:
+def run(given: argparse.Namespace) -> int:
+    words = words_of(given)
+    try:
+        return serves(words)
+    except ConnectionRefusedError:
+        if words.server is None:
+            raise
+        raise NoServer(
+            f"no server listens at port {words.server} of this machine: the connection was refused"
+        ) from None
+
+
+def what_failed(error: Exception) -> str:
     """An error in words for people."""
-    port = words.server if words else None
-    if isinstance(error, ConnectionRefusedError) and port is not None:
-        return f"no server listens at port {port} of this machine: the connection was refused"
     if isinstance(error, OSError) and error.strerror:
         return f"{error.filename}: {error.strerror}" if error.filename else error.strerror
     return str(error)
-
-
-def helps(words: list[str]) -> int:
-    """Tells of the tool, or of one of its subcommands."""
-    if words and words[0] in SUBCOMMANDS:
-        return SUBCOMMANDS[words[0]](["--help"])
-    parser().print_help()
-    print(f"\nhugetlbctl help {'|'.join(SUBCOMMANDS)}: tells of one of these.")
-    return 0
 
 
 def main(arguments: list[str]) -> int:
@@ -267,19 +293,15 @@ def main(arguments: list[str]) -> int:
     for stream in (sys.stdout, sys.stderr):
         if isinstance(stream, io.TextIOWrapper):
             stream.reconfigure(errors="backslashreplace")
-    words = None
     try:
-        if arguments[:1] and arguments[0] in SUBCOMMANDS:
-            return SUBCOMMANDS[arguments[0]](arguments[1:])
-        if arguments[:1] == ["help"]:
-            return helps(arguments[1:])
-        words = words_of(arguments)
-        return serves(words)
+        given = parse(arguments)
+        run: Callable[[argparse.Namespace], int] = given.run
+        return run(given)
     except BrokenPipeError:
         os.dup2(os.open(os.devnull, os.O_WRONLY), sys.stdout.fileno())
         return 0
     except KeyboardInterrupt:
         return 130
-    except (Ended, Unreadable, NoProgram, OSError) as error:
-        print(f"hugetlbctl: {what_failed(error, words)}", file=sys.stderr)
+    except (Ended, Unreadable, NoProgram, NoServer, OSError) as error:
+        print(f"hugetlbctl: {what_failed(error)}", file=sys.stderr)
         return 1

@@ -151,7 +151,7 @@ class Fit:
         asked = [self.bound_of(pool) for pool in pools]
         made = Answer(self.plan, self.worst, [])
         for at, pool in enumerate(pools):
-            made.pools.append(self.answered(pool, asked[at], list(zip(pools[at + 1 :], asked[at + 1 :]))))
+            made.pools.append(self.pool_answer(pool, asked[at], list(zip(pools[at + 1 :], asked[at + 1 :]))))
         return made
 
     def runs(self, consumers: Sequence[Consumer], pool: Pool | None = None) -> Runs:
@@ -175,7 +175,7 @@ class Fit:
 
     # ---- a pool
 
-    def answered(self, pool: Pool, asked: Bound, later: list[tuple[Pool, Bound]]) -> PoolAnswer:
+    def pool_answer(self, pool: Pool, asked: Bound, later: list[tuple[Pool, Bound]]) -> PoolAnswer:
         made = PoolAnswer(pool, self.runs(pool.consumers, pool), self.nodes(pool, asked.alone, later), asked)
         made.sets = [
             NodeSet(it, pages, room=sum(made.nodes[node].room for node in it))
@@ -277,7 +277,7 @@ class Fit:
         """Finds places for what is bound to several nodes, and answers how much of it each node has."""
         placement = Placement(made.bound.together, room)
         for it in made.sets:
-            it.placed = placement.placed(it.nodes)
+            it.placed = placement.places(it.nodes)
         return [placement.share(node) for node in range(len(room))]
 
     @staticmethod

@@ -55,7 +55,7 @@ def documents(written: str) -> list[Any]:
         raise NoManifest(f"it is no YAML: {' '.join(str(error).split())}") from None
 
 
-def asked(container: dict[str, Any]) -> dict[int, int]:
+def requests_of(container: dict[str, Any]) -> dict[int, int]:
     """The bytes that a container asks for, by the size of page. A limit alone is a request too."""
     resources = container.get("resources") or {}
     limits, requests = resources.get("limits") or {}, resources.get("requests") or {}
@@ -75,8 +75,10 @@ def of_pod(spec: dict[str, Any]) -> dict[int, int]:
 
     The sum of its containers, or its greatest one of the beginning if that is more.
     """
-    running = [asked(it) for it in spec.get("containers") or []]
-    first = [(asked(it), it.get("restartPolicy") == "Always") for it in spec.get("initContainers") or []]
+    running = [requests_of(it) for it in spec.get("containers") or []]
+    first = [
+        (requests_of(it), it.get("restartPolicy") == "Always") for it in spec.get("initContainers") or []
+    ]
     running += [it for it, stays in first if stays]
     found = {}
     for page in sorted({page for it in [*running, *(it for it, _ in first)] for page in it}, reverse=True):

@@ -5,7 +5,7 @@ from collections.abc import Iterator
 from dataclasses import dataclass, field
 from pathlib import Path
 
-from .lines import shown
+from .lines import printable
 from .model import default_keep
 from .toml import Written, size
 
@@ -84,7 +84,7 @@ def default_page(root: Path) -> int:
     return fields_of(root / "proc/meminfo").get("Hugepagesize", 2048) * KIB
 
 
-def kept(node: NodeMemory, page: int) -> int:
+def memory_to_keep(node: NodeMemory, page: int) -> int:
     """What of a node is in use beside its pages of this size, and a 32nd of it, so that the host goes on."""
     own = node.pages.get(page, 0) * page
     wanted = node.total - own - node.free + node.total // 32
@@ -103,7 +103,7 @@ def host_table(root: Path, page: int | None = None) -> Written:
     made = Written("host")
     made.values["nodes"] = sizes_of([it.total for it in nodes])
     made.values["page"] = size(page)
-    made.values["keep"] = sizes_of([kept(it, page) // KIB * KIB for it in nodes])
+    made.values["keep"] = sizes_of([memory_to_keep(it, page) // KIB * KIB for it in nodes])
     made.notes["keep"] = "what is in use now, and a 32nd"
     made.values["present"] = f"[{', '.join(str(it.pages.get(page, 0)) for it in nodes)}]"
     made.notes["present"] = "the pages that are set now"
@@ -191,8 +191,8 @@ class Process:
     def title(self) -> str:
         return f"{re.sub('[^A-Za-z0-9_.-]', '-', self.name) or 'process'}-{self.number}"
 
-    def shown(self) -> str:
-        return f"{shown(self.name)} ({self.number})"
+    def label(self) -> str:
+        return f"{printable(self.name)} ({self.number})"
 
 
 def process_of(folder: Path) -> Process:

@@ -56,7 +56,7 @@ def between(least: int, most: int) -> str:
     return plural(most) if least == most else f"{least:,} to {plural(most)}"
 
 
-def shown(line: str) -> str:
+def printable(line: str) -> str:
     """A line as it can be printed: characters that are none are escaped."""
     return line if line.isprintable() else "".join(it if it.isprintable() else ascii(it)[1:-1] for it in line)
 
@@ -68,7 +68,7 @@ def without_comment(line: str) -> str:
     return line[: found.start()].rstrip() if found else line
 
 
-def expanded(line: str) -> list[str]:
+def expand(line: str) -> list[str]:
     """The lines that a line with a range stands for."""
     if ".." not in line:
         return [line]

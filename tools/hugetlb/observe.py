@@ -7,12 +7,14 @@ It reads, and changes nothing; without root it leaves out processes of others, a
 import argparse
 import re
 import sys
+from bisect import bisect_right
 from dataclasses import dataclass, field
 from pathlib import Path
 
 from .host import HugeMount, LinuxHost, Range, host_table
-from .lines import shown
+from .lines import printable
 from .sizes import NoSize, size_in_bytes
+from .subcommand import Subcommands, subparser
 from .toml import Written, text, truth
 
 
@@ -39,7 +41,13 @@ class Owner:
 
     @property
     def present(self) -> int:
-        return min(max(it.present for it in self.ranges), self.pages)
+        """The pages that are there at least: those of ranges that share no index add up."""
+        ends, most = [0], [0]
+        for one in sorted(self.ranges, key=lambda it: it.first + it.pages):
+            before = most[bisect_right(ends, one.first) - 1]
+            ends.append(one.first + one.pages)
+            most.append(max(most[-1], before + one.present))
+        return most[-1]
 
     def others(self) -> list[int]:
         return sorted({it.process.number for it in self.ranges} - {self.first.process.number})
@@ -68,14 +76,14 @@ def table_of(host: LinuxHost, owner: Owner, names: dict[str, str], nodes: int) -
     """A range or a file as a table of a plan."""
     first, others = owner.first, owner.others()
     made = Written(
-        "map", {"name": text(first.process.title())}, notes={"name": shown(first.path) or "anonymous"}
+        "map", {"name": text(first.process.title())}, notes={"name": printable(first.path) or "anonymous"}
     )
     if others:
         told = f"{', '.join(map(str, others[:8]))}{' and others' if len(others) > 8 else ''}"
         made.remarks.append(f"{'mapped too by' if first.is_shared else 'forked to'} process {told}")
     made.values |= {"pages": str(owner.pages), "shared": truth(first.is_shared)}
     if not first.has_reserve:
-        made.values |= {"reserve": "false", "used": f'"{min(owner.present, owner.pages)} pages"'}
+        made.values |= {"reserve": "false", "used": f'"{owner.present} pages"'}
     elif owner.present == owner.pages:
         made.values["prealloc"] = "true"
         made.notes["prealloc"] = "it has all its pages"
@@ -88,7 +96,7 @@ def table_of(host: LinuxHost, owner: Owner, names: dict[str, str], nodes: int) -
 
 
 def mount_table(mount: HugeMount, name: str) -> Written:
-    made = Written("mount", {"name": text(name)}, notes={"name": shown(mount.folder)})
+    made = Written("mount", {"name": text(name)}, notes={"name": printable(mount.folder)})
     made.values |= {"size": f'"{mount.size} pages"'} if mount.size is not None else {}
     made.values |= {"minimum": f'"{mount.minimum} pages"'} if mount.minimum else {}
     return made
@@ -125,12 +133,11 @@ def plan_of(host: LinuxHost) -> str:
     return "".join(line + "\n" for line in lines)
 
 
-def parser() -> argparse.ArgumentParser:
-    made = argparse.ArgumentParser(
-        prog="hugetlbctl observe", description=__doc__, formatter_class=argparse.RawDescriptionHelpFormatter
-    )
+def add_to(tool: Subcommands) -> None:
+    made = subparser(tool, "observe", __doc__, run)
     made.add_argument(
         "--page",
+        type=a_page,
         metavar="SIZE",
         help="the size of page to look at, as 1GiB (the default size of this kernel)",
     )
@@ -141,22 +148,19 @@ def parser() -> argparse.ArgumentParser:
         metavar="FOLDER",
         help="the host's /proc and /sys stand below this folder",
     )
-    return made
 
 
-def page_of(made: argparse.ArgumentParser, given: str | None) -> int | None:
+def a_page(text: str) -> int:
     """The size of page that was given."""
     try:
-        return size_in_bytes(given) if given else None
+        return size_in_bytes(text)
     except NoSize as error:
-        made.error(str(error))
+        raise argparse.ArgumentTypeError(str(error)) from None
 
 
-def main(arguments: list[str]) -> int:
-    made = parser()
-    words = made.parse_args(arguments)
+def run(words: argparse.Namespace) -> int:
     try:
-        print(plan_of(LinuxHost(words.root, page_of(made, words.page))), end="")
+        print(plan_of(LinuxHost(words.root, words.page)), end="")
     except FileNotFoundError as error:
         print(f"hugetlbctl: {error.filename}: {error.strerror}: it is read on Linux alone", file=sys.stderr)
         return 1

@@ -2,7 +2,7 @@
 from collections.abc import Callable, Sequence
 from xml.etree.ElementTree import Element
 
-from .lines import shown
+from .lines import printable
 from .svg import element, number, picture
 from .talk import Row
 
@@ -68,7 +68,7 @@ class Picture:
     """
 
     def __init__(self, rows: Sequence[Row], name: str) -> None:
-        self.name = shown(name)
+        self.name = printable(name)
         self.groups = columns_of(rows)
         self.rows = [representative(group) for group in self.groups]
         self.column = min((WIDTH - LEFT - RIGHT) / max(len(self.rows), 1), WIDEST)
@@ -128,7 +128,7 @@ class Picture:
         ]
 
     def label(self, at: int, row: Row) -> Element:
-        line = shown(row.line if len(row.line) <= LONGEST_LABEL else row.line[: LONGEST_LABEL - 1] + "…")
+        line = printable(row.line if len(row.line) <= LONGEST_LABEL else row.line[: LONGEST_LABEL - 1] + "…")
         place = f"translate({number(self.x(at) + self.column / 2 + 4)} {TOP + PLOT + 12})rotate(-58)"
         kind = "e" if row.is_refused() else ""
         return element("text", line, class_=kind, text_anchor="end", transform=place)
@@ -143,7 +143,7 @@ class Picture:
         of = f"lines {begin:,} to {end:,}, of these\n" if begin != end else ""
         total, free, rsvd, surp = row.counts
         counts = f"Total {total} Free {free} Rsvd {rsvd} Surp {surp}"
-        return f"{of}{row.number}: {shown(row.line)}\n{row.reply}\n{counts}"
+        return f"{of}{row.number}: {printable(row.line)}\n{row.reply}\n{counts}"
 
     def columns(self) -> list[Element]:
         """For each column its line, a mark where it was refused, and all of it as a tooltip."""

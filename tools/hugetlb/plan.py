@@ -18,6 +18,7 @@ from .plan_file import read_plan
 from .plan_picture import PlanPicture, page
 from .report import Report
 from .settings import Settings
+from .subcommand import Subcommands, subparser
 from .tables import PlanFault
 
 
@@ -32,10 +33,8 @@ class Form(Enum):
     FSTAB = "prints the mounts as /etc/fstab has them"
 
 
-def parser() -> argparse.ArgumentParser:
-    made = argparse.ArgumentParser(
-        prog="hugetlbctl plan", description=__doc__, formatter_class=argparse.RawDescriptionHelpFormatter
-    )
+def add_to(tool: Subcommands) -> None:
+    made = subparser(tool, "plan", __doc__, run)
     made.add_argument("file", type=Path, nargs="?", help="the plan, in TOML; `-` is standard input")
     made.add_argument(
         "--program",
@@ -75,10 +74,9 @@ def parser() -> argparse.ArgumentParser:
                 f"--{form.name.lower()}", dest="form", action="store_const", const=form, help=form.value
             )
     made.set_defaults(form=Form.TEXT)
-    return made
 
 
-def answered(words: argparse.Namespace) -> int:
+def print_answer(words: argparse.Namespace) -> int:
     """Prints the answer of a plan."""
     answer = answer_of(read_plan(words.file), words.program, words.worst)
     report = Report(answer)
@@ -99,16 +97,14 @@ def answered(words: argparse.Namespace) -> int:
     return 0 if answer.fits else 1
 
 
-def main(arguments: list[str]) -> int:
-    made = parser()
-    words = made.parse_args(arguments)
+def run(words: argparse.Namespace) -> int:
     if not words.file and not words.sources:
-        made.error("the plan is missing: a file in TOML, `-` for standard input, or --from FILE...")
+        words.fail("the plan is missing: a file in TOML, `-` for standard input, or --from FILE...")
     try:
         if words.sources:
             print(imports.plan_from(words.sources, words.file, words.root), end="")
             return 0
-        return answered(words)
+        return print_answer(words)
     except PlanFault as fault:
         for text in fault.faults:
             print(f"hugetlbctl: {text}", file=sys.stderr)

@@ -183,7 +183,7 @@ class Reader:
             table.fault("at_most", "Linux makes no surplus pages of 1 GiB and more: leave [overcommit] out")
         else:
             # (at most: half a page is none)
-            size = table.tried("at_most", 0, lambda: size_in_bytes(table.values["at_most"], page))
+            size = table.attempt("at_most", 0, lambda: size_in_bytes(table.values["at_most"], page))
             self.plan.overcommit = size // page
             most = sum(self.plan.host.capacity())
             if self.plan.overcommit > most:

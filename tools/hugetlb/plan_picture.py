@@ -4,9 +4,9 @@ from dataclasses import dataclass
 from html import escape
 from xml.etree.ElementTree import Element
 
-from .lines import shown
+from .lines import printable
 from .model import State
-from .report import Group, PoolReport, Report, numbered
+from .report import Group, PoolReport, Report, name_without_number
 from .settings import Settings
 from .sizes import in_words
 from .svg import element, number, picture
@@ -46,7 +46,7 @@ svg{width:100%;height:auto}strong.fits{color:var(--whole)}strong.wrong{color:var
 
 def safe(text: str) -> str:
     """A text for a page: characters that are none are escaped."""
-    return escape(shown(text))
+    return escape(printable(text))
 
 
 def label(
@@ -62,7 +62,7 @@ def label(
     """A line of text."""
     return element(
         "text",
-        shown(text),
+        printable(text),
         class_=kind,
         font_weight=weight,
         x=number(x),
@@ -130,7 +130,7 @@ def by_kind(pool: PoolReport, colours: dict[str, str]) -> list[Bar]:
             if state is State.WHOLE
             else STATES[state]
         )
-        names = ", ".join(dict.fromkeys(numbered(it.first) for it in groups[:8]))
+        names = ", ".join(dict.fromkeys(name_without_number(it.first) for it in groups[:8]))
         fill = colours.setdefault(kind, KINDS[len(colours) % len(KINDS)])
         made.append(
             Bar(
@@ -177,7 +177,7 @@ class PlanPicture:
         else:
             look = {"fill": COPIES if kind == "copies" else fill}
         place = {"x": number(self.x(start)), "y": number(y), "width": number(width), "height": str(BAR)}
-        inner = [element("title", shown(tip))]
+        inner = [element("title", printable(tip))]
         return element("rect", "", inner, class_=kind if fill == WHOLE else "kind", **place, **look)
 
     def rows(self) -> list[Element]:
@@ -271,7 +271,7 @@ class PlanPicture:
             label(report.plan.file.rpartition("/")[2], WIDTH - 16, 22, "end", PALE, "pale"),
         ]
         parts = [
-            element("title", shown(report.headline())),
+            element("title", printable(report.headline())),
             element("style", DARK),
             element("rect", class_="ground", width=WIDTH, height=height, fill=GROUND),
             *(head if has_style else []),

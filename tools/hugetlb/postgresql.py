@@ -71,7 +71,7 @@ def number_of(path: str) -> int:
     return int(found[1]) if found else 0
 
 
-def installed() -> str | None:
+def find_postgres() -> str | None:
     """The program `postgres`: the one that is named, the one on the PATH, or Debian's newest."""
     if NAMED in os.environ:
         return os.environ[NAMED] or None
@@ -101,7 +101,7 @@ def by_itself(settings: Settings, page_bytes: int, data_directory: str | None = 
 
     It is asked by an empty cluster, in a folder that is taken away again.
     """
-    program = installed()
+    program = find_postgres()
     if not program:
         return None
     # (it runs as no superuser)

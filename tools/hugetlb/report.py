@@ -5,7 +5,7 @@ from dataclasses import dataclass
 from typing import Any
 
 from .fit import Answer, Hazard, Node, NodeSet, PoolAnswer
-from .lines import plural, shown
+from .lines import plural, printable
 from .machine import Phase
 from .model import Consumer, State, least_left
 from .runs import Outcome
@@ -24,14 +24,14 @@ class Group:
     count: int = 1
 
     def name(self) -> str:
-        return shown(
+        return printable(
             self.first.name
             if self.count == 1
             else f"{self.first.name} to {self.last.name.rpartition(' ')[2]}"
         )
 
 
-def numbered(outcome: Outcome) -> str:
+def name_without_number(outcome: Outcome) -> str:
     """A name without its number."""
     return re.sub(r" \d+$", "", outcome.name)
 
@@ -39,7 +39,11 @@ def numbered(outcome: Outcome) -> str:
 def are_alike(one: Outcome, other: Outcome) -> bool:
     alike = (one.kind, one.asked, one.state, one.got, one.what)
     same = alike == (other.kind, other.asked, other.state, other.got, other.what)
-    return same and other.name != numbered(other) and numbered(one) == numbered(other)
+    return (
+        same
+        and other.name != name_without_number(other)
+        and name_without_number(one) == name_without_number(other)
+    )
 
 
 def groups_of(outcomes: list[Outcome]) -> list[Group]:
@@ -59,7 +63,7 @@ def names_of(consumers: list[Consumer]) -> str:
         base = re.sub(r" \d+$", "", one.name)
         found.setdefault(base, []).append(one.name)
     told = [
-        shown(names[0] if len(names) == 1 else f"{names[0]} to {names[-1].rpartition(' ')[2]}")
+        printable(names[0] if len(names) == 1 else f"{names[0]} to {names[-1].rpartition(' ')[2]}")
         for names in found.values()
     ]
     return ", ".join(told[:6]) + (f" and {len(told) - 6} more" if len(told) > 6 else "")
@@ -156,7 +160,7 @@ class PoolReport:
             said.append(
                 (
                     f"nr {of.smallest - unit:,}",
-                    f"with {step} less: {shown(of.one_less[0].name)} {of.one_less[0].what}",
+                    f"with {step} less: {printable(of.one_less[0].name)} {of.one_less[0].what}",
                 )
             )
         if self.answer.worst and of.binds and of.fits:
@@ -380,7 +384,7 @@ class Report:
         ]
         return f"It does not fit: {'; '.join(told)}."
 
-    def left(self) -> int:
+    def bytes_free(self) -> int:
         """The bytes that are left for all else."""
         return sum(self.plan.host.node_bytes) - sum(
             (it.of.nr + it.of.overcommit) * it.page for it in self.pools
@@ -397,9 +401,10 @@ class Report:
                 f"{in_words(sum(host.keep))} of the memory are kept for the kernel and all that takes no "
                 "huge pages: `keep` in [host] sets another size"
             )
-        if self.left() < least_left(total):
+        left = self.bytes_free()
+        if left < least_left(total):
             said.append(
-                f"too little is left besides: {in_words(max(self.left(), 0))} of {in_words(total)}, and the "
+                f"too little is left besides: {in_words(max(left, 0))} of {in_words(total)}, and the "
                 f"kernel alone wants {in_words(least_left(total))}"
             )
         kinds = {it.kind for it in self.plan.consumers}
@@ -428,14 +433,14 @@ class Report:
         ]
 
     def text(self) -> str:
-        lines = [f"{shown(self.plan.file)}: {self.headline()}"]
+        lines = [f"{printable(self.plan.file)}: {self.headline()}"]
         for pool in self.pools:
             lines += [
                 "",
                 *([f"  Pages of {in_words(pool.page)}:", ""] if len(self.pools) > 1 else []),
                 *pool.text(),
             ]
-        return "\n".join([*lines, "", *(f"  - {shown(it)}" for it in self.remarks())]) + "\n"
+        return "\n".join([*lines, "", *(f"  - {printable(it)}" for it in self.remarks())]) + "\n"
 
     def as_json(self) -> str:
         values = [it.as_value() for it in self.pools]
@@ -473,7 +478,7 @@ class Report:
             made += [f"overcommit {pool.of.at_overcommit // unit}"] if pool.of.at_overcommit else []
             made += script.mounts()
             for program in script.programs:
-                made += [f"# {shown(program.one.name)}", *program.start, *program.touches]
+                made += [f"# {printable(program.one.name)}", *program.start, *program.touches]
             for phase in Phase:
                 lines = [line for program in script.programs for line in program.of_phase[phase]]
                 made += [f"# {phase.value}", *lines] if lines else []

@@ -6,7 +6,7 @@ from typing import TypeVar
 
 from hugetlb_session import Session
 
-from .lines import expanded
+from .lines import expand
 from .machine import MOST_FRAMES, Lines, Phase, Question, Scale, Script
 from .model import Consumer, State
 from .program import NoProgram
@@ -48,12 +48,12 @@ class Runs:
 
     def __init__(self, question: Question, program: str):
         self.question, self.program, self.most_frames, self.count = question, program, MOST_FRAMES, 0
-        self.scaled()
+        self.rescale()
 
-    def scaled(self) -> None:
+    def rescale(self) -> None:
         self.scale = Scale(self.question, self.most_frames)
         self.script = Script(self.question, self.scale)
-        self.body = "".join(f"{one}\n" for line in self.script.phases() for one in expanded(line)).encode()
+        self.body = "".join(f"{one}\n" for line in self.script.phases() for one in expand(line)).encode()
 
     def with_room(self, asks: Callable[[], Found]) -> Found:
         """Asks at a scale that can be had: of fewer and larger pages where memory is short here."""
@@ -66,7 +66,7 @@ class Runs:
                     raise NoProgram(
                         "this machine has too little memory for a run with 4,096 pages of 1 KiB: free some"
                     ) from None
-                self.scaled()
+                self.rescale()
 
     # ---- the smallest number
 
@@ -91,12 +91,12 @@ class Runs:
         """The smallest nr with which all is whole; none where no number will do."""
 
         def asks() -> int | None:
-            found = self.bisected(self.scale.down(overcommit))
+            found = self.bisect(self.scale.down(overcommit))
             return None if found is None else found * self.scale.unit
 
         return self.with_room(asks)
 
-    def bisected(self, overcommit: int) -> int | None:
+    def bisect(self, overcommit: int) -> int | None:
         """The sum of what is asked is tried first: it is often the answer."""
         low, high = -1, self.scale.frames
         guess = max(self.scale.frames - overcommit, 0)
@@ -137,7 +137,7 @@ class Runs:
         with Session.over_pipe([self.program, "script", *self.script.words()], seconds=SECONDS) as session:
             session.nr(nr)
             session.overcommit(min(overcommit, self.scale.frames - nr))
-            rows, refused = self.promised(session)
+            rows, refused = self.make_mounts(session)
             for program in self.script.programs:
                 found[program.task] = self.starts(session, program, refused)
             running = [
@@ -150,12 +150,12 @@ class Runs:
             ]
             for phase in (Phase.FORKS, Phase.REWRITES):
                 for program in forked:
-                    session.replies([one for line in program.of_phase[phase] for one in expanded(line)])
+                    session.replies([one for line in program.of_phase[phase] for one in expand(line)])
             for program in forked:
                 self.reads(session, program, found[program.task])
         return rows + [found[program.task] for program in self.script.programs]
 
-    def promised(self, session: Session) -> tuple[list[Outcome], dict[int, str]]:
+    def make_mounts(self, session: Session) -> tuple[list[Outcome], dict[int, str]]:
         """Makes the mounts.
 
         Answers a row for each that the plan names with a minimum, and the lines of those that were refused.
@@ -200,7 +200,7 @@ class Runs:
             row.state, row.got, row.what = State.REFUSED, 0, "its mount's minimum can't be promised"
             row.line, row.reply = refused[id(one.mount)], "error 2 NoPages"
             return row
-        lines = [*program.start, *(it for line in program.touches for it in expanded(line))]
+        lines = [*program.start, *(it for line in program.touches for it in expand(line))]
         replies = session.replies(lines)
         wrong = next((at for at, reply in enumerate(replies) if reply[0].startswith("error ")), None)
         if wrong is not None:
@@ -218,7 +218,7 @@ class Runs:
     def uses(self, session: Session, program: Lines, row: Outcome) -> None:
         if not program.of_phase[Phase.USES]:
             return
-        lines = [it for line in program.of_phase[Phase.USES] for it in expanded(line)]
+        lines = [it for line in program.of_phase[Phase.USES] for it in expand(line)]
         wrong = next(
             (
                 (at, reply[0])
@@ -236,7 +236,7 @@ class Runs:
 
     def reads(self, session: Session, program: Lines, row: Outcome) -> None:
         """Looks through the child: a page that the owner took back is refused there, and nowhere else."""
-        lines = [it for line in program.of_phase[Phase.READS] for it in expanded(line)]
+        lines = [it for line in program.of_phase[Phase.READS] for it in expand(line)]
         wrong = [
             (line, reply[0])
             for line, reply in zip(lines, session.replies(lines))

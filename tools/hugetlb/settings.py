@@ -1,7 +1,7 @@
 """The settings of a host for a plan that fits: pages, the kernel's command line, and mounts."""
 import re
 
-from .lines import shown
+from .lines import printable
 from .model import Mount
 from .report import PoolReport, Report
 from .sizes import as_option
@@ -31,7 +31,7 @@ class Settings:
         return self.unit() if self.has_unit() else self.sysctl_file(self.report.pools[0])
 
     def sysctl_file(self, pool: PoolReport) -> str:
-        head = f"# /etc/sysctl.d/60-hugetlb.conf for {shown(self.plan.file)}\n"
+        head = f"# /etc/sysctl.d/60-hugetlb.conf for {printable(self.plan.file)}\n"
         if refusal := self.refusal(head):
             return refusal
         of = pool.of
@@ -66,7 +66,7 @@ class Settings:
         )
 
     def unit(self) -> str:
-        head = f"# /etc/systemd/system/{UNIT} for {shown(self.plan.file)}\n"
+        head = f"# /etc/systemd/system/{UNIT} for {printable(self.plan.file)}\n"
         if refusal := self.refusal(head):
             return refusal
         pools = self.report.pools
@@ -127,7 +127,7 @@ class Settings:
         return made
 
     def fstab(self) -> str:
-        head = f"# /etc/fstab for {shown(self.plan.file)}\n"
+        head = f"# /etc/fstab for {printable(self.plan.file)}\n"
         if refusal := self.refusal(head):
             return refusal
         after = UNIT if self.has_unit() else "systemd-sysctl.service"

@@ -84,7 +84,7 @@ class Table:
                     f"{f'{near[0]} is meant?' if near else 'there are ' + ', '.join(keys)}",
                 )
 
-    def tried(self, key: str, default: Value, read: Callable[[], Value]) -> Value:
+    def attempt(self, key: str, default: Value, read: Callable[[], Value]) -> Value:
         """What is read; the default where the key is not there, or its value is wrong."""
         if key not in self.values:
             return default
@@ -104,7 +104,7 @@ class Table:
         return value
 
     def truth(self, key: str, default: bool) -> bool:
-        return self.tried(key, default, lambda: bool(self.of_type(key, bool, "true or false")))
+        return self.attempt(key, default, lambda: bool(self.of_type(key, bool, "true or false")))
 
     def number(self, key: str, default: int, least: int, most: int) -> int:
         def read() -> int:
@@ -114,7 +114,7 @@ class Table:
                 raise Wrong
             return value
 
-        return self.tried(key, default, read)
+        return self.attempt(key, default, read)
 
     def text(self, key: str, default: str, choices: Sequence[str] = ()) -> str:
         def read() -> str:
@@ -124,10 +124,10 @@ class Table:
                 raise Wrong
             return value
 
-        return self.tried(key, default, read)
+        return self.attempt(key, default, read)
 
     def bytes(self, key: str, default: int = 0) -> int:
-        return self.tried(key, default, lambda: size_in_bytes(self.values[key]))
+        return self.attempt(key, default, lambda: size_in_bytes(self.values[key]))
 
     def pages(self, key: str, default: int, page_bytes: int, whole: int | None = None) -> int:
         """A size in pages; where there is a whole, a percentage of it too."""
@@ -142,7 +142,7 @@ class Table:
                 raise Wrong
             return pages
 
-        return self.tried(key, default, read)
+        return self.attempt(key, default, read)
 
     def sizes(self, key: str, page_bytes: int | None = None) -> list[int]:
         """A list of sizes in bytes; empty where it is wrong."""
@@ -150,7 +150,7 @@ class Table:
         def read() -> list[int]:
             return [size_in_bytes(it, page_bytes) for it in self.of_type(key, list, "a list of sizes")]
 
-        return self.tried(key, [], read)
+        return self.attempt(key, [], read)
 
     def counts(self, key: str, nodes: int) -> list[int] | None:
         """A number of pages, or one for each node; none where it is wrong."""
@@ -171,10 +171,10 @@ class Table:
                 raise Wrong
             return listed
 
-        return self.tried(key, None, read)
+        return self.attempt(key, None, read)
 
 
-def quoted(faults: Faults, at: int, line: str) -> str:
+def with_quotes(faults: Faults, at: int, line: str) -> str:
     """A line with quotes around each size that has none."""
     key, is_pair, value = line.partition("=")
     if not is_pair or not KEY.match(line):
@@ -199,7 +199,7 @@ def values_of(faults: Faults, text: str) -> dict[str, Any]:
         text = text[1:]
     lines = text.split("\n")
     for at, line in enumerate(lines):
-        lines[at] = quoted(faults, at + 1, line)
+        lines[at] = with_quotes(faults, at + 1, line)
     try:
         return tomllib.loads("\n".join(lines))
     except tomllib.TOMLDecodeError as error:

@@ -5,7 +5,7 @@ from typing import Protocol, TextIO
 
 from hugetlb_session import FORMS, LINE_BYTES, BadLine, Line, Meminfo, Reply, Session, sendable, value_of
 
-from .lines import LETTERS, expanded, form_of, shown, without_comment
+from .lines import LETTERS, expand, form_of, printable, without_comment
 from .refusals import Answers, Machine, questions
 
 # how many lines go out before their replies are read
@@ -42,7 +42,7 @@ class Says(Protocol):
         """A line that was answered, and why it was refused."""
 
 
-def summed(replies: list[str]) -> str:
+def as_one(replies: list[str]) -> str:
     """The replies to the lines of a range, as one."""
     if len(replies) == 1:
         return replies[0]
@@ -60,11 +60,11 @@ class Asked:
 
     def __init__(self, number: int, line: str) -> None:
         self.number, self.line = number, line
-        self.lines = expanded(line)
+        self.lines = expand(line)
         asked = [question for one in self.lines for question in questions(one)]
         self.questions = asked if len(asked) < 2 else list(dict.fromkeys(asked))
 
-    def sent(self) -> list[Line]:
+    def outgoing(self) -> list[Line]:
         """All lines that go out for it, each of them short enough."""
         made: list[Line] = []
         for one in self.lines:
@@ -91,33 +91,33 @@ class Talk:
         waiting: list[Callable[[list[Reply]], None]] = []
         out: list[Line] = []
         for number, line in numbered:
-            waiting.append(self.taken(number, line, out))
+            waiting.append(self.prepare(number, line, out))
             if len(out) > AT_ONCE:
                 self.say_all(waiting, out)
                 waiting, out = [], []
         self.say_all(waiting, out)
 
-    def taken(self, number: int, line: str, out: list[Line]) -> Callable[[list[Reply]], None]:
+    def prepare(self, number: int, line: str, out: list[Line]) -> Callable[[list[Reply]], None]:
         """Adds what goes out for a line, and answers what is said of it once all replies are there."""
         asked = without_comment(line)
         if not asked.strip():
             return lambda _: self.say.comment(line)
         try:
             one = Asked(number, asked)
-            sent = one.sent()
+            sent = one.outgoing()
         except BadLine as error:
             fault = error
             return lambda _: self.say.unsent(asked, fault)
         at, end = len(out), len(out) + len(sent)
         out += sent
-        return lambda replies: self.answered(one, replies[at:end])
+        return lambda replies: self.say_answer(one, replies[at:end])
 
     def say_all(self, waiting: list[Callable[[list[Reply]], None]], out: list[Line]) -> None:
         replies = self.session.replies(out) if out else []
         for says in waiting:
             says(replies)
 
-    def answered(self, asked: Asked, replies: list[Reply]) -> None:
+    def say_answer(self, asked: Asked, replies: list[Reply]) -> None:
         count = len(asked.lines)
         if count == 1 and replies[0][0][:6] != "error ":
             if asked.line.startswith("overcommit "):
@@ -133,7 +133,7 @@ class Talk:
         refused = [(line, reply[0]) for line, reply in zip(asked.lines, replies) if reply[0][:6] == "error "]
         more = replies[0][1:] if count == 1 else []
         all_counts = self.counts_of(replies[count])
-        said = summed([reply[0] for reply in replies[:count]])
+        said = as_one([reply[0] for reply in replies[:count]])
         row = Row(asked.number, asked.line, said, more, all_counts[:4])
         self.rows.append(row)
         why: list[str] = []
@@ -156,17 +156,17 @@ class Script:
         self.out = out
 
     def comment(self, line: str) -> None:
-        print(shown(line.rstrip()).replace("\\t", "\t"), file=self.out)
+        print(printable(line.rstrip()).replace("\\t", "\t"), file=self.out)
 
     def head(self) -> None:
         print(f"{'':44} {'':20} {'Total':>6} {'Free':>6} {'Rsvd':>6} {'Surp':>6}", file=self.out)
 
     def unsent(self, line: str, fault: BadLine) -> None:
-        print(f"{shown(line):44} not sent: {fault}", file=self.out)
+        print(f"{printable(line):44} not sent: {fault}", file=self.out)
 
     def row(self, row: Row, why: Iterable[str]) -> None:
         total, free, rsvd, surp = row.counts
-        self.out.write(f"{shown(row.line):44} {row.reply:20} {total:6} {free:6} {rsvd:6} {surp:6}\n")
+        self.out.write(f"{printable(row.line):44} {row.reply:20} {total:6} {free:6} {rsvd:6} {surp:6}\n")
         for line in (*row.more, *why):
             self.out.write(f"    {line}\n")
 

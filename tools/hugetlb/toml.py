@@ -2,7 +2,7 @@
 import json
 from dataclasses import dataclass, field
 
-from .lines import shown
+from .lines import printable
 from .sizes import exactly
 
 
@@ -31,10 +31,10 @@ class Written:
 
     def lines(self) -> list[str]:
         head = f"[{self.kind}]" if self.kind in ("host", "overcommit") else f"[[{self.kind}]]"
-        notes = {key: f"  # {shown(note)}" for key, note in self.notes.items()}
+        notes = {key: f"  # {printable(note)}" for key, note in self.notes.items()}
         return [
             "",
-            *(f"# {shown(it)}" for it in self.remarks),
+            *(f"# {printable(it)}" for it in self.remarks),
             head,
             *(f"{key} = {value}{notes.get(key, '')}" for key, value in self.values.items()),
         ]

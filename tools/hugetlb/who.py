@@ -17,9 +17,10 @@ from pathlib import Path
 from typing import Any
 
 from .host import HugeMount, LinuxHost, Range, mounts_in
-from .lines import shown
-from .observe import owners_of, page_of
+from .lines import printable
+from .observe import a_page, owners_of
 from .sizes import in_words
+from .subcommand import Subcommands, subparser
 
 SMALL = 4096
 REASONS = (
@@ -89,14 +90,14 @@ def of_processes(host: LinuxHost) -> Iterator[tuple[Holder, tuple[str, int] | No
             in_use = file_pages(host, first) or owner.present
             reserved = max(owner.pages - in_use, 0) if any(it.has_reserve for it in owner.ranges) else 0
             yield Holder(
-                first.process.shown(), kind, what, in_use, reserved, nodes_of(owner.ranges), owner.others()
+                first.process.label(), kind, what, in_use, reserved, nodes_of(owner.ranges), owner.others()
             ), first.file
             continue
         # (of a private range each process counts its own copies, and the oldest one what they share)
         in_use = first.present + sum(it.own for it in owner.ranges if it is not first)
         reserved = max(first.pages - first.present, 0) if first.has_reserve else 0
         yield Holder(
-            first.process.shown(), kind, what, in_use, reserved, dict(first.by_node), owner.others()
+            first.process.label(), kind, what, in_use, reserved, dict(first.by_node), owner.others()
         ), None
 
 
@@ -237,7 +238,7 @@ class Table:
         return (
             f"{one.who}{others}",
             one.kind.value,
-            shown(one.what),
+            printable(one.what),
             f"{one.in_use:,}",
             f"{one.reserved:,}",
             nodes,
@@ -305,12 +306,11 @@ def table_of(host: LinuxHost) -> Table:
     )
 
 
-def parser() -> argparse.ArgumentParser:
-    made = argparse.ArgumentParser(
-        prog="hugetlbctl who", description=__doc__, formatter_class=argparse.RawDescriptionHelpFormatter
-    )
+def add_to(tool: Subcommands) -> None:
+    made = subparser(tool, "who", __doc__, run)
     made.add_argument(
         "--page",
+        type=a_page,
         metavar="SIZE",
         help="the size of page to look at, as 1GiB (the default size of this kernel)",
     )
@@ -322,14 +322,11 @@ def parser() -> argparse.ArgumentParser:
         help="the host's /proc, /sys and mounts stand below this folder",
     )
     made.add_argument("--json", action="store_true", help="prints the table as JSON")
-    return made
 
 
-def main(arguments: list[str]) -> int:
-    made = parser()
-    words = made.parse_args(arguments)
+def run(words: argparse.Namespace) -> int:
     try:
-        table = table_of(LinuxHost(words.root, page_of(made, words.page)))
+        table = table_of(LinuxHost(words.root, words.page))
     except FileNotFoundError as error:
         print(f"hugetlbctl: {error.filename}: {error.strerror}: it is read on Linux alone", file=sys.stderr)
         return 1

@@ -1,2 +1,3 @@
 mod Ready
 mod Whole
+mod Time

@@ -1,2 +1,4 @@
 pub mod Joined
 pub mod OneRun
+pub mod Left
+pub mod Time

@@ -1,13 +1,11 @@
 //! The end of the machine that threads shared.
 ghost use Rattle.std.specs.Prelude.{◌≡◌, ◌≢◌, ◌≤◌, ◌==◌, ◌++◌, [], false, true, not, is_some, length, vec_len, vec_capacity, IfOk, IfSome, OnErr, OnOk, MatchResult, Ok, None, Some};
-ghost use Rattle.hp_history.specs.Ending.{sessions_from};
-ghost use Rattle.hp_history.specs.History.{Ends};
 ghost use Rattle.hp_locked.specs.Views.{frames_list};
 ghost use Rattle.hp_model.specs.machine.Machine.{start};
 ghost use Rattle.hp_model.specs.machine.Settled.{IsSettledState};
 ghost use Rattle.hp_model.specs.machine.State.{State};
 ghost use Rattle.hp_model.specs.Profile.{most_frames_in_all, most_page_bytes};
-ghost use Rattle.hp_closing.specs.Joined.{AreJoined, WasJoined};
+ghost use Rattle.hp_closing.specs.Joined.{AreJoined, HaveJoined, WasJoined};
 ghost use Rattle.hp_closing.specs.OneRun.{WasOneRun, all_told};
 ghost use Rattle.hp_mount_door.specs.Door.{IsReady as IsReadyPool};
 ghost use Rattle.hp_shared.specs.Ended.{HasEnded, IsExactly};
@@ -81,6 +79,7 @@ fn is_joined<const K: usize>(
 
 // Whether these are all sessions that were opened, in the order of their numbers, on a machine whose slots were in order: then there
 // is an order of all events. Where K is 1 their receipts are told, for which there is room.
+#[tactic(auto, using(crate::proofs::Whole::none_joined))]
 fn all_join<N: Places, const K: usize>(
     ended: Ended<N>,
     sessions: Vec<Finished<N, K>>,
@@ -91,8 +90,7 @@ fn all_join<N: Places, const K: usize>(
     ensures told { (K == 1) ≡ true → lists told.new.items ≡ all_told sessions.items }
     ensures in_order { result ≡ true → ended.in_order ≡ true }
     ensures count { result ≡ true → IsExactly ended.sessions (length (all_told sessions.items)) }
-    ensures ends { result ≡ true
-        → Ends N.shape (ended.seat.me.0 ++ sessions_from 0 (all_told sessions.items)) }
+    ensures joined { result ≡ true → HaveJoined N.shape ended.seat.me.0 sessions.items }
 {
     let mut is_whole = ended.in_order && are_all(sessions.len(), ended.sessions);
     let mut ended = ended;
@@ -161,9 +159,10 @@ pub fn into_system<N: Naming + Places, const K: usize>(
 /// Takes the machine apart, with all sessions, which have finished, in the order of their numbers, and closes it.
 ///
 /// Where these are all, what they were told is one run of the machine from its start, look-ups of tasks among it: each session's
-/// events stand there in its order, each once, with the replies that it was given, and there are no others. At its end all pages
-/// that were persistent are free again, and none is promised or surplus. Where K is 1 trails and receipts are joined, as `audit`
-/// does, and these never differ then. Refused where K is 1 and the memory to join them is; the machine is closed as well.
+/// events stand there in its order, each once, with the replies that it was given, and there are no others. Whatever a session saw
+/// of the order is a front of it. At its end all pages that were persistent are free again, and none is promised or surplus. Where
+/// K is 1 trails and receipts are joined, as `audit` does, and these never differ then. Refused where K is 1 and the memory to join
+/// them is; the machine is closed as well.
 pub fn close<N: Naming + Places, const K: usize>(
     alloc: Global,
     shared: Shared<N, K>,
@@ -175,7 +174,7 @@ pub fn close<N: Naming + Places, const K: usize>(
     ensures audited { IfOk result (λ c. is_some c.audit ≡ (K == 1)) }
     ensures run { IfOk result (λ c. c.is_whole ≡ true → WasOneRun
         (start (frames_list N.frames) shared.page_size shared.slots)
-        (all_told sessions.items) c.counts) }
+        sessions.items c.counts) }
     ensures agrees { IfOk result (λ c. c.is_whole ≡ true → c.audit ≢ Some false) }
     ensures joined { IfOk result (λ c. c.audit ≡ Some true → WasJoined
         (start (frames_list N.frames) shared.page_size shared.slots)

@@ -2,5 +2,7 @@
 #![tactic(auto)]
 
 mod closing;
+mod law;
 
 pub use closing::{Closed, audit, close, into_system};
+pub use law::answered_first;

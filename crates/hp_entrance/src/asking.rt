@@ -10,7 +10,7 @@ use crate::holding::held_accesses;
 use crate::member::Member;
 use hp_events::copies::Copies;
 use hp_events::{LentEvent, Parts, TableTold, into_done, is_of_mount};
-use hp_history::Places;
+use hp_history::{Clock, Places};
 use hp_locked::{Core, Gate};
 use hp_model::entry::{PoolEntry, SlotEntry, TableEntry};
 use hp_model::event::{PoolEvent, SlotEvent, TableEvent};
@@ -99,6 +99,7 @@ fn seen<N: Naming + Places, const K: usize>(
     ensures handed { IfSome result (λ told. (size : ℕ) → IsHanded (K == 1) size
         (OnTasks event) (table_reply told) member.old.receipts member.new.receipts) }
     ensures none { IfNone result (member.new.receipts ≡ member.old.receipts) }
+    ensures owner { member.new.number ≡ member.old.number }
     ensures room { member.new.room ≡ member.old.room }
 {
     if K == 1 {
@@ -114,6 +115,8 @@ fn seen<N: Naming + Places, const K: usize>(
 }
 
 impl<'a, N: Naming + Places, R: Wait, G: Gate, const K: usize> Parts for Entrance<'a, N, R, G, K> {
+    type Past = Clock<N>;
+
     ghost keeps = { K == 1 };
 
     ghost page = { N.page_bytes };
@@ -123,6 +126,10 @@ impl<'a, N: Naming + Places, R: Wait, G: Gate, const K: usize> Parts for Entranc
     ghost told = { λ e. e.receipts };
 
     ghost places = { λ e. e.room };
+
+    ghost clock = { λ e. e.clock };
+
+    ghost seen_by = { λ past. past };
 
     #[inline(always)]
     fn is_kept(&self) -> bool {
@@ -292,5 +299,19 @@ impl<'a, N: Naming + Places, R: Wait, G: Gate, const K: usize> Parts for Entranc
         let names = self.member.names(shared.history(), slot, shared.alloc());
         let_go(&mut self.turn, value);
         names
+    }
+
+    #[inline(always)]
+    fn date(&mut self) {
+        self.member.date(self.shared.history(), &mut self.clock);
+    }
+
+    fn show(&mut self) -> Clock<N> {
+        self.clock.show(self.shared.history())
+    }
+
+    fn hear(&mut self, past: Clock<N>) {
+        self.member
+            .hear(self.shared.history(), &mut self.clock, past);
     }
 }

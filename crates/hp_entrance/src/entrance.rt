@@ -2,7 +2,7 @@
 ghost use Rattle.std.specs.Prelude.{◌≡◌, ◌==◌, [], true, IfOk};
 
 use crate::member::Member;
-use hp_history::Places;
+use hp_history::{Clock, Places};
 use hp_locked::Gate;
 use hp_model::naming::Naming;
 use hp_order::{Rest, Turn};
@@ -19,6 +19,7 @@ pub struct Entrance<'a, N: Naming + Places, R: Wait, G: Gate, const K: usize> {
     pub(crate) gate: &'a G,
     pub(crate) turn: Turn,
     pub(crate) member: Member<N, K>,
+    pub(crate) clock: Clock<N>,
 }
 
 impl<'a, N: Naming + Places, R: Wait, G: Gate, const K: usize> Model for Entrance<'a, N, R, G, K> {
@@ -31,6 +32,7 @@ impl<'a, N: Naming + Places, R: Wait, G: Gate, const K: usize> Model for Entranc
       slots = e.shared.now.slots;
       receipts = e.member.receipts;
       room = e.member.room;
+      clock = record { number = e.member.number; seen = e.clock };
     } };
 
     ghost invariant = { λ e. e.turn.held ≡ [] };
@@ -47,6 +49,7 @@ impl<'a, N: Naming + Places, R: Wait, G: Gate, const K: usize> Entrance<'a, N, R
         rest: Rest,
     ) -> Result<Self, Rest>
         ensures none { IfOk result (λ e. e.receipts ≡ []) }
+        ensures unseen { IfOk result (λ e. e.clock.seen ≡ []) }
         ensures room { IfOk result (λ e. (K == 1) ≡ true → e.room ≡ room) }
     {
         let room = if K == 1 { room } else { 0 };
@@ -55,21 +58,30 @@ impl<'a, N: Naming + Places, R: Wait, G: Gate, const K: usize> Entrance<'a, N, R
             return Err(rest);
         }
         let mut turn = rest.into_turn();
-        let (number, seat) = shared.open_session(&mut turn, rt);
+        let (number, mut seat) = shared.open_session(&mut turn, rt);
+        let clock = Clock::new(shared.history(), &mut seat);
         Ok(Entrance {
             rt,
             shared,
             gate,
             turn,
             member: Member::new(number, seat, receipts, room),
+            clock,
         })
     }
 
     /// What the session leaves, once it is over, and its thread's turn. It takes no memory.
     pub fn into_finished(self) -> (Finished<N, K>, Rest)
-        ensures { result.0.receipts ≡ self.entry.receipts }
+        ensures number { result.0.number ≡ self.entry.clock.number }
+        ensures receipts { result.0.receipts ≡ self.entry.receipts }
+        ensures seen { result.0.seen ≡ self.entry.clock.seen }
     {
-        let Entrance { turn, member, .. } = self;
-        (member.into_finished(), Rest::of(turn))
+        let Entrance {
+            turn,
+            member,
+            clock,
+            ..
+        } = self;
+        (member.into_finished(clock), Rest::of(turn))
     }
 }

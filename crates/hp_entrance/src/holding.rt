@@ -45,6 +45,7 @@ pub(crate) fn held_accesses<N: Naming + Places, R: Wait, G: Gate, const K: usize
     ensures turn { turn.new.held ≡ 1 ∷ [] }
     ensures first { AreFirstHanded N.page_bytes at result queue.old queue.new
         member.old.receipts member.new.receipts }
+    ensures owner { member.new.number ≡ member.old.number }
     ensures room { member.new.room ≡ member.old.room }
 {
     let (history, page_bytes) = (shared.history(), shared.page_bytes());
@@ -85,6 +86,7 @@ fn held_run<N: Naming + Places, R: Wait, G: Gate, const K: usize>(
     ensures first { AreFirstHanded N.page_bytes at result queue.old queue.new
         member.old.receipts member.new.receipts }
     ensures number { slot.new.slot.number ≡ at }
+    ensures owner { member.new.number ≡ member.old.number }
     ensures room { member.new.room ≡ member.old.room }
 {
     let Some(intent) = intent_of(&queue[0]) else {
@@ -178,6 +180,7 @@ fn held_access<N: Naming + Places, R: Wait, G: Gate, const K: usize>(
     ensures left { IfNone result (queued.new ≡ queued.old) }
     ensures untold { IfNone result (member.new.receipts ≡ member.old.receipts) }
     ensures number { slot.new.slot.number ≡ slot.old.slot.number }
+    ensures owner { member.new.number ≡ member.old.number }
     ensures room { member.new.room ≡ member.old.room }
 {
     let access = *queued.access();

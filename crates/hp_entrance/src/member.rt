@@ -2,6 +2,7 @@
 ghost use Rattle.std.specs.Prelude.{ℕ, ◌≡◌, ◌==◌, ◌+◌, ◌<◌, ◌≤◌, ◌∷◌, ◌++◌, [], length, true, false, if◌then◌else◌, Ok, None, Some, IfSome, IfNone, vec_len, vec_capacity};
 ghost use Rattle.hp_model.specs.threads.JointRun.{option_cons};
 ghost use Rattle.hp_events.specs.Copies.{AreCopiesFor};
+ghost use Rattle.hp_events.specs.Time.{IsFront, made};
 ghost use Rattle.hp_events.specs.Event.{IsAnother, has_maps_for, is_exit, is_of_mount, shows_bytes};
 ghost use Rattle.hp_history.specs.History.{IsSession, number_in, receipts_in};
 ghost use Rattle.hp_history.specs.Sections.{pool_receipt};
@@ -23,7 +24,7 @@ ghost use Rattle.hp_entrance.specs.Runs.{AreFaultsHanded};
 use atomic_table::Badge;
 use hp_events::copies::Copies;
 use hp_events::{LentEvent, TableTold};
-use hp_history::{History, Places, Token, View};
+use hp_history::{Clock, History, Places, Token, View};
 use hp_locked::{Core, Gate, PoolTold};
 use hp_model::entry::{Part, PoolEntry, Receipt, SlotEntry, TableEntry};
 use hp_model::event::{Event, PoolEvent, TableEvent};
@@ -121,10 +122,11 @@ impl<N: Naming + Places, const K: usize> Member<N, K> {
         }
     }
 
-    /// What the session leaves, once it is over.
-    pub fn into_finished(self) -> Finished<N, K>
+    /// What the session leaves, once it is over, with its clock.
+    pub fn into_finished(self, clock: Clock<N>) -> Finished<N, K>
         ensures number { result.number ≡ self.number }
         ensures receipts { result.receipts ≡ self.receipts }
+        ensures seen { result.seen ≡ clock }
     {
         let Member {
             number,
@@ -132,7 +134,29 @@ impl<N: Naming + Places, const K: usize> Member<N, K> {
             receipts,
             ..
         } = self;
-        Finished::new(number, receipts, seat.into_seat())
+        Finished::new(number, receipts, seat.into_seat(), clock)
+    }
+
+    /// The clock looks at the order, where all events stand that the session was told of, and no others of it.
+    #[inline(always)]
+    pub fn date(&mut self, history: &History<N>, clock: &mut Clock<N>)
+        ensures same { self.new ≡ self.old }
+        ensures later { IsFront clock.old clock.new }
+        ensures made { made self.new.number clock.new ≡ length self.new.receipts }
+    {
+        let Member { seat, .. } = self;
+        clock.date(history, seat);
+    }
+
+    /// The clock takes what another has seen, and looks at the order as `date` does.
+    pub fn hear(&mut self, history: &History<N>, clock: &mut Clock<N>, other: Clock<N>)
+        ensures same { self.new ≡ self.old }
+        ensures heard { IsFront other clock.new }
+        ensures later { IsFront clock.old clock.new }
+        ensures made { made self.new.number clock.new ≡ length self.new.receipts }
+    {
+        let Member { seat, .. } = self;
+        clock.hear(history, seat, other);
     }
 
     /// For how many receipts more there is room, where they are kept.

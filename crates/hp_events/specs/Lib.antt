@@ -7,3 +7,4 @@ pub mod Replies
 pub mod Answered
 pub mod Queues
 pub mod Fitting
+pub mod Time

@@ -15,6 +15,7 @@ ghost use Rattle.hp_events.specs.Queues.{AreFirstHanded};
 ghost use Rattle.hp_events.specs.Replies.{names_reply, table_reply};
 ghost use Rattle.hp_events.specs.Copies.{AreCopiesFor};
 ghost use Rattle.hp_events.specs.Event.{is_of_maps, shows_bytes};
+ghost use Rattle.hp_events.specs.Time.{Clock as ClockValue, IsDated, IsFront};
 
 use crate::copies::Copies;
 use crate::event::LentEvent;
@@ -30,7 +31,12 @@ use std::alloc::Global;
 /// asks was told so far: a receipt of each event, in order. Where no entries are kept, no memory holds the receipts.
 ///
 /// What is asked of one part is one event there, if any. Nothing is known of a part before or after it.
+///
+/// All events of a machine stand in one order. Who asks sees it as far as it has looked, or was handed what others saw.
 pub trait Parts: Drop {
+    /// What one who asks can hand to any other: what it saw of the order.
+    type Past: Drop;
+
     /// Whether the parts keep entries of their events.
     ghost keeps: { Bool };
 
@@ -45,6 +51,12 @@ pub trait Parts: Drop {
 
     /// For how many receipts there is room, where entries are kept.
     ghost places: { Self → ℕ };
+
+    /// The number of this session, and what it saw of the order.
+    ghost clock: { Self → ClockValue };
+
+    /// Whose the first events of the order are, as what is handed over has seen it.
+    ghost seen_by: { Self.Past → List ℕ };
 
     /// Whether the parts keep entries of their events.
     fn is_kept(&self) -> bool
@@ -73,7 +85,8 @@ pub trait Parts: Drop {
         ensures handed { IsHanded keeps page (OnTasks event) (table_reply result)
             (told self.old) (told self.new) }
         ensures slots { slots self.new ≡ slots self.old }
-        ensures places { places self.new ≡ places self.old };
+        ensures places { places self.new ≡ places self.old }
+        ensures clock { clock self.new ≡ clock self.old };
 
     /// An event of the pool alone: what it answers.
     fn pool(&mut self, event: PoolEvent) -> Result<Told<'static>, Refusal>
@@ -82,7 +95,8 @@ pub trait Parts: Drop {
             (told self.old) (told self.new) }
         ensures limits { IsWithinLimits (told_reply result) }
         ensures slots { slots self.new ≡ slots self.old }
-        ensures places { places self.new ≡ places self.old };
+        ensures places { places self.new ≡ places self.old }
+        ensures clock { clock self.new ≡ clock self.old };
 
     /// What is asked of the slot of this number, but for what goes by a task's maps: its reply. Bytes are in the front of the
     /// room. Copies of what is carried are there where entries are kept.
@@ -103,7 +117,8 @@ pub trait Parts: Drop {
             (told_reply result) (told self.old) (told self.new) }
         ensures limits { IsWithinLimits (told_reply result) }
         ensures slots { slots self.new ≡ slots self.old }
-        ensures places { places self.new ≡ places self.old };
+        ensures places { places self.new ≡ places self.old }
+        ensures clock { clock self.new ≡ clock self.old };
 
     /// The maps that a task has on the slot of this number become its child's as well; nothing, and no event, where it has none.
     fn fork_maps(&mut self, at: usize, parent: u64, child: u64) -> Option<Result<(), Refusal>>
@@ -114,7 +129,8 @@ pub trait Parts: Drop {
             (OnSlot at (ForkMaps parent child)) (done_reply r) (told self.old) (told self.new)) }
         ensures none { IfNone result (told self.new ≡ told self.old) }
         ensures slots { slots self.new ≡ slots self.old }
-        ensures places { places self.new ≡ places self.old };
+        ensures places { places self.new ≡ places self.old }
+        ensures clock { clock self.new ≡ clock self.old };
 
     /// The maps that a task has on the slot of this number go: whether it had any; else there is no event.
     fn exit_maps(&mut self, at: usize, task: u64) -> bool
@@ -123,7 +139,8 @@ pub trait Parts: Drop {
         ensures handed { MatchBool result (IsHanded keeps page (OnSlot at (ExitMaps task)) (Ok Done)
             (told self.old) (told self.new)) (told self.new ≡ told self.old) }
         ensures slots { slots self.new ≡ slots self.old }
-        ensures places { places self.new ≡ places self.old };
+        ensures places { places self.new ≡ places self.old }
+        ensures clock { clock self.new ≡ clock self.old };
 
     /// The first loads, stores and faults of a queue, where no entries are kept: those of the slot of this number, of tasks that are
     /// found without waiting; so many were done, one after another, and what each was answered is noted.
@@ -134,7 +151,8 @@ pub trait Parts: Drop {
         ensures first { AreFirstHanded page at result queue.old queue.new
             (told self.old) (told self.new) }
         ensures slots { slots self.new ≡ slots self.old }
-        ensures places { places self.new ≡ places self.old };
+        ensures places { places self.new ≡ places self.old }
+        ensures clock { clock self.new ≡ clock self.old };
 
     /// The names of the files on the slot of this number.
     fn names(&mut self, at: usize) -> Result<Names, Refusal>
@@ -143,6 +161,30 @@ pub trait Parts: Drop {
         ensures handed { IsHanded keeps page (OnSlot at Ls) (names_reply result)
             (told self.old) (told self.new) }
         ensures limits { IsWithinLimits (names_reply result) }
+        ensures slots { slots self.new ≡ slots self.old }
+        ensures places { places self.new ≡ places self.old }
+        ensures clock { clock self.new ≡ clock self.old };
+
+    /// Looks at the order: all events of this session stand there by now.
+    fn date(&mut self)
+        ensures dated { IsDated (told self.old) (clock self.old) (clock self.new) }
+        ensures told { told self.new ≡ told self.old }
+        ensures slots { slots self.new ≡ slots self.old }
+        ensures places { places self.new ≡ places self.old };
+
+    /// What it saw of the order, to be handed over.
+    fn show(&mut self) -> Self::Past
+        ensures seen { seen_by result ≡ (clock self.old).seen }
+        ensures clock { clock self.new ≡ clock self.old }
+        ensures told { told self.new ≡ told self.old }
+        ensures slots { slots self.new ≡ slots self.old }
+        ensures places { places self.new ≡ places self.old };
+
+    /// Takes what another saw of the order, and looks at it: that stands there as well.
+    fn hear(&mut self, past: Self::Past)
+        ensures heard { IsFront (seen_by past) (clock self.new).seen }
+        ensures dated { IsDated (told self.old) (clock self.old) (clock self.new) }
+        ensures told { told self.new ≡ told self.old }
         ensures slots { slots self.new ≡ slots self.old }
         ensures places { places self.new ≡ places self.old };
 }

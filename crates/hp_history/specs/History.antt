@@ -1,5 +1,5 @@
 -- The order of all events so far, and what seats know of it.
-use Rattle.std.specs.Prelude.{◌≡◌, ◌≢◌, ℕ, suc, ◌+◌, ◌*◌, ◌/◌, ◌%◌, ◌<◌, ◌==◌, true, false, Option, None, Some, Ok, List, [], ◌∷◌, ◌++◌, map, replicate, slice_index, if◌then◌else◌}
+use Rattle.std.specs.Prelude.{◌≡◌, ◌≢◌, ℕ, zero, suc, ◌+◌, ◌*◌, ◌/◌, ◌%◌, ◌<◌, ◌≤◌, ◌==◌, true, false, Option, None, Some, Ok, List, [], ◌∷◌, ◌++◌, length, map, replicate, slice_index, if◌then◌else◌}
 use mathlib.Core.Option.{some}
 use lib.ListN.{get_elem?}
 use Rattle.atomic_table.specs.Seated.{TableId}
@@ -12,8 +12,9 @@ use Rattle.hp_model.specs.declared.entry.TableEntry.{TableEntry}
 use Rattle.hp_model.specs.declared.event.TableEvent.TheVariants.{Find}
 use Rattle.hp_model.specs.machine.Table.{Table, added, home_of, removed, table_event}
 use Rattle.hp_model.specs.threads.JointRun.{Entry, InPool, InSlot, InTasks, IsThere, Item, keep, numbered, pool_part, receipt_of, section_entry, slot_part, task_part, told}
+use Rattle.hp_events.specs.Time.{IsFront, made}
 use Rattle.hp_history.specs.declared.held.Held.{Held}
-use Rattle.hp_history.specs.declared.held.Held.TheVariants.{Tasks, Pool, Opener, Slot, Session, Busy}
+use Rattle.hp_history.specs.declared.held.Held.TheVariants.{Tasks, Pool, Opener, Slot, Session, Busy, Seen}
 use Rattle.hp_history.specs.declared.law.Change.{Change}
 use Rattle.hp_history.specs.declared.law.Change.TheVariants.{Same, Came, Gone}
 use Rattle.hp_history.specs.declared.law.Shape.{Shape}
@@ -64,6 +65,16 @@ abbrev pub told_mark : ℕ → Mark → Option (Option Receipt)
 told_mark n (Done i) = there (told n i)
 told_mark n (Open j by a) = if by == n then Some None else None
 told_mark n (Looked task home by) = there (told n (look_item task home by))
+
+-- whose it is
+abbrev pub by_of : Mark → ℕ
+by_of (Done i) = i.by
+by_of (Open k by a) = by
+by_of (Looked task home by) = by
+
+-- whose the marks are, one after another. While the order goes on, and while what is open is filled in, this only grows
+abbrev pub bys : List Mark → List ℕ
+bys ms = map by_of ms
 
 -- only where the history has look-ups is one of them there
 abbrev pub IsWithin : Shape → (sessions : ℕ) → Mark → Type 0
@@ -155,6 +166,7 @@ parts_of (Opener n) = 2 ∷ []
 parts_of (Slot k es) = (2 * k + 3) ∷ []
 parts_of (Session n rs) = (2 * n + 4) ∷ []
 parts_of (Busy k es n rs a) = (2 * k + 3) ∷ (2 * n + 4) ∷ []
+parts_of (Seen bs) = []
 
 abbrev pub Has : Shape → Whole → Held → Type 0
 Has sh z (Tasks es) = keep task_mark z.marks ≡ numbered 0 es
@@ -165,6 +177,17 @@ Has sh z (Session n rs) = (n < z.sessions) × (keep (told_mark n) z.marks ≡ co
 Has sh z (Busy k es n rs a) =
     (k < sh.slots) × (n < z.sessions) × (keep (slot_mark k) z.marks ≡ awaiting (numbered 0 es))
     × (keep (told_mark n) z.marks ≡ awaiting rs) × Each (OpensAs k n a) z.marks
+Has sh z (Seen bs) = IsFront bs (bys z.marks)
+
+-- the parts of all that a seat has
+abbrev pub flat : List Held → List ℕ
+flat [] = []
+flat (h ∷ hs) = parts_of h ++ flat hs
+
+-- no number twice
+abbrev pub Once : List ℕ → Type 0
+Once [] = Unit {0}
+Once (p ∷ ps) = Each (λ q. p ≢ q) ps × Once ps
 
 -- the slots from k on, with their trails
 abbrev pub held_from : ℕ → List (List SlotEntry) → List Held
@@ -175,7 +198,7 @@ held_from k (es ∷ ess) = Slot k es ∷ held_from (k + 1) ess
 abbrev pub all_parts : Shape → List Held
 all_parts sh = Tasks [] ∷ Pool [] ∷ Opener 0 ∷ held_from 0 (replicate sh.slots [])
 
--- The rule: there is one order of all events so far. Each part is with one seat at most, which has the part's trail as the order
+-- The rule: there is one order of all events so far. Each part is with one seat at most, and once, which has the part's trail as the order
 -- has it; so is each session, with what it was told, in order. Each look-up agrees with the table at its place in the order, and
 -- each word with the table at the end of it
 abbrev pub Kept : Shape → List ℕ → List (List Held) → Type 0
@@ -183,6 +206,7 @@ Kept sh words views =
     (z : Whole) × (owner : ℕ → ℕ) × Each (IsWithin sh z.sessions) z.marks
     × ((by : ℕ) (v : List Held) → get_elem? views by ≡ some v → Each (λ h. Each (λ p. owner p ≡ by) (parts_of h) × Has sh z h) v)
     × IsNoted sh z words
+    × ((by : ℕ) (v : List Held) → get_elem? views by ≡ some v → Once (flat v))
 
 -- ---- what seats do
 
@@ -192,7 +216,7 @@ AreApart v h = Each (λ g. Each (λ p. Each (λ q. p ≢ q) (parts_of h)) (parts
 
 -- what the seat has is enough to go on so, and no other part is touched
 pub record IsSeatStep (sh : Shape) (f : Whole → Whole) (v w : List Held) : Type 0 where
-  pub parts : (owner : ℕ → ℕ) (by : ℕ) → Each (λ h. Each (λ p. owner p ≡ by) (parts_of h)) v → Each (λ h. Each (λ p. owner p ≡ by) (parts_of h)) w
+  pub parts : flat w ≡ flat v
   pub within : (z : Whole) → Each (Has sh z) v → Each (IsWithin sh z.sessions) z.marks → Each (IsWithin sh (f z).sessions) (f z).marks
   pub tells : (z : Whole) → Each (Has sh z) v → Each (Has sh (f z)) w
   pub others : (z : Whole) (h : Held) → Each (Has sh z) v → AreApart v h → Has sh z h → Has sh (f z) h
@@ -269,6 +293,68 @@ IsSession v = v ≡ Session (number_in v) (receipts_in v) ∷ []
 abbrev pub looked : ℕ → Option ℕ → List Held → List Held
 looked task None v = v
 looked task (Some home) v = Session (number_in v) (receipts_in v ++ receipt_of (look_item task home (number_in v)) ∷ []) ∷ []
+
+-- ---- what is seen of the order
+
+-- this front begins with what the seat had seen
+abbrev pub IsSeenIn : List ℕ → Held → Type 0
+IsSeenIn bs (Seen fs) = IsFront fs bs
+IsSeenIn bs (Tasks es) = Unit {0}
+IsSeenIn bs (Pool es) = Unit {0}
+IsSeenIn bs (Opener n) = Unit {0}
+IsSeenIn bs (Slot k es) = Unit {0}
+IsSeenIn bs (Session n rs) = Unit {0}
+IsSeenIn bs (Busy k es n rs a) = Unit {0}
+
+-- a session is first of what the seat has
+abbrev pub IsFirst : List Held → Type 0
+IsFirst v = v ≡ Session (number_in v) (receipts_in v) ∷ rest_of_view v
+
+-- A session saw the whole order as it was then: of the events that it had made all stand there, and it begins with all that
+-- the seat had seen
+abbrev pub IsDated : List Held → List Held → Type 0
+IsDated v w =
+    (bs : List ℕ) × (w ≡ Session (number_in v) (receipts_in v) ∷ Seen bs ∷ [])
+    × (made (number_in v) bs ≡ length (receipts_in v)) × Each (IsSeenIn bs) (rest_of_view v)
+
+-- the last that was seen
+abbrev pub seen_in : List Held → List ℕ
+seen_in [] = []
+seen_in (Seen bs ∷ hs) = bs
+seen_in (h ∷ hs) = seen_in hs
+
+abbrev pub front_of : List (List Held) → List Held
+front_of [] = []
+front_of (v ∷ vs) = v
+
+-- a clock's seat has nothing but what was seen
+pub record IsClockSeat (history id : TableId) (views : List (List Held)) : Type 0 where
+  pub named : id ≡ history
+  pub one : views ≡ (Seen (seen_in (front_of views)) ∷ []) ∷ []
+
+abbrev pub AreClocks : List Held → Type 0
+AreClocks [] = Unit {0}
+AreClocks (h ∷ hs) = (parts_of h ≡ []) × AreClocks hs
+
+-- a session that made so many events sees the order, which begins with all that was seen before: at that moment these and no
+-- others of its events stand there
+pub record IsDate (number : ℕ) (receipts : List Receipt) (was : List Held) (now : List ℕ) : Type 0 where
+  pub made : made number now ≡ length receipts
+  pub later : Each (IsSeenIn now) was
+
+-- ---- time
+
+-- where the event stands in the order that is so many behind the first of this session
+abbrev pub place_in : (n at : ℕ) → List ℕ → ℕ
+place_in n at [] = 0
+place_in n zero (b ∷ bs) = if b == n then 0 else suc (place_in n zero bs)
+place_in n (suc at) (b ∷ bs) = if b == n then suc (place_in n at bs) else suc (place_in n (suc at) bs)
+
+-- Whatever front of the order was seen: what a session had made by then stands before what another has still to make
+abbrev pub InTime : Type 0
+InTime =
+    (order seen : List ℕ) → IsFront seen order → (n at m to : ℕ) → at < made n seen → made m seen ≤ to → to < made m order
+    → place_in n at order < place_in m to order
 
 -- the shape of no history
 abbrev pub no_shape : Shape

@@ -1,14 +1,17 @@
 //! One history of the events of all sessions, which no memory holds.
 #![tactic(auto)]
 
-ghost use Rattle.hp_history.specs.Ending.{HistoriesAgree, HistoriesAreOne, HistoriesJoin, LookUpsBetween};
+ghost use Rattle.hp_history.specs.Ending.{AllAreThere, HistoriesAgree, HistoriesAreOne, HistoriesJoin, LookUpsBetween, MadeAreTold};
+ghost use Rattle.hp_history.specs.History.{InTime};
 ghost use Rattle.hp_history.specs.Reserved.{ReservedInRuns};
 
+mod clock;
 mod held;
 mod history;
 mod law;
 mod section;
 
+pub use clock::Clock;
 pub use held::Held;
 pub use history::{History, Opened};
 use hp_laws::trails_join;
@@ -44,4 +47,19 @@ pub fn histories_agree()
 /// refused for want of a huge page.
 pub fn reserved_in_runs()
     ensures { ReservedInRuns }
+{}
+
+/// Whatever front of the order was seen: what a session had made by then stands before what another has still to make.
+pub fn calls_stand_in_time()
+    ensures { InTime }
+{}
+
+/// So many of an order's events are a session's as it was told of.
+pub fn made_are_told()
+    ensures { MadeAreTold }
+{}
+
+/// A seat that has as many slots as there are, and as many sessions as were opened, has them all.
+pub fn all_are_there()
+    ensures { AllAreThere }
 {}

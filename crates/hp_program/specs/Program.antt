@@ -13,7 +13,6 @@ use Rattle.hp_model.specs.run.Ran.{AppendsFront}
 use Rattle.hp_model.specs.run.Served.{AnswersInput, Serves, IsMemoryOrTooLong, text_of_fault}
 use Rattle.hp_model.specs.declared.fault.RunFault.{RunFault}
 use Rattle.hp_model.specs.declared.fault.RunFault.TheVariants as fault
-use Rattle.hp_model.specs.declared.entry.Receipt.{Receipt}
 use Rattle.hp_serving.specs.Ended as serving
 use Rattle.hp_serving.specs.Ended.{Says}
 use Rattle.hp_serving.specs.Session.{IsOfConnection}
@@ -21,7 +20,9 @@ use Rattle.hp_sessions.specs.Calls.{IsCallAnswered, SessionView}
 use Rattle.hp_serving.specs.declared.host.Closed.{Closed}
 use Rattle.hp_serving.specs.declared.sessions.Ended.{Ended}
 use Rattle.hp_closing.specs.Joined.{WasJoined}
-use Rattle.hp_closing.specs.OneRun.{WasOneRun}
+use Rattle.hp_closing.specs.Left.{HasLeft}
+use Rattle.hp_closing.specs.OneRun.{WasOneRun, all_told}
+use Rattle.hp_shared.specs.Ended.{FinishedView}
 use Rattle.hp_words.specs.Asked.{hugetlbd}
 use Rattle.hp_words.specs.Config.{MachineChoice, chosen}
 use Rattle.hp_words.specs.declared.config.TheConstants.{HELP, VERSION}
@@ -116,21 +117,19 @@ pub record Refuses {W : Type 0} (contents : W → Option (List ℕ)) (is_sure : 
 
 -- ---- a server
 
--- A session that had no receipts yet answered the lines of a connection by its calls, and these are the receipts that it had
--- then.
-abbrev pub IsToldOn : MachineChoice → Serving → List Receipt → Type 0
-IsToldOn c s receipts =
-    IsOfConnection {S = SessionView} (λ session. session.receipts ≡ []) (λ session told. told ≡ session.receipts) (IsCallAnswered (nat_lt 0 s.room) c.page)
-    (λ session. c.page) receipts
+-- A session that had no receipts yet answered the lines of a connection by its calls, and left this
+abbrev pub IsToldOn : MachineChoice → Serving → FinishedView → Type 0
+IsToldOn c s left =
+    IsOfConnection {S = SessionView} (λ session. session.receipts ≡ []) HasLeft (IsCallAnswered (nat_lt 0 s.room) c.page) (λ session. c.page) left
 
--- What may be left of the machine that was asked for, once it is closed with what its sessions were told. Unless sessions were found
+-- What may be left of the machine that was asked for, once it is closed with what its sessions left. Unless sessions were found
 -- to be missing, their events were one run of it, with the replies that they were told, at whose end all its pages are free. Just
 -- where there was room for entries it was audited as well.
-pub record MayBeLeft (c : MachineChoice) (s : Serving) (told : List (List Receipt)) (closed : Closed) : Type 0 where
+pub record MayBeLeft (c : MachineChoice) (s : Serving) (left : List FinishedView) (closed : Closed) : Type 0 where
   pub page : closed.page ≡ c.page
   pub audited : closed.audit ≢ Some false → is_some closed.audit ≡ nat_lt 0 s.room
-  pub run : closed.audit ≢ Some false → WasOneRun (chosen c) told closed.counts
-  pub joined : closed.audit ≡ Some true → WasJoined (chosen c) told closed.counts
+  pub run : closed.audit ≢ Some false → WasOneRun (chosen c) left closed.counts
+  pub joined : closed.audit ≡ Some true → WasJoined (chosen c) (all_told left) closed.counts
 
 -- how the serving of all sessions ended, what these were told and what is left then, what was printed and said, and the status
 pub record IsServingEnded (c : MachineChoice) (s : Serving) (before after : Option (List ℕ)) (sure : Type 0) (unsaid said : Option (List ℕ))

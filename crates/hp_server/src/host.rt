@@ -1,5 +1,6 @@
 //! What sessions are opened on.
 ghost use Rattle.std.specs.Prelude.{◌≡◌, []};
+ghost use Rattle.hp_closing.specs.Left.{HasLeft};
 
 use hp_entrance::Entrance;
 use hp_history::Places;
@@ -26,12 +27,12 @@ impl<'a, N: Naming + Places + Send + Sync, R: Wait, G: Gate, const K: usize> Hos
     for &'a Waiting<'a, N, R, G, K> {
     type Session = Session<Entrance<'a, N, R, G, K>>;
 
-    /// What the session leaves: its number, and what it was told.
+    /// What the session leaves: its number, what it was told, and what it saw of the order.
     type Told = Finished<N, K>;
 
     ghost is_opened = { λ session. session.receipts ≡ [] };
 
-    ghost was_told = { λ session told. told.receipts ≡ session.receipts };
+    ghost was_told = { HasLeft };
 
     fn open(&self, _alloc: Global, rest: Rest) -> Result<Session<Entrance<'a, N, R, G, K>>, Rest> {
         let entrance = Entrance::open(self.rt, self.shared, self.gate, self.room, rest)?;

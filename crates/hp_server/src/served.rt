@@ -1,6 +1,6 @@
 //! The machine that is served, with what its sessions are told.
 ghost use Rattle.std.specs.Prelude.{◌≡◌, ◌==◌, [], IfOk};
-ghost use Rattle.hp_closing.specs.OneRun.{all_told};
+ghost use Rattle.hp_closing.specs.Left.{HasLeft};
 ghost use Rattle.hp_locked.specs.Views.{frames_list};
 ghost use Rattle.hp_model.specs.machine.Machine.{start};
 ghost use Rattle.hp_server.specs.Left.{MayLeave};
@@ -28,7 +28,7 @@ pub struct Served<N: Naming + Places, G: Gate + Drop, const K: usize> {
 }
 
 impl<N: Naming + Places + Send + Sync, G: Gate + Drop, const K: usize> Machine for Served<N, G, K> {
-    /// What a session leaves: its number, and what it was told.
+    /// What a session leaves: its number, what it was told, and what it saw of the order.
     type Told = Finished<N, K>;
 
     ghost Session = { SessionView };
@@ -39,10 +39,10 @@ impl<N: Naming + Places + Send + Sync, G: Gate + Drop, const K: usize> Machine f
 
     ghost is_opened = { λ session. session.receipts ≡ [] };
 
-    ghost was_told = { λ session told. told.receipts ≡ session.receipts };
+    ghost was_told = { HasLeft };
 
     ghost may_leave = { λ machine told closed. MayLeave K (start (frames_list N.frames)
-        machine.shared.page_size machine.shared.slots) (all_told told) closed };
+        machine.shared.page_size machine.shared.slots) told closed };
 
     ghost is_numbered = { λ told n. IsCount n told.number };
 
@@ -70,7 +70,7 @@ impl<N: Naming + Places + Send + Sync, G: Gate + Drop, const K: usize> Machine f
     /// Where sessions are missing, or the machine's slots were not in order, the audit says that they differ.
     fn close(self, alloc: Global, told: Vec<Finished<N, K>>) -> Result<Closed, AllocError>
         ensures leaves { IfOk result (MayLeave K (start (frames_list N.frames)
-            self.shared.page_size self.shared.slots) (all_told told.items)) }
+            self.shared.page_size self.shared.slots) told.items) }
         ensures limits { IfOk result IsOfMachine }
     {
         let Served {

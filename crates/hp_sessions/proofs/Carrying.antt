@@ -7,7 +7,7 @@ use Rattle.hp_laws.proofs.Variants.{Event, Find, Home, NoSuchSlot, Receipt, Refu
 use Rattle.hp_model.proofs.Words.{Answer_with, Do, Reply, Script, Tells, TellsFront, TellsStep, Where_mapped, finding, has_place, home_in, on_slot, only, script, told_of}
 use Rattle.hp_events.specs.Replies.{is_trace_full}
 use Rattle.hp_events.specs.Answered.{CanAnswer, IsHanded, IsToldOf}
-use Rattle.hp_sessions.specs.Calls.{AreAdded, AreAnswers, Carries, Grows, HasRoomFor, IsCallAnswered, IsMade, IsRefusedFirst, IsToldByReceipts}
+use Rattle.hp_sessions.specs.Calls.{AreAdded, AreAnswers, Carries, Grows, HasRoomFor, IsCallMade, IsMade, IsRefusedFirst, IsToldByReceipts}
 use Rattle.hp_sessions.specs.Calls.{Leads, SessionView, TellsOrStops, noted}
 
 -- ---- cases of a test
@@ -40,7 +40,7 @@ is_full (Err other) e = cc
 -- ---- receipts
 
 abbrev pub with_receipts : SessionView → List Receipt → SessionView
-with_receipts s rs = record { slots = s.slots; receipts = rs; room = s.room }
+with_receipts s rs = record { slots = s.slots; receipts = rs; room = s.room; clock = s.clock }
 
 noted_none : (s : SessionView) → s ≡ noted s []
 noted_none s = ap (with_receipts s) (sym (append-nil s.receipts))
@@ -187,21 +187,23 @@ told_by kept size s t step reply c = record {
 
 -- carried out, the step is answered
 pub answered : (kept : Bool) (size : ℕ) (s t : SessionView) (step : Step) (reply : Reply) → (kept ≡ true → HasRoomFor s step) →
-    Carries kept size s (script s.slots step) reply t → IsCallAnswered kept size s step reply t
+    Carries kept size s (script s.slots step) reply t → IsCallMade kept size s step reply t
 answered true size s t step reply room c = inl (room refl, told_by true size s t step reply c)
 answered false size s t step reply room c =
     ((never_full (is_trace_full reply) (TellsFront (script s.slots step) c.events) (Tells (script s.slots step) c.events reply) c.tells).0, told_by false size s t step reply c)
 
-pub refused_first : (size : ℕ) (s : SessionView) (step : Step) (reply : Reply) → IsRefusedFirst s step reply → IsCallAnswered true size s step reply s
+pub refused_first : (size : ℕ) (s : SessionView) (step : Step) (reply : Reply) → IsRefusedFirst s step reply → IsCallMade true size s step reply s
 refused_first size s step reply h = inr (refl, h)
 
 -- ---- an event
 
 -- a session whose parts have these receipts
-module _ (s t : SessionView) (slots : t.slots ≡ s.slots) (room : t.room ≡ s.room) where
+module _ (s t : SessionView) (slots : t.slots ≡ s.slots) (room : t.room ≡ s.room) (clock : t.clock ≡ s.clock) where
   pub view_is : t ≡ with_receipts s t.receipts
   view_is =
-      ap (λ n. record { slots = n; receipts = t.receipts; room = t.room }) slots ∙ ap (λ n. record { slots = s.slots; receipts = t.receipts; room = n }) room
+      ap (λ n. record { slots = n; receipts = t.receipts; room = t.room; clock = t.clock }) slots
+      ∙ ap (λ n. record { slots = s.slots; receipts = t.receipts; room = n; clock = t.clock }) room
+      ∙ ap (λ c. record { slots = s.slots; receipts = t.receipts; room = s.room; clock = c }) clock
 
   noted_by : (added : List Receipt) → t.receipts ≡ s.receipts ++ added → t ≡ noted s added
   noted_by added is = view_is ∙ ap (with_receipts s) is
@@ -219,9 +221,9 @@ module _ (s t : SessionView) (slots : t.slots ≡ s.slots) (room : t.room ≡ s.
       (λ h. (h.0, (h.1.0 ∷ [], noted_by (h.1.0 ∷ []) h.1.1, ap (λ x. x ∷ []) h.1.2))) handed
 
 -- the same of what a session is seen as
-pub made_by : {v : SessionView} (s t : SessionView) → v ≡ s → t.slots ≡ v.slots → t.room ≡ v.room → (kept : Bool) (size : ℕ) (e : Event) (reply : Reply) →
-    IsHanded kept size e reply v.receipts t.receipts → IsMade kept size s e reply t
-made_by {v} s t is slots room kept size e reply handed = subst (λ w. IsMade kept size w e reply t) is (made v t slots room kept size e reply handed)
+pub made_by : {v : SessionView} (s t : SessionView) → v ≡ s → t.slots ≡ v.slots → t.room ≡ v.room → t.clock ≡ v.clock → (kept : Bool) (size : ℕ) (e : Event) (reply : Reply)
+    → IsHanded kept size e reply v.receipts t.receipts → IsMade kept size s e reply t
+made_by {v} s t is slots room clock kept size e reply handed = subst (λ w. IsMade kept size w e reply t) is (made v t slots room clock kept size e reply handed)
 
 -- ---- how many receipts came
 

@@ -72,11 +72,11 @@ module _ (kept : Bool) (size : ℕ) where
       where_other kept size s u k task (Do (OnSlot k (ExitMaps task)) (λ r. next)) next reply (subst (λ v. Carries kept size v next reply u) same c)
 
   -- what was answered of a task's maps on a slot
-  pub exit_leads : {v : SessionView} (s t : SessionView) → v ≡ s → t.slots ≡ v.slots → t.room ≡ v.room → (k task : ℕ) (any : Bool) →
+  pub exit_leads : {v : SessionView} (s t : SessionView) → v ≡ s → t.slots ≡ v.slots → t.room ≡ v.room → t.clock ≡ v.clock → (k task : ℕ) (any : Bool) →
       MatchBool any (IsHanded kept size (OnSlot k (ExitMaps task)) (Ok Done) v.receipts t.receipts) (t.receipts ≡ v.receipts) →
       (next : Script) → Leads kept size s (exit_slot k task next) t next
-  exit_leads s t is slots room k task true h = exit_made s t k task (made_by s t is slots room kept size (OnSlot k (ExitMaps task)) (Ok Done) h)
-  exit_leads {v} s t is slots room k task false h = exit_none s t k task (same_as v t slots room h ∙ is)
+  exit_leads s t is slots room clock k task true h = exit_made s t k task (made_by s t is slots room clock kept size (OnSlot k (ExitMaps task)) (Ok Done) h)
+  exit_leads {v} s t is slots room clock k task false h = exit_none s t k task (same_as v t slots room clock h ∙ is)
 
   -- ---- the table's event before
 

@@ -8,25 +8,26 @@ use Rattle.hp_model.proofs.Queues.{does_both}
 use Rattle.hp_model.proofs.Words.{DoesAll, QueuedView, Reply, finding, on_slot}
 use Rattle.hp_laws.proofs.Variants.{Fault, Find, Home, Load, Receipt, Slot as OnSlot, SlotEvent, Step, Store, Tasks as OnTasks}
 use Rattle.hp_model.specs.declared.event.SlotEvent.TheVariants as slot
+use Rattle.hp_events.specs.Time.{Clock}
 use Rattle.hp_events.specs.Queues.{AreAccessesHanded, AreFirstHanded, IsAccessHanded, IsFoundAndHanded}
-use Rattle.hp_sessions.specs.Calls.{Carries, IsCallAnswered, SessionView}
+use Rattle.hp_sessions.specs.Calls.{Carries, IsCallMade, SessionView}
 use Rattle.hp_sessions.proofs.Carrying.{answered, found, made, on_slot_made, view_is, with_receipts}
 
 abbrev pub Called : Bool → ℕ → SessionView → Step → Reply → SessionView → Type 0
-Called kept size s step reply t = IsCallAnswered kept size s step reply t
+Called kept size s step reply t = IsCallMade kept size s step reply t
 
-module _ (size slots room at : ℕ) (within : at < slots) where
+module _ (size slots room at : ℕ) (clock : Clock) (within : at < slots) where
   abbrev Told : List Receipt → SessionView
-  Told rs = record { slots = slots; receipts = rs; room = room }
+  Told rs = record { slots = slots; receipts = rs; room = room; clock = clock }
 
   -- the task is found, and its slot answers
   found_and_answered : (task : ℕ) (event : ℕ → SlotEvent) (reply : Reply) (was now : List Receipt) → IsFoundAndHanded size at task event reply was now
       → Carries false size (Told was) (finding task (λ home. on_slot slots at (event home))) reply (Told now)
   found_and_answered task event reply was now h =
-      found false size (Told was) (Told h.between) task h.home (made (Told was) (Told h.between) refl refl false size (OnTasks (Find task)) (Ok (Home h.home)) h.found)
+      found false size (Told was) (Told h.between) task h.home (made (Told was) (Told h.between) refl refl refl false size (OnTasks (Find task)) (Ok (Home h.home)) h.found)
       (λ home. on_slot slots at (event home)) reply (Told now)
       (on_slot_made false size (Told h.between) (Told now) at (event h.home) reply within
-      (made (Told h.between) (Told now) refl refl false size (OnSlot at (event h.home)) reply h.handed))
+      (made (Told h.between) (Told now) refl refl refl false size (OnSlot at (event h.home)) reply h.handed))
 
   access_answered : (step : Step) (reply : Reply) (was now : List Receipt) → IsAccessHanded size at step reply was now → Called false size (Told was) step reply (Told now)
   access_answered (Load task k number i offset count) reply was now h =
@@ -51,17 +52,17 @@ module _ (size slots room at : ℕ) (within : at < slots) where
   all_answered (b ∷ bs) (a ∷ rest) was now h = (Told h.0, access_answered b.step a.reply was h.0 h.1, all_answered bs rest h.0 now h.2)
 
 module _ (kept : Bool) (size at n : ℕ) (before after : List QueuedView) (unkept : kept ≡ false) where
-  all_together : (s t : SessionView) → at < s.slots → t.slots ≡ s.slots → t.room ≡ s.room → AreFirstHanded size at n before after s.receipts t.receipts
+  all_together : (s t : SessionView) → at < s.slots → t.slots ≡ s.slots → t.room ≡ s.room → t.clock ≡ s.clock → AreFirstHanded size at n before after s.receipts t.receipts
       → DoesAll (Called kept size) s (take n before) (take n after) t
-  all_together s t within slots room h =
-      subst (λ (w : SessionView). DoesAll (Called kept size) s (take n before) (take n after) w) (sym (view_is s t slots room))
+  all_together s t within slots room clock h =
+      subst (λ (w : SessionView). DoesAll (Called kept size) s (take n before) (take n after) w) (sym (view_is s t slots room clock))
       (subst (λ k. DoesAll (Called k size) s (take n before) (take n after) (with_receipts s t.receipts)) (sym unkept)
-      (all_answered size s.slots s.room at within (take n before) (take n after) s.receipts t.receipts h.handed))
+      (all_answered size s.slots s.room at s.clock within (take n before) (take n after) s.receipts t.receipts h.handed))
 
-  pub together : {v : SessionView} (s t : SessionView) → v ≡ s → at < v.slots → t.slots ≡ v.slots → t.room ≡ v.room → AreFirstHanded size at n before after v.receipts t.receipts
+  pub together : {v : SessionView} (s t : SessionView) → v ≡ s → at < v.slots → t.slots ≡ v.slots → t.room ≡ v.room → t.clock ≡ v.clock → AreFirstHanded size at n before after v.receipts t.receipts
       → DoesAll (Called kept size) s (take n before) (take n after) t
-  together {v} s t is within slots room h =
-      subst (λ (w : SessionView). DoesAll (Called kept size) w (take n before) (take n after) t) is (all_together v t within slots room h)
+  together {v} s t is within slots room clock h =
+      subst (λ (w : SessionView). DoesAll (Called kept size) w (take n before) (take n after) t) is (all_together v t within slots room clock h)
 
 -- ---- a queue, of which the first are done
 

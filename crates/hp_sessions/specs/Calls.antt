@@ -10,19 +10,25 @@ use Rattle.hp_model.specs.machine.Plan.{Reply}
 use Rattle.hp_model.specs.machine.Step.{Script}
 use Rattle.hp_model.specs.threads.Telling.{ReceiptsTell, Tells, TellsFront, carries_bytes, has_place, most_receipts, told_of}
 use Rattle.hp_events.specs.Answered.{CanAnswer}
+use Rattle.hp_events.specs.Time.{Clock, IsDated, IsFront, made}
 use Rattle.hp_events.specs.Replies.{is_trace_full}
 
 -- ---- a session
 
--- the slots of its machine, the receipts so far, and for how many there is room, where entries are kept
+-- the slots of its machine, the receipts so far, for how many there is room, where entries are kept, and what it saw of the order
 pub record SessionView : Type 0 where
   pub slots : ℕ
   pub receipts : List Receipt
   pub room : ℕ
+  pub clock : Clock
 
 -- with more receipts
 abbrev pub noted : SessionView → List Receipt → SessionView
-noted s added = record { slots = s.slots; receipts = s.receipts ++ added; room = s.room }
+noted s added = record { slots = s.slots; receipts = s.receipts ++ added; room = s.room; clock = s.clock }
+
+-- the same but for what it saw
+abbrev pub at_clock : Clock → SessionView → SessionView
+at_clock c s = record { slots = s.slots; receipts = s.receipts; room = s.room; clock = c }
 
 -- all of these could be answered so
 abbrev pub AreAnswers : (size : ℕ) → List (Event × Reply) → Type 0
@@ -47,9 +53,30 @@ IsRefusedFirst s step reply =
 
 -- What a call answers and leaves: the receipts of the step's events are added, in order, and the reply is the step's by them.
 -- Where entries are kept, it may be refused before the first instead; where none are kept, it is never TraceFull.
-abbrev pub IsCallAnswered : (kept : Bool) (size : ℕ) → SessionView → Step → Reply → SessionView → Type 0
-IsCallAnswered true size s step reply t = (HasRoomFor s step × IsToldByReceipts size s step reply t) ⊎ ((t ≡ s) × IsRefusedFirst s step reply)
-IsCallAnswered false size s step reply t = (is_trace_full reply ≡ false) × IsToldByReceipts size s step reply t
+abbrev pub IsCallMade : (kept : Bool) (size : ℕ) → SessionView → Step → Reply → SessionView → Type 0
+IsCallMade true size s step reply t = (HasRoomFor s step × IsToldByReceipts size s step reply t) ⊎ ((t ≡ s) × IsRefusedFirst s step reply)
+IsCallMade false size s step reply t = (is_trace_full reply ≡ false) × IsToldByReceipts size s step reply t
+
+-- ---- a call in time
+
+-- it looked at the order, and nothing else changed
+pub record HasLooked (s t : SessionView) : Type 0 where
+  pub same : at_clock s.clock t ≡ s
+  pub dated : IsDated s.receipts s.clock t.clock
+
+-- When the call began the order began with `start`: with all that its session had seen or heard of, and with all events that the
+-- session had made, but none of the call's. It begins so ever after
+pub record IsTimed (s t : SessionView) : Type 0 where
+  pub start : List ℕ
+  pub known : IsFront s.clock.seen start
+  pub not_yet : made s.clock.number start ≡ length s.receipts
+  pub later : IsFront start t.clock.seen
+  pub number : t.clock.number ≡ s.clock.number
+
+-- What a call answers and leaves: but for what it saw of the order it leaves what IsCallMade says, and that is later.
+pub record IsCallAnswered (kept : Bool) (size : ℕ) (s : SessionView) (step : Step) (reply : Reply) (t : SessionView) : Type 0 where
+  pub made : IsCallMade kept size s step reply (at_clock s.clock t)
+  pub timed : IsTimed s t
 
 -- ---- a part of a step
 

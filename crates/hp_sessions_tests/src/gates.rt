@@ -38,34 +38,40 @@ impl Gate for Counted {
 
 const MOST_TURNS: u64 = 10_000;
 
-/// Where a thread is held.
-#[derive(Clone, Copy, Drop, PartialEq, Eq)]
+/// Where a thread is held, or waits.
+#[derive(Clone, Copy, Debug, Drop, PartialEq, Eq)]
 pub enum Place {
     Slot(u64),
+    Table,
+    Pool,
     Node(u64),
 }
 
-// Waited for by one thread, and set by another.
+/// Waited for by one thread, and set by another.
 #[derive(Drop)]
-struct Flag {
+pub struct Flag {
     word: AtomicU64,
 }
 
 impl Flag {
-    fn new() -> Flag {
+    pub fn new() -> Flag {
         Flag {
             word: AtomicU64::new(0),
         }
     }
 
-    fn set(&self) {
+    pub fn set(&self) {
         self.word.store(1, Ordering::SeqCst);
     }
 
-    // Waits, but not longer than 10,000 turns of a millisecond: how many were not used.
-    fn wait<R: Clock>(&self, rt: &R) -> u64 {
+    pub fn is_set(&self) -> bool {
+        self.word.load(Ordering::SeqCst) != 0
+    }
+
+    /// Waits, but not longer than 10,000 turns of a millisecond: how many were not used.
+    pub fn wait<R: Clock>(&self, rt: &R) -> u64 {
         for turn in 0..MOST_TURNS {
-            if self.word.load(Ordering::SeqCst) != 0 {
+            if self.is_set() {
                 return MOST_TURNS - turn;
             }
             thread::sleep(rt, Duration::from_millis(1));

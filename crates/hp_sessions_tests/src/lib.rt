@@ -2,8 +2,6 @@
 #![tactic(auto)]
 
 #[cfg(test)]
-mod acts;
-#[cfg(test)]
 mod asking;
 #[cfg(test)]
 mod draws;
@@ -22,6 +20,8 @@ mod machine;
 #[cfg(test)]
 mod making;
 #[cfg(test)]
+mod places;
+#[cfg(test)]
 mod playing;
 #[cfg(test)]
 mod preallocating;
@@ -39,3 +39,5 @@ mod steps;
 mod stress;
 #[cfg(test)]
 mod whole;
+#[cfg(test)]
+mod works;

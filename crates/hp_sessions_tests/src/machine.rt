@@ -1,6 +1,7 @@
 //! A machine that sessions work on, behind which its own types are not seen: so a test's proof knows none of them.
 
-use crate::gates::Free;
+use crate::gates::{Free, Place};
+use crate::places::{Seen, Watch};
 use hp_closing::{Closed, close, into_system};
 use hp_entrance::Entrance;
 use hp_events::Parts;
@@ -9,7 +10,7 @@ use hp_locked::Gate;
 use hp_model::answer::Counts;
 use hp_model::entry::Receipt;
 use hp_model::naming::Naming;
-use hp_order::Rest;
+use hp_order::{Ordered, RankedLock, Rest, hold, let_go, try_hold};
 use hp_sessions::Session;
 use hp_shared::{Finished, Shared, Trails};
 use std::alloc::{AllocError, Global};
@@ -37,6 +38,12 @@ pub trait Script: Drop {
     fn run<R: Abort, P: Parts>(self, rt: &R, session: &mut Session<P>);
 }
 
+/// The locks of a machine's places.
+pub trait Locks {
+    /// Whether nobody holds a place's lock: that of a node can't be told.
+    fn is_free(&self, place: Place) -> bool;
+}
+
 /// A machine that was taken apart: its counts once all else was gone, its trails where it kept them, whether its slots were in
 /// order, and how many sessions there were.
 #[derive(Drop)]
@@ -48,7 +55,7 @@ pub struct Apart {
 }
 
 /// A machine that sessions work on.
-pub trait Machine {
+pub trait Machine: Locks {
     /// What a session leaves.
     type Left: Drop + Send;
 
@@ -70,6 +77,9 @@ pub trait Machine {
         script: S,
         then: T,
     ) -> (Self::Left, Self::Left, Self::Left);
+
+    /// Holds the lock of the place that is watched, watches, and lets it go.
+    fn watched<R: Wait + Clock>(&self, rt: &R, watch: &Watch<'_>) -> Seen;
 
     /// The number of the session that left this.
     fn number(left: &Self::Left) -> u64;
@@ -100,6 +110,41 @@ fn left<N: Naming + Places, R: Wait, G: Gate, const K: usize>(
 ) -> Finished<N, K> {
     let (finished, _rest) = session.finish().into_finished();
     finished
+}
+
+fn watched_at<T: Ordered, R: Wait + Clock, L: Locks>(
+    rt: &R,
+    lock: &RankedLock<T>,
+    locks: &L,
+    watch: &Watch<'_>,
+) -> Seen {
+    let mut turn = Rest::begin().into_turn();
+    let value = hold(&mut turn, lock, rt);
+    let seen = watch.seen(rt, locks);
+    let_go(&mut turn, value);
+    seen
+}
+
+fn is_free_lock<T: Ordered>(lock: &RankedLock<T>) -> bool {
+    let mut turn = Rest::begin().into_turn();
+    match try_hold(&mut turn, lock) {
+        Some(value) => {
+            let_go(&mut turn, value);
+            true
+        }
+        None => false,
+    }
+}
+
+impl<N: Naming + Places, const K: usize> Locks for Shared<N, K> {
+    fn is_free(&self, place: Place) -> bool {
+        match place {
+            Place::Slot(at) if at < self.count() as u64 => is_free_lock(self.slot(at as usize)),
+            Place::Table => is_free_lock(self.table()),
+            Place::Pool => is_free_lock(self.core()),
+            Place::Slot(_) | Place::Node(_) => true,
+        }
+    }
 }
 
 impl<N: Naming + Places + Send + Sync, const K: usize> Machine for Shared<N, K> {
@@ -144,12 +189,23 @@ impl<N: Naming + Places + Send + Sync, const K: usize> Machine for Shared<N, K> 
         (first, left(second), third)
     }
 
+    fn watched<R: Wait + Clock>(&self, rt: &R, watch: &Watch<'_>) -> Seen {
+        match watch.place() {
+            Place::Slot(at) if at < self.count() as u64 => {
+                watched_at(rt, self.slot(at as usize), self, watch)
+            }
+            Place::Table => watched_at(rt, self.table(), self, watch),
+            Place::Pool => watched_at(rt, self.core(), self, watch),
+            Place::Slot(_) | Place::Node(_) => watch.seen(rt, self),
+        }
+    }
+
     fn number(left: &Finished<N, K>) -> u64 {
         left.number()
     }
 
     fn told(left: Finished<N, K>) -> Vec<Receipt> {
-        let (receipts, _seat) = left.into_parts();
+        let (receipts, ..) = left.into_parts();
         receipts
     }
 

@@ -1,12 +1,11 @@
 //! Two sessions, of which one is held under a lock while the other goes on, with a trace and without one.
 
-use crate::acts::Act;
 use crate::asking::{ask, connect, counts, create, map_shared, mount, nr, store};
 use crate::gates::{Free, Hold, Place};
 use crate::machine::{Machine, Runs, Script};
 use crate::playing::{all_three, beside, pages_left};
 use crate::same::same;
-use crate::stage::{Scene, Stage, both, small, untraced};
+use crate::stage::{Scene, Stage, both, small};
 use hp_events::Parts;
 use hp_model::answer::Answer;
 use hp_model::step::Step;
@@ -15,11 +14,9 @@ use std::alloc::Global;
 use std::process::Abort;
 use std::time::Clock;
 
-// Two tasks, each with a slot of its own and a map of a page there, and what an act wants.
+// Two tasks, each with a slot of its own and a map of a page there.
 #[derive(Clone, Copy, Drop)]
-struct Begins {
-    act: Act,
-}
+struct Begins;
 
 impl Script for Begins {
     fn run<R: Abort, P: Parts>(self, rt: &R, session: &mut Session<P>) {
@@ -30,20 +27,17 @@ impl Script for Begins {
             ask!(rt, session; create(task, b"a"));
             ask!(rt, session; map_shared(task, task, 1), Ok(Answer::MapNo(1)));
         }
-        self.act.prepare(rt, session);
     }
 }
 
-// Acts while a gate holds it, and then looks at the counts.
+// Stores while a gate holds it, and then looks at the counts.
 #[derive(Clone, Copy, Drop)]
-struct Acts {
-    act: Act,
-}
+struct Stores;
 
-impl Script for Acts {
+impl Script for Stores {
     fn run<R: Abort, P: Parts>(self, rt: &R, session: &mut Session<P>) {
-        same!(rt; self.act.done(session), Ok(Answer::Done));
-        same!(rt; counts(session), Some(self.act.counts()));
+        ask!(rt, session; store(1, 1, &[0x11]));
+        same!(rt; counts(session), Some([4, 2, 0, 0]));
     }
 }
 
@@ -70,25 +64,24 @@ impl<C: Clock> Script for GoesOn<'_, C> {
     }
 }
 
-// The first session is held at a place as it acts, while the second finishes: these counts are told there.
+// The first session is held at a place as it stores, while the second finishes: these counts are told there.
 #[derive(Clone, Copy, Drop)]
 pub struct HeldAt {
     pub place: Place,
-    pub act: Act,
     pub wanted: [u64; 4],
 }
 
 impl HeldAt {
     pub fn play<R: Runs, M: Machine + Sync>(self, rt: &R, stage: Stage<M>) {
-        let HeldAt { place, act, wanted } = self;
+        let HeldAt { place, wanted } = self;
         let free = Free {};
-        let told = stage.machine.session(rt, &free, Begins { act });
+        let told = stage.machine.session(rt, &free, Begins);
         let hold = Hold::new(rt, place);
         let goes_on = GoesOn {
             hold: &hold,
             wanted,
         };
-        let (one, two) = beside(rt, &stage.machine, &hold, Acts { act }, &free, goes_on);
+        let (one, two) = beside(rt, &stage.machine, &hold, Stores, &free, goes_on);
         assert!(rt; hold.left() > 0, "the second session was held too");
         let all = all_three(rt, stage.alloc, told, one, two);
         same!(rt; pages_left(rt, stage, all), 4);
@@ -96,75 +89,16 @@ impl HeldAt {
 }
 
 // With a trace and without one.
-fn held<R: Runs>(rt: &R, alloc: Global, place: Place, act: Act, wanted: [u64; 4]) {
-    both(
-        rt,
-        alloc,
-        small(100),
-        Scene::Held(HeldAt { place, act, wanted }),
-    );
+fn held<R: Runs>(rt: &R, alloc: Global, place: Place, wanted: [u64; 4]) {
+    both(rt, alloc, small(100), Scene::Held(HeldAt { place, wanted }));
 }
 
 #[test]
 fn a_slot_that_is_held_holds_no_other(rt: HostRuntime) {
-    held(&rt, rt.alloc(), Place::Slot(1), Act::Store, [4, 3, 1, 0]);
-}
-
-#[test]
-fn a_slot_that_is_held_for_lines_that_came_together_holds_no_other(rt: HostRuntime) {
-    held(&rt, rt.alloc(), Place::Slot(1), Act::Queue, [4, 3, 1, 0]);
+    held(&rt, rt.alloc(), Place::Slot(1), [4, 3, 1, 0]);
 }
 
 #[test]
 fn a_node_that_is_held_holds_no_other(rt: HostRuntime) {
-    held(&rt, rt.alloc(), Place::Node(0), Act::Store, [4, 2, 0, 0]);
-}
-
-#[test]
-fn a_page_for_a_hole_is_drawn_with_no_pool_held(rt: HostRuntime) {
-    held(&rt, rt.alloc(), Place::Node(0), Act::Fault, [4, 2, 1, 0]);
-}
-
-#[test]
-fn a_batch_is_drawn_with_no_pool_held(rt: HostRuntime) {
-    held(&rt, rt.alloc(), Place::Node(0), Act::Fill, [4, 2, 1, 0]);
-}
-
-#[test]
-fn pages_of_a_task_go_back_with_no_pool_held(rt: HostRuntime) {
-    held(&rt, rt.alloc(), Place::Node(0), Act::Exit, [4, 2, 1, 0]);
-}
-
-#[test]
-fn pages_of_a_mount_go_back_with_no_pool_held(rt: HostRuntime) {
-    held(&rt, rt.alloc(), Place::Node(0), Act::Umount, [4, 2, 1, 0]);
-}
-
-// Without a trace both pages are taken in one hold of the pool.
-#[test]
-fn a_run_of_faults_is_drawn_with_no_pool_held(rt: HostRuntime) {
-    let held_at = HeldAt {
-        place: Place::Node(0),
-        act: Act::Run,
-        wanted: [4, 1, 1, 0],
-    };
-    untraced(&rt, rt.alloc(), small(100), Scene::Held(held_at));
-}
-
-#[test]
-fn a_fork_holds_one_slot_at_a_time(rt: HostRuntime) {
-    for slot in [0, 1, 3] {
-        held(&rt, rt.alloc(), Place::Slot(slot), Act::Fork, [4, 3, 1, 0]);
-    }
-}
-
-#[test]
-fn an_exit_holds_one_slot_at_a_time(rt: HostRuntime) {
-    held(&rt, rt.alloc(), Place::Slot(0), Act::Exit, [4, 2, 1, 0]);
-    held(&rt, rt.alloc(), Place::Slot(3), Act::Exit, [4, 3, 1, 0]);
-}
-
-#[test]
-fn a_mount_holds_its_slot_alone(rt: HostRuntime) {
-    held(&rt, rt.alloc(), Place::Slot(3), Act::Mount, [4, 3, 1, 0]);
+    held(&rt, rt.alloc(), Place::Node(0), [4, 2, 0, 0]);
 }

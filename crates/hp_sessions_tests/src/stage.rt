@@ -8,6 +8,7 @@ use crate::following::followed;
 use crate::full::{Fills, left};
 use crate::machine::{Machine, Runs};
 use crate::making::made;
+use crate::places::each_held;
 use crate::playing::alone;
 use crate::preallocating::Range;
 use crate::remounting::Limits;
@@ -54,6 +55,7 @@ pub struct Stage<M> {
 #[derive(Clone, Copy, Drop)]
 pub enum Scene {
     Held(HeldAt),
+    Places,
     Filled,
     Followed,
     Made,
@@ -69,6 +71,7 @@ pub enum Scene {
 fn play<R: Runs, M: Machine + Sync>(rt: &R, stage: Stage<M>, scene: Scene) {
     match scene {
         Scene::Held(held) => held.play(rt, stage),
+        Scene::Places => each_held(rt, stage),
         Scene::Filled => filled(rt, stage),
         Scene::Followed => followed(rt, stage),
         Scene::Made => made(rt, stage),

@@ -3,7 +3,7 @@ use Rattle.std.proofs.Common.{◌≡◌, ℕ, suc, ◌+◌, ◌-◌, Bool, Some,
 use Rattle.std.proofs.lemmas.List.{length-append}
 use Rattle.hp_history.specs.declared.held.Held.{Held}
 use Rattle.hp_history.specs.declared.held.Held.TheVariants.{Busy, Session, Slot as SlotPart}
-use Rattle.hp_history.specs.History.{IsSession, looked, number_in, receipts_in}
+use Rattle.hp_history.specs.History.{IsSession, front_of, looked, number_in, receipts_in}
 use Rattle.hp_history.specs.Sections.{IsEntered, asked_in, busy, entry_with, free_slot, receipts_next, section_at, session_view, slot_in, trail_next}
 use Rattle.hp_laws.proofs.Variants.{Asked, Done, Receipt, SlotEntry, TakePage}
 use Rattle.hp_model.proofs.Words.{granted_at}
@@ -13,7 +13,7 @@ use Rattle.hp_model.specs.declared.step.Intent.{Intent}
 use Rattle.hp_mount.specs.Running.{reserved_at}
 use Rattle.hp_subpool.specs.Subpool.{Subpool, with_page, with_pages}
 use Rattle.hp_shared.specs.Runs.{AreEntered, Faults, HasEntered, IsPageMore, RunView, Seats, fault_entered, fault_in_run, faults_of, look_receipt, run_view}
-use Rattle.hp_shared.specs.Seated.{first_of, run_in, slot_receipt}
+use Rattle.hp_shared.specs.Seated.{run_in, slot_receipt}
 
 -- ---- pages that were taken one after another
 
@@ -60,10 +60,10 @@ no_pages_more s =
 
 -- the slot's seat had views, the session's v; the task's home was told; both seats as one entered the section, and then parted
 module _ (keeps : Bool) (views : List (List Held)) (a : Access) (intent : Intent) (i home node : ℕ) (v told both held w : List Held) (now : List (List Held)) (asked : Asked)
-    (looks : told ≡ looked a.task (Some home) v) (joins : both ≡ free_slot (first_of views) ∷ session_view told ∷ []) (enters : IsEntered keeps both (Some asked) held)
+    (looks : told ≡ looked a.task (Some home) v) (joins : both ≡ free_slot (front_of views) ∷ session_view told ∷ []) (enters : IsEntered keeps both (Some asked) held)
     (asks : asked.section ≡ TakePage home) (answers : asked.answer ≡ granted_at node) where
   abbrev k : ℕ
-  k = slot_in (first_of views)
+  k = slot_in (front_of views)
 
   abbrev f : Faults
   f = faults_of k a intent
@@ -87,7 +87,7 @@ module _ (keeps : Bool) (views : List (List Held)) (a : Access) (intent : Intent
   heard = receipts ++ slot_receipt k e (Ok Done) (length (run_in views)) ∷ []
 
   is_both : both ≡ SlotPart k (run_in views) ∷ Session (number_in v) receipts ∷ []
-  is_both = joins ∙ ap (λ x. free_slot (first_of views) ∷ session_view x ∷ []) looks
+  is_both = joins ∙ ap (λ x. free_slot (front_of views) ∷ session_view x ∷ []) looks
 
   is_section : section_at place asked ≡ section
   is_section = λ n. record { place = place; section = asks n; answer = answers n }
@@ -102,8 +102,8 @@ module _ (keeps : Bool) (views : List (List Held)) (a : Access) (intent : Intent
     is_w : w ≡ Session (number_in v) heard ∷ []
     is_w = session ∙ ap (λ x. receipts_next e (Ok Done) (asked_in x) x ∷ []) is_held
 
-    pub slot_stays : now ≡ (free_slot (first_of now) ∷ []) ∷ []
-    slot_stays = is_now ∙ sym (ap (λ vs. (free_slot (first_of vs) ∷ []) ∷ []) is_now)
+    pub slot_stays : now ≡ (free_slot (front_of now) ∷ []) ∷ []
+    slot_stays = is_now ∙ sym (ap (λ vs. (free_slot (front_of vs) ∷ []) ∷ []) is_now)
 
     pub session_stays : IsSession w
     session_stays = is_w ∙ sym (ap (λ x. Session (number_in x) (receipts_in x) ∷ []) is_w)
@@ -113,7 +113,7 @@ module _ (keeps : Bool) (views : List (List Held)) (a : Access) (intent : Intent
       home = home;
       place = place;
       node = node;
-      faults = ap (λ vs. faults_of (slot_in (first_of vs)) a intent) is_now;
+      faults = ap (λ vs. faults_of (slot_in (front_of vs)) a intent) is_now;
       index = refl;
       number = ap number_in is_w;
       seats = λ n. record { run = run_in (is_now n); told = receipts_in (is_w n) };

@@ -3,7 +3,7 @@ use Rattle.std.proofs.Common.{◌≡◌, ◌⊎◌, inl, inr, ℕ, Bool, true, f
 use Rattle.atomic_table.specs.Seated.{TableId}
 use Rattle.hp_history.specs.declared.held.Held.{Held}
 use Rattle.hp_history.specs.declared.held.Held.TheVariants.{Slot as SlotPart, Busy}
-use Rattle.hp_history.specs.History.{number_in, receipts_in}
+use Rattle.hp_history.specs.History.{front_of, number_in, receipts_in}
 use Rattle.hp_history.specs.Sections.{IsEntered, IsHeld, asked_in, free_slot, section_at, receipts_next, session_view, entry_with, told_more, trail_next}
 use Rattle.hp_laws.proofs.Variants.{Asked, AtSlot, Receipt, Slot as OnSlot, SlotEntry, SlotEvent}
 use Rattle.hp_model.proofs.Words.{Ask, Finish, Goes, IsLocalRun, Plan, Reply, Slot, is_slot_event, slot_event}
@@ -12,7 +12,7 @@ use Rattle.hp_locked.specs.Views.{IsTrailOf}
 use Rattle.hp_mount_laws.specs.Done.{MayEnter}
 use Rattle.hp_events.specs.Answered.{Went}
 use Rattle.hp_events.specs.Replies.{is_trace_full}
-use Rattle.hp_shared.specs.Seated.{IsSeatedDone, IsSeatedEvent, IsSeatedSlot, SeatedView, first_of, run_in, session_left, slot_left, slot_receipt, slot_view}
+use Rattle.hp_shared.specs.Seated.{IsSeatedDone, IsSeatedEvent, IsSeatedSlot, SeatedView, run_in, session_left, slot_left, slot_receipt, slot_view}
 use Rattle.hp_events.specs.Event.{full_for}
 use Rattle.hp_model.specs.declared.event.SlotEvent.TheVariants as slot
 use Rattle.hp_shared.specs.Slots.{IsSlotEvent, IsSlotEventDone, SlotView, slot_start}
@@ -93,8 +93,8 @@ is_kept entries k e r (Some x) told is = refl
 -- ---- the seat with an event more
 
 -- a seat that has the slot alone has no section that is open
-pub one_free : (number : ℕ) (views : List (List Held)) → views ≡ slot_view number views ∷ [] → views ≡ (free_slot (first_of views) ∷ []) ∷ []
-one_free number views one = one ∙ ap (λ h. (h ∷ []) ∷ []) (sym (ap (λ vs. free_slot (first_of vs)) one))
+pub one_free : (number : ℕ) (views : List (List Held)) → views ≡ slot_view number views ∷ [] → views ≡ (free_slot (front_of views) ∷ []) ∷ []
+one_free number views one = one ∙ ap (λ h. (h ∷ []) ∷ []) (sym (ap (λ vs. free_slot (front_of vs)) one))
 
 pub seat_is : (history : TableId) (size : ℕ) (id : TableId) (views : List (List Held)) (k : ℕ) (es : List SlotEntry) (s : SlotView) → id ≡ history → s.number ≡ k
     → views ≡ (SlotPart k es ∷ []) ∷ [] → IsLocalRun size k (slot_start k) es s.mount → IsTrailOf es s.entries → IsSeatedSlot history size id views s

@@ -9,10 +9,9 @@ use Rattle.hp_model.specs.machine.State.{State}
 use Rattle.hp_model.specs.threads.JointRun.{Trails as Run}
 use Rattle.hp_history.specs.declared.held.Held.{Held}
 use Rattle.hp_history.specs.declared.held.Held.TheVariants.{Tasks, Pool, Opener}
-use Rattle.hp_history.specs.History.{receipts_in, held_from}
+use Rattle.hp_history.specs.History.{front_of, held_from, receipts_in}
 use Rattle.hp_history.specs.Sections.{session_view}
 use Rattle.hp_history.specs.History.{number_in}
-use Rattle.hp_shared.specs.Seated.{first_of}
 use Rattle.hp_shared.specs.Sharing.{AreGathered, EndsRuns, entries_of}
 use Rattle.hp_shared.specs.declared.shared.Trails.{Trails}
 
@@ -27,17 +26,18 @@ IsCount count exact = count < most_count → exact ≡ count
 abbrev pub IsExactly : (count exact : ℕ) → Type 0
 IsExactly count exact = (count < most_count) × (count ≡ exact)
 
--- a session that is over: its number, and what it was told
+-- a session that is over: its number, what it was told, and what it saw of the order of all events
 pub record FinishedView : Type 0 where
   pub number : ℕ
   pub receipts : List Receipt
+  pub seen : List ℕ
 
 -- its seat has the session alone; where receipts are kept they are what it was told
 pub record IsFinished (kept : Bool) (history : TableId) (number : ℕ) (receipts : List Receipt) (id : TableId) (views : List (List Held)) : Type 0 where
-  pub count : IsCount number (number_in (first_of views))
+  pub count : IsCount number (number_in (front_of views))
   pub named : id ≡ history
-  pub one : views ≡ (session_view (first_of views) ∷ []) ∷ []
-  pub told : kept ≡ true → receipts ≡ receipts_in (first_of views)
+  pub one : views ≡ (session_view (front_of views) ∷ []) ∷ []
+  pub told : kept ≡ true → receipts ≡ receipts_in (front_of views)
 
 -- a seat that had these parts has the slots as well, with their trails, which are runs of them that end in these mounts; and they
 -- are what is kept, if any is

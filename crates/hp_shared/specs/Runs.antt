@@ -2,7 +2,7 @@
 use Rattle.std.specs.Prelude.{◌≡◌, ◌<◌, ℕ, zero, suc, Bool, true, false, Option, None, Some, Ok, List, [], ◌∷◌, ◌++◌, length, replicate}
 use Rattle.atomic_table.specs.Seated.{TableId}
 use Rattle.hp_history.specs.declared.held.Held.{Held}
-use Rattle.hp_history.specs.History.{IsSession, look_item, number_in, receipts_in}
+use Rattle.hp_history.specs.History.{IsSession, front_of, look_item, number_in, receipts_in}
 use Rattle.hp_history.specs.Sections.{entry_with, free_slot, slot_in}
 use Rattle.hp_model.specs.declared.answer.Answer.TheVariants.{Done}
 use Rattle.hp_model.specs.declared.entry.Receipt.{Receipt}
@@ -16,7 +16,7 @@ use Rattle.hp_model.specs.threads.JointRun.{receipt_of}
 use Rattle.hp_events.specs.Answered.{Went}
 use Rattle.hp_mount.specs.Running.{reserved_at}
 use Rattle.hp_permit.specs.Claim.{Claim}
-use Rattle.hp_shared.specs.Seated.{SeatedView, first_of, run_in, slot_receipt}
+use Rattle.hp_shared.specs.Seated.{SeatedView, run_in, slot_receipt}
 
 -- the slot, the task, its map and what the faults are for
 pub record Faults : Type 0 where
@@ -66,7 +66,7 @@ pub record RunView : Type 0 where
 -- a door's, by the seats of the slot and of the session
 abbrev pub run_view : Access → Intent → (views : List (List Held)) → List Held → (waiting : List ℕ) → (is_full : Bool) → RunView
 run_view a intent views v waiting is_full = record {
-  faults = faults_of (slot_in (first_of views)) a intent;
+  faults = faults_of (slot_in (front_of views)) a intent;
   index = a.index;
   number = number_in v;
   seats = record { run = run_in views; told = receipts_in v };
@@ -100,7 +100,7 @@ pub record IsRunDoor (history : TableId) (looks kept : Bool) (mine : TableId) (m
   pub session : IsSession me.0
   pub alone : me.1 ≡ []
   pub slot : seat ≡ history
-  pub one : views ≡ (free_slot (first_of views) ∷ []) ∷ []
+  pub one : views ≡ (free_slot (front_of views) ∷ []) ∷ []
 
 -- the same door once faults of these nodes entered their sections, whatever waits
 pub record HasEntered (d : RunView) (nodes : List ℕ) (e : RunView) : Type 0 where

@@ -4,6 +4,7 @@ use Rattle.std.specs.Bool.{MatchBool}
 use Rattle.atomic_table.specs.Seated.{TableId}
 use Rattle.hp_history.specs.declared.held.Held.{Held}
 use Rattle.hp_history.specs.declared.held.Held.TheVariants.{Slot as SlotPart}
+use Rattle.hp_history.specs.History.{front_of}
 use Rattle.hp_history.specs.Sections.{asked_in, free_slot, receipts_next, session_view, entry_with, told_more, trail_in, trail_next}
 use Rattle.hp_model.specs.declared.entry.Asked.{Asked}
 use Rattle.hp_model.specs.declared.entry.Receipt.{Receipt}
@@ -20,13 +21,9 @@ use Rattle.hp_events.specs.Replies.{is_trace_full}
 use Rattle.hp_shared.specs.Slots.{SlotView, slot_start}
 use Rattle.hp_trail.specs.Keeping.{has_room}
 
-abbrev pub first_of : List (List Held) → List Held
-first_of [] = []
-first_of (v ∷ vs) = v
-
 -- the trail that the slot's seat has
 abbrev pub run_in : List (List Held) → List SlotEntry
-run_in vs = trail_in (first_of vs)
+run_in vs = trail_in (front_of vs)
 
 abbrev pub slot_view : (number : ℕ) → List (List Held) → List Held
 slot_view number vs = SlotPart number (run_in vs) ∷ []

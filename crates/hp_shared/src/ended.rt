@@ -1,13 +1,13 @@
 //! The history of a machine that no thread shares any more.
 ghost use Rattle.std.specs.Prelude.{◌≡◌, ◌==◌, ◌∷◌, ◌++◌, [], true};
-ghost use Rattle.hp_history.specs.declared.held.Held.TheVariants.{Session};
+ghost use Rattle.hp_history.specs.declared.held.Held.TheVariants.{Seen, Session};
 ghost use Rattle.hp_history.specs.History.{Ends};
 
 use crate::finished::Finished;
 use hp_history::{History, Places, Token};
 use hp_model::entry::Receipt;
 
-/// The history, with one seat that has all parts, and takes in what sessions were told.
+/// The history, with one seat that has all parts, and takes in what sessions were told and what they saw.
 #[derive(Drop)]
 pub struct Ended<N: Places> {
     history: History<N>,
@@ -36,10 +36,10 @@ impl<N: Places> Ended<N> {
         }
     }
 
-    /// With what a session more was told, behind what the seat has. Its receipts, where K is 1.
+    /// With what a session more was told, behind what the seat has, and what it saw, in front. Its receipts, where K is 1.
     pub fn with<const K: usize>(self, session: Finished<N, K>) -> (Self, Vec<Receipt>)
         ensures parts { result.0.seat.me.0
-            ≡ self.seat.me.0 ++ Session session.number session.receipts ∷ [] }
+            ≡ Seen session.seen ∷ (self.seat.me.0 ++ Session session.number session.receipts ∷ []) }
         ensures sessions { result.0.sessions ≡ self.sessions }
         ensures in_order { result.0.in_order ≡ self.in_order }
         ensures receipts { (K == 1) ≡ true → result.1.items ≡ session.receipts }
@@ -50,8 +50,9 @@ impl<N: Places> Ended<N> {
             sessions,
             in_order,
         } = self;
-        let (receipts, mut all) = session.into_parts();
+        let (receipts, mut all, clock) = session.into_parts();
         history.take_in(&mut all, seat);
+        history.take_in(&mut all, clock.into_seat());
         let ended = Ended {
             history,
             seat: all,

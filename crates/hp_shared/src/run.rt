@@ -1,11 +1,10 @@
 //! A session's door to the pool for faults that follow one another.
 ghost use Rattle.std.specs.Prelude.{◌≡◌, ◌==◌, ◌+◌, ◌<◌, ◌≤◌, ◌∷◌, [], ℕ, List, length, refl, true, false, IfNone, IfSome};
 ghost use Rattle.hp_history.specs.declared.held.Held.TheVariants.{Session, Slot as SlotPart};
-ghost use Rattle.hp_history.specs.History.{IsSession};
+ghost use Rattle.hp_history.specs.History.{IsSession, front_of};
 ghost use Rattle.hp_history.specs.Sections.{free_slot};
 ghost use Rattle.hp_subpool.specs.Subpool.{with_page, with_pages};
 ghost use Rattle.hp_shared.specs.Runs.{HasEntered, IsPageMore, RunView as TheView, run_view};
-ghost use Rattle.hp_shared.specs.Seated.{first_of};
 
 use crate::seats::join;
 use crate::taken::Taken;
@@ -185,7 +184,7 @@ impl<'a, N: Naming + Places, R: Wait, G: Gate, const K: usize> Run<'a, N, R, G, 
         requires session { IsSession mine.me.0 }
         requires alone { mine.me.1 ≡ [] }
         requires slot { seat.table_id ≡ N.history }
-        requires one { seat.views ≡ (free_slot (first_of seat.views) ∷ []) ∷ [] }
+        requires one { seat.views ≡ (free_slot (front_of seat.views) ∷ []) ∷ [] }
         ensures { result ≡ run_view access.now intent seat.views mine.me.0 [] false }
     {
         Run {

@@ -11,12 +11,12 @@ ghost use Rattle.hp_laws.specs.Answers.{lists_names};
 ghost use Rattle.hp_events.specs.Copies.{AreCopiesFor};
 ghost use Rattle.hp_events.specs.Event.{IsAnother, full_for, has_maps_for, is_exit, is_of_mount, shows_bytes};
 ghost use Rattle.hp_history.specs.declared.held.Held.TheVariants.{Slot as SlotPart};
-ghost use Rattle.hp_history.specs.History.{IsSession, number_in};
+ghost use Rattle.hp_history.specs.History.{IsSession, front_of, number_in};
 ghost use Rattle.hp_history.specs.Sections.{IsFree, IsHeld, free_slot, session_view};
 ghost use Rattle.hp_locked.specs.Views.{IsNewTrail, IsTrailOf};
 ghost use Rattle.hp_events.specs.Replies.{is_trace_full, names_reply};
 ghost use Rattle.hp_shared.specs.Runs.{AreFaultsDone, faults_of, seated_mount};
-ghost use Rattle.hp_shared.specs.Seated.{IsSeatedDone, IsSeatedEvent, first_of, run_in, session_left, slot_left, slot_view};
+ghost use Rattle.hp_shared.specs.Seated.{IsSeatedDone, IsSeatedEvent, run_in, session_left, slot_left, slot_view};
 ghost use Rattle.hp_shared.specs.Slots.{IsSlotTrail, slot_start};
 
 use crate::locked_slot::Slot;

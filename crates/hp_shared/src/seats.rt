@@ -2,10 +2,10 @@
 ghost use Rattle.std.specs.Prelude.{◌≡◌, ◌∷◌, [], true};
 ghost use Rattle.hp_model.specs.declared.event.SlotEvent.TheVariants.{Ls};
 ghost use Rattle.hp_model.specs.beside.Told.{told_reply};
-ghost use Rattle.hp_history.specs.History.{IsSession};
+ghost use Rattle.hp_history.specs.History.{IsSession, front_of};
 ghost use Rattle.hp_history.specs.Sections.{IsFree, IsHeld, free_slot, session_view};
 ghost use Rattle.hp_events.specs.Replies.{is_trace_full, names_reply};
-ghost use Rattle.hp_shared.specs.Seated.{first_of, session_left, slot_left};
+ghost use Rattle.hp_shared.specs.Seated.{session_left, slot_left};
 
 use crate::told::is_full;
 use atomic_table::Badge;
@@ -21,13 +21,13 @@ use std::mem;
 #[inline(always)]
 pub(crate) fn join<N: Places>(history: &History<N>, slot: &mut Badge<View>, mine: &mut Token)
     requires slot { slot.old.table_id ≡ N.history }
-    requires one { slot.old.views ≡ (free_slot (first_of slot.old.views) ∷ []) ∷ [] }
+    requires one { slot.old.views ≡ (free_slot (front_of slot.old.views) ∷ []) ∷ [] }
     requires named { mine.old.table_id ≡ N.history }
     requires session { IsSession mine.old.me.0 }
     requires alone { mine.old.me.1 ≡ [] }
     ensures named { mine.new.table_id ≡ N.history }
     ensures both { mine.new.me
-        ≡ (free_slot (first_of slot.old.views) ∷ session_view mine.old.me.0 ∷ [], []) }
+        ≡ (free_slot (front_of slot.old.views) ∷ session_view mine.old.me.0 ∷ [], []) }
 {
     history.take_in(mine, mem::replace(slot, Badge::blank()).into_seat());
 }

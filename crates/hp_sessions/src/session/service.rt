@@ -1,11 +1,9 @@
-//! A session as a service.
+//! A session as a service: each call looks at the order when it begins.
 ghost use Rattle.hp_sessions.specs.Calls.{IsCallAnswered};
 
 use super::Session;
-use hp_events::{Parts, into_bytes, into_done};
+use hp_events::Parts;
 use hp_model::answer::Reply;
-use hp_model::event::SlotEvent;
-use hp_model::lent::Lent;
 use hp_model::queued::Queued;
 use hp_model::refusal::Refusal;
 use hp_model::service::{Access, Service};
@@ -30,7 +28,8 @@ impl<P: Parts> Service for Session<P> {
         room: &'b mut [u8],
         reply: &mut Result<Told<'b>, Refusal>,
     ) {
-        self.do_step_into(step, room, reply);
+        self.asking.look();
+        self.asking.do_step_into(step, room, reply);
     }
 
     fn load<'b>(
@@ -39,45 +38,38 @@ impl<P: Parts> Service for Session<P> {
         count: u64,
         room: &'b mut [u8],
     ) -> Result<&'b [u8], Refusal> {
-        let event = SlotEvent::Load {
-            task: access.task,
-            home: 0,
-            map: access.map,
-            index: access.index,
-            offset: access.offset,
-            count,
-        };
-        let told = self.of_task(access.task, access.slot, event, room);
-        into_bytes(told)
+        self.asking.look();
+        self.asking.load(access, count, room)
     }
 
     fn store(&mut self, access: &Access, bytes: &[u8]) -> Result<(), Refusal> {
-        let event = SlotEvent::Store {
-            task: access.task,
-            home: 0,
-            map: access.map,
-            index: access.index,
-            offset: access.offset,
-            bytes: Lent::new(bytes),
-        };
-        let told = self.of_task(access.task, access.slot, event, &mut []);
-        into_done(told)
+        self.asking.look();
+        self.asking.store(access, bytes)
     }
 
     fn fault(&mut self, access: &Access, intent: Intent) -> Result<(), Refusal> {
-        Session::fault(self, access, intent)
+        self.asking.look();
+        self.asking.fault(access, intent)
     }
 
     #[inline(always)]
     fn takes_several(&self) -> bool {
-        !self.parts.is_kept()
+        self.asking.takes_several()
     }
 
+    // A look behind them is one for all but the first.
     fn do_queued(&mut self, queue: &mut [Queued], room: &mut [u8]) {
-        self.do_waiting(queue, room)
+        if queue.is_empty() {
+            return;
+        }
+        self.asking.look();
+        self.asking.do_queued(queue, room);
+        if queue.len() > 1 {
+            self.asking.look();
+        }
     }
 
     fn page_bytes(&self) -> u64 {
-        self.parts.page_bytes()
+        self.asking.page_bytes()
     }
 }

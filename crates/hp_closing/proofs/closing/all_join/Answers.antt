@@ -1,11 +1,11 @@
-use Rattle.std.proofs.Common.{◌≡◌, ◌==◌, ◌+◌, ◌++◌, ◌∷◌, [], true, refl, sym, ap, ◌∙◌, arith}
+use Rattle.std.proofs.Common.{length, rules, ◌≡◌, ◌==◌, ◌+◌, ◌++◌, ◌∷◌, [], true, refl, sym, ap, ◌∙◌, arith}
 use Rattle.std.proofs.lemmas.Bool.{eqb-true, false≢true}
 use Rattle.std.proofs.lemmas.List.{map-append}
 use Rattle.std.specs.Global.{Vec}
 use Rattle.std.specs.Vec.Iter.{into_iter_items}
 use Rattle.hp_laws.proofs.Variants.{Receipt}
 use Rattle.hp_trail.specs.Walk.{lists}
-use Rattle.hp_closing.proofs.Whole.{one_joins}
+use Rattle.hp_closing.proofs.Whole.{all_joined, one_joins}
 use Rattle.hp_closing.proofs.closing.all_join.Given.{Over}
 use Rattle.hp_closing.proofs.closing.all_join.Goals as goal
 use Rattle.hp_closing.proofs.closing.all_join.Goals.{After-with-now, then-is_whole, else-is_whole}
@@ -54,3 +54,9 @@ loop-session-preserved g c =
           (lists c.loop-session.told.items) c.loop-session.at (c.loop-session.at + 1) c.in-Some.session was.joined next.items refl (order g a) c.with-now.ensures.parts
           (λ kept. absurd (c.if-this-eq1.false (eqb-true g.row.K 1 kept)));
     }
+
+pub returns-clause-joined : goal.returns-clause-joined
+returns-clause-joined g c = λ is.
+    let none : length (into_iter_items c.loop-session.rest) ≡ 0 = search rules in
+    all_joined (g.row.K == 1) c.loop-session.is_whole g.N.Places.shape c.args.ended.seat.me.0 c.loop-session.ended.seat.me.0 c.args.sessions.items
+    (into_iter_items c.loop-session.rest) (lists c.loop-session.told.items) c.loop-session.at c.loop-session.invariant.joined none is c.learn.ensures

@@ -15,28 +15,26 @@ returns-clause-run g c = λ whole.
     let join = c.all_join-is_whole.ensures in
     let system = c.into_system-system in
     let fs = frames_list g.N.Naming.frames in
-    let told = all_told c.args.sessions.items in
     let h = system.ensures.ends (join.in_order whole) in
     let run =
     one_run (g.row.K == 1) fs c.args.shared.page_size c.args.shared.slots g.N.Places.shape system.result.0 system.result.1 system.result.2.sessions
-    system.result.2.seat.me.0 told system.ensures.shape h (join.count whole) (join.ends whole) c.histories_are_one.ensures system.ensures.settled in
+    system.result.2.seat.me.0 c.args.sessions.items system.ensures.shape h (join.count whole) (join.joined whole) c.histories_are_one.ensures system.ensures.settled in
     record {
       machine = system.result.0;
       run = run;
       free =
           c.close-counts.ensures.free (run_ready (g.row.K == 1) fs c.args.shared.page_size c.args.shared.slots g.N.Places.shape system.result.0 system.result.1
-          system.result.2.sessions system.result.2.seat.me.0 told system.ensures.shape h (join.count whole) (join.ends whole) run);
+          system.result.2.sessions system.result.2.seat.me.0 c.args.sessions.items system.ensures.shape h (join.count whole) (join.joined whole) run);
     }
 
 pub returns-clause-agrees : goal.returns-clause-agrees
 returns-clause-agrees g c = λ whole differs.
     let join = c.all_join-is_whole.ensures in
     let system = c.into_system-system in
-    let told = all_told c.args.sessions.items in
     let kept : (g.row.K == 1) ≡ true = sym (sym (ap is_some differs) ∙ c.in_ok-audit.ensures.kept) in
     let differ = c.is_joined.ensures.differ (c.in_ok-audit.was ∙ ap Ok differs) in
     never_differ (g.row.K == 1) (frames_list g.N.Naming.frames) c.args.shared.page_size c.args.shared.slots g.N.Places.shape system.result.0 system.result.1
-    system.result.2.sessions system.result.2.seat.me.0 told system.ensures.shape (system.ensures.ends (join.in_order whole)) (join.count whole) (join.ends whole)
+    system.result.2.sessions system.result.2.seat.me.0 c.args.sessions.items system.ensures.shape (system.ensures.ends (join.in_order whole)) (join.count whole) (join.joined whole)
     c.histories_agree.ensures kept
     (subst (λ (all : List (List Receipt)). IfSome system.result.1 (λ t. Disagree (entries_of t) all)) (join.told kept) differ)
 

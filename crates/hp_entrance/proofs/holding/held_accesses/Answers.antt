@@ -68,6 +68,7 @@ loop-done-preserved g c =
       handed = next.handed;
       left = next.left;
       number = c.held_access.ensures.number ∙ some.ensures.number;
+      owner = c.held_access.ensures.owner ∙ some.ensures.owner ∙ i.owner;
       room = c.held_access.ensures.room ∙ some.ensures.room ∙ i.room;
       turn = c.held_access.ensures.turn;
     }

@@ -1,10 +1,9 @@
-use Rattle.std.proofs.Common.{◌≡◌, ◌∙◌, ℕ, List, ap, arith, map}
+use Rattle.std.proofs.Common.{◌≡◌, ◌∙◌, ℕ, List, ap, arith}
 use denote.Param.Send.{sendable}
 use Rattle.hp_locked.specs.Views.{frames_list}
 use Rattle.hp_model.proofs.Words.{start}
 use Rattle.hp_shared.proofs.Crossing.{shared_sync}
 use Rattle.hp_shared.proofs.Opened.{frames_named}
-use Rattle.hp_shared.specs.Ended.{FinishedView}
 use Rattle.hp_shared.specs.Sharing.{SharedView}
 use Rattle.hugetlbd.proofs.Serving.{as_asked, leaves, told_on}
 use Rattle.hp_words.specs.Config.{choice_of, chosen}
@@ -21,9 +20,9 @@ returns g c =
     ap (λ (xs : List ℕ). start xs c.in-Ok.shared.page_size c.in-Ok.shared.slots) named ∙ ap (λ (s : SharedView). start fs s.page_size s.slots) c.in-Ok.ensures in
     record {
       ended = e.0;
-      leaves = leaves (λ (one : FinishedView). one.receipts) _ _ _ _ e.0
-          (λ one. told_on (choice_of c.args.machine.now) c.args.serving _ _ c.requires.keeps c.requires.bytes one.receipts)
-          (λ told. as_asked (choice_of c.args.machine.now) c.args.serving _ _ same c.requires.keeps (map (λ (one : FinishedView). one.receipts) told)) e.1;
+      leaves = leaves _ _ _ _ e.0
+          (told_on (choice_of c.args.machine.now) c.args.serving _ _ c.requires.keeps c.requires.bytes)
+          (as_asked (choice_of c.args.machine.now) c.args.serving _ _ same c.requires.keeps) e.1;
       ends = e.2;
       prints = e.3;
       says = e.4;

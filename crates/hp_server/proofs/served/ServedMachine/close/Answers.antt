@@ -9,7 +9,7 @@ use Rattle.hp_server.proofs.served.ServedMachine.close.Goals.{then-closed, else-
 pub returns-clause-leaves : goal.returns-clause-leaves
 returns-clause-leaves g c =
     let from = start (frames_list g.N.Naming.frames) c.args.self.shared.page_size c.args.self.shared.slots in
-    let told = all_told c.args.told.items in
+    let left = c.args.told.items in
     let closed = c.in_ok-closed.closed in
     let had = c.in_ok-closed.ensures in
     record {
@@ -20,12 +20,12 @@ returns-clause-leaves g c =
             | else-closed w ↦ absurd (whole w.audit-is)
           ];
       run = λ whole.
-          elim c.if-closed.branch as (λ _. WasOneRun from told closed.counts) [
+          elim c.if-closed.branch as (λ _. WasOneRun from left closed.counts) [
             | then-closed w ↦ had.run w.if-closed.true
             | else-closed w ↦ absurd (whole w.audit-is)
           ];
       joined = λ ok.
-          elim c.if-closed.branch as (λ _. WasJoined from told closed.counts) [
+          elim c.if-closed.branch as (λ _. WasJoined from (all_told left) closed.counts) [
             | then-closed w ↦ had.joined (sym w.audit-is ∙ ok)
             | else-closed w ↦ (let differ = sym w.audit-is ∙ ok in cc)
           ];

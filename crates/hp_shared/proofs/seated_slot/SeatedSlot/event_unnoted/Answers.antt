@@ -1,3 +1,4 @@
+use Rattle.hp_history.specs.History.{front_of}
 use Rattle.std.proofs.Common.{◌≡◌, ◌==◌, false, Bool, None, List, [], ◌∷◌, sym, ap, ◌∙◌, subst}
 use Rattle.std.proofs.lemmas.Bool.{false≢true}
 use Rattle.hp_history.specs.declared.held.Held.{Held}
@@ -5,7 +6,7 @@ use Rattle.hp_history.specs.Sections.{IsEntered, free_slot, session_view}
 use Rattle.hp_model.proofs.Words.{told_reply}
 use Rattle.hp_laws.proofs.Variants.{SlotEntry}
 use Rattle.hp_events.specs.Replies.{is_trace_full}
-use Rattle.hp_shared.specs.Seated.{IsSeatedDone, SeatedView, first_of, run_in, session_left, slot_left}
+use Rattle.hp_shared.specs.Seated.{IsSeatedDone, SeatedView, run_in, session_left, slot_left}
 use Rattle.hp_shared.specs.Slots.{IsSlotEvent}
 use Rattle.hp_shared.proofs.SeatedKept.{event_seated, full_as, held, never_true, one_free, seat_next, seated_done, session_went, slot_went}
 use Rattle.hp_shared.proofs.SlotsKept.{mount_event}
@@ -19,7 +20,7 @@ module _ (g : Over) (c : After-leave g) where
 
   at_door : c.new-door.result.mine ≡ held c.self.inside.slot.number run c.args.mine.me.0 None
   at_door = ap (λ d. d.mine) c.new-door.ensures ∙ (ap (λ m. m.0) c.join.ensures.both
-      ∙ ap (λ h. h ∷ session_view c.args.mine.me.0 ∷ []) (ap (λ vs. free_slot (first_of vs)) c.self.invariant.one))
+      ∙ ap (λ h. h ∷ session_view c.args.mine.me.0 ∷ []) (ap (λ vs. free_slot (front_of vs)) c.self.invariant.one))
 
   entered : IsEntered g.T.Trail.keeps (held c.self.inside.slot.number run c.args.mine.me.0 None) c.event_unnoted-told.new.door.asked c.into_mine-mine.result.0.me.0
   entered =

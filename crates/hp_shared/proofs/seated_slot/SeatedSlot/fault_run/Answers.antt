@@ -1,13 +1,13 @@
 use Rattle.std.proofs.Common.{◌≡◌, ℕ, Some, List, [], ◌∷◌, length, sym, ap, ◌∙◌, subst}
 use Rattle.hp_history.specs.declared.held.Held.{Held}
 use Rattle.hp_history.specs.declared.held.Held.TheVariants.{Slot as SlotPart}
-use Rattle.hp_history.specs.History.{receipts_in}
+use Rattle.hp_history.specs.History.{front_of, receipts_in}
 use Rattle.hp_history.specs.Sections.{slot_in}
 use Rattle.hp_model.proofs.Words.{IsLocalRun}
 use Rattle.hp_locked.specs.Views.{IsTrailOf}
 use Rattle.hp_laws.proofs.Variants.{SlotEntry}
 use Rattle.hp_shared.specs.Runs.{AreFaultsDone, Faults, SeatedMount, RunView, Seats, faults_of, seated_mount}
-use Rattle.hp_shared.specs.Seated.{SeatedView, first_of, run_in}
+use Rattle.hp_shared.specs.Seated.{SeatedView, run_in}
 use Rattle.hp_shared.specs.Slots.{slot_start}
 use Rattle.hp_shared.proofs.Running.{door_run_on, door_runs}
 use Rattle.hp_shared.proofs.SeatedKept.{seat_is}
@@ -35,7 +35,7 @@ module _ (g : Over) (c : After-drop-seat g) where
   run_is = ap (λ (x : RunView). x.seats.run) c.new-door.ensures ∙ ap run_in views_are
 
   faults_are : d.faults ≡ faults_of k c.args.access.now c.args.intent
-  faults_are = ap (λ (x : RunView). x.faults) c.new-door.ensures ∙ ap (λ vs. faults_of (slot_in (first_of vs)) c.args.access.now c.args.intent) views_are
+  faults_are = ap (λ (x : RunView). x.faults) c.new-door.ensures ∙ ap (λ vs. faults_of (slot_in (front_of vs)) c.args.access.now c.args.intent) views_are
 
   index_is : d.index ≡ c.args.access.now.index
   index_is = ap (λ (x : RunView). x.index) c.new-door.ensures

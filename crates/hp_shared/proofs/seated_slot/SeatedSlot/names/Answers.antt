@@ -1,9 +1,10 @@
+use Rattle.hp_history.specs.History.{front_of}
 use Rattle.std.proofs.Common.{◌≡◌, None, List, [], ◌∷◌, refl, ap, ◌∙◌, subst}
 use Rattle.hp_history.specs.Sections.{free_slot, session_view}
 use Rattle.hp_laws.proofs.Variants.{SlotEntry}
 use Rattle.hp_model.specs.declared.event.SlotEvent.TheVariants.{Ls}
 use Rattle.hp_events.specs.Replies.{names_reply}
-use Rattle.hp_shared.specs.Seated.{IsSeatedEvent, SeatedView, first_of, run_in}
+use Rattle.hp_shared.specs.Seated.{IsSeatedEvent, SeatedView, run_in}
 use Rattle.hp_shared.proofs.SeatedKept.{event_seated, held, one_free, seat_next}
 use Rattle.hp_shared.proofs.seated_slot.SeatedSlot.names.Given.{Over}
 use Rattle.hp_shared.proofs.seated_slot.SeatedSlot.names.Goals as goal
@@ -14,7 +15,7 @@ module _ (g : Over) (c : After-leave_names g) where
   run = run_in c.self.inside.seat.views
 
   at_join : c.join.new.mine.me.0 ≡ held c.self.inside.slot.number run c.args.mine.now.me.0 None
-  at_join = ap (λ m. m.0) c.join.ensures.both ∙ ap (λ h. h ∷ session_view c.args.mine.now.me.0 ∷ []) (ap (λ vs. free_slot (first_of vs)) c.self.invariant.one)
+  at_join = ap (λ m. m.0) c.join.ensures.both ∙ ap (λ h. h ∷ session_view c.args.mine.now.me.0 ∷ []) (ap (λ vs. free_slot (front_of vs)) c.self.invariant.one)
 
 pub join-requires-clause-one : goal.join-requires-clause-one
 join-requires-clause-one g c = one_free c.self.inside.slot.number c.self.inside.seat.views c.self.invariant.one

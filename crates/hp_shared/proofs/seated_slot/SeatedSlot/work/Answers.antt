@@ -1,10 +1,11 @@
+use Rattle.hp_history.specs.History.{front_of}
 use Rattle.std.proofs.Common.{◌≡◌, ◌==◌, true, Bool, None, List, [], ◌∷◌, sym, ap, ◌∙◌, subst}
 use Rattle.hp_history.specs.declared.held.Held.{Held}
 use Rattle.hp_history.specs.Sections.{IsEntered, free_slot, session_view}
 use Rattle.hp_model.proofs.Words.{told_reply}
 use Rattle.hp_laws.proofs.Variants.{SlotEntry}
 use Rattle.hp_events.specs.Event.{full_for, has_maps_for}
-use Rattle.hp_shared.specs.Seated.{IsSeatedEvent, SeatedView, first_of, run_in}
+use Rattle.hp_shared.specs.Seated.{IsSeatedEvent, SeatedView, run_in}
 use Rattle.hp_shared.specs.Slots.{IsSlotEvent}
 use Rattle.hp_shared.proofs.SeatedKept.{event_seated, full_as, held, one_free, seat_next, work_full_as}
 use Rattle.hp_shared.proofs.SlotsKept.{work_event}
@@ -18,7 +19,7 @@ module _ (g : Over) (c : After-leave g) where
 
   at_door : c.new-door.result.mine ≡ held c.self.inside.slot.number run c.args.mine.me.0 None
   at_door = ap (λ d. d.mine) c.new-door.ensures ∙ (ap (λ m. m.0) c.join.ensures.both
-      ∙ ap (λ h. h ∷ session_view c.args.mine.me.0 ∷ []) (ap (λ vs. free_slot (first_of vs)) c.self.invariant.one))
+      ∙ ap (λ h. h ∷ session_view c.args.mine.me.0 ∷ []) (ap (λ vs. free_slot (front_of vs)) c.self.invariant.one))
 
   entered : IsEntered g.T.Trail.keeps (held c.self.inside.slot.number run c.args.mine.me.0 None) c.work-told.new.door.asked c.into_mine-mine.result.0.me.0
   entered =
