@@ -630,7 +630,8 @@ def test_an_interrupt_while_it_starts(wait: float, tmp_path: Path) -> None:
     it asks does not answer."""
     file, slow = tmp_path / "host.toml", tmp_path / "slow"
     file.write_text(EXAMPLE)
-    slow.write_text("#!/bin/sh\nexec cat >/dev/null\n")
+    # (it answers nothing for as long as it lives: the tool, ended by the interrupt, kills it)
+    slow.write_text("#!/bin/sh\nexec sleep 60\n")
     slow.chmod(0o755)
     ran = subprocess.Popen(
         [sys.executable, TOOL, "plan", file],
