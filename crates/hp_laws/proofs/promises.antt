@@ -9,3 +9,4 @@ pub mod Answered
 pub mod Parents
 pub mod Listing
 pub mod Surplus
+pub mod InRuns

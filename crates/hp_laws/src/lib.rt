@@ -4,6 +4,7 @@
 ghost use Rattle.hp_laws.specs.Answers.{NamesAreListed};
 ghost use Rattle.hp_laws.specs.Closing.{PoolPlaces, ReceiptsAreFew, SlotPlaces, TablePlaces};
 ghost use Rattle.hp_laws.specs.Laws.{CountsAreSums, FootprintIsKept, JoinedLaw, LimitsHold, OwnerWrites, PoolIsTied, PromisesAreKept, RefusalsChangeNothing, ReservedAccess, RunsAreSettled, SlotsAreBalanced, SlotsStaySound, StartIsSettled, WhatFollows};
+ghost use Rattle.hp_laws.specs.Runs.{RunsArePromised};
 
 /// An access at an index that is reserved to its map is never refused for want of a huge page, whatever the pool answers.
 pub fn reserved_accesses_get_pages()
@@ -71,6 +72,12 @@ pub fn footprint_is_kept()
 /// step makes of it, an answered access has its page, what ends is gone, and no name or number stands twice.
 pub fn what_follows()
     ensures { WhatFollows }
+{}
+
+/// In every run of events of a settled machine, as the one run of all sessions is: after each event the counts are sums and each mount's
+/// minimum stays committed; no event takes a mount past its limit; each load and each read shows what its map or file has just then.
+pub fn runs_are_promised()
+    ensures { RunsArePromised }
 {}
 
 /// A list that joins trails which are runs of the table, the slots and the pool is a run of the

@@ -14,4 +14,5 @@ pub mod WorkedHeld
 pub mod WorkedFootprint
 pub mod WorkedOwnSteps
 pub mod WorkedOthers
+pub mod WorkedRuns
 pub mod Worked

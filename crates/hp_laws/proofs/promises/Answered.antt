@@ -67,7 +67,7 @@ module _ (s : State) (st : IsSettledState s) where
       → AnswersWhatWas s (Attach task) reply t
   home_told task o known reply t is = grind arith
 
-  slot_answers : (k : ℕ) (e : SlotEvent) (reply : Reply) (t : State) → IsEvent s (OnSlot k e) reply t → AnswersWhatWas s (slot_step k e) reply t
+  pub slot_answers : (k : ℕ) (e : SlotEvent) (reply : Reply) (t : State) → IsEvent s (OnSlot k e) reply t → AnswersWhatWas s (slot_step k e) reply t
   slot_answers k e (Err r) t is = tt
   slot_answers k slot.Df (Ok a) t is = slot_tells _ k slot.Df (Ok a) t (λ c. usage_told s.page_size k c (slot_at s k)) (λ x h. h) is
   slot_answers k slot.Ls (Ok a) t is = slot_tells _ k slot.Ls (Ok a) t (λ c. names_told s.page_size k c (slot_at s k)) (λ x h. h) is
