@@ -1,6 +1,6 @@
 -- What no event of a run may be, by computation: bytes that are no longer there, and a minimum without its pages.
-use Rattle.std.proofs.Common.{arith, ◌≡◌, ℕ, ◌+◌, ◌≤◌, Ok, [], ◌∷◌, ap, codes}
-use Rattle.hp_laws.proofs.Variants.{Answer, Bytes, Done, Event, Slot as OnSlot}
+use Rattle.std.proofs.Common.{arith, ◌≡◌, ℕ, ◌≤◌, Ok, [], ◌∷◌, ap, codes}
+use Rattle.hp_laws.proofs.Variants.{Answer, Bytes, Done, Slot as OnSlot}
 use Rattle.hp_model.specs.declared.event.SlotEvent.TheVariants.{Load, Read, Create}
 use Rattle.hp_model.proofs.Words.{State, plain_step}
 use Rattle.hp_laws.specs.Runs.{IsPromisedEvent}

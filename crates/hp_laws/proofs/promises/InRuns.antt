@@ -1,5 +1,5 @@
 -- Each event of a run is as promised.
-use Rattle.std.proofs.Common.{◌≡◌, ℕ, List, [], ◌∷◌}
+use Rattle.std.proofs.Common.{ℕ, [], ◌∷◌}
 use Rattle.hp_laws.proofs.Variants.{Event, Pool as OnPool, Slot as OnSlot, SlotEvent, Tasks}
 use Rattle.hp_model.specs.declared.event.SlotEvent.TheVariants as slot
 use Rattle.hp_model.proofs.Words.{IsEvent, IsSettledState, Reply, State}
