@@ -173,7 +173,7 @@ FORMS = {
     "preallocate": Form("S NAME A E", "gives each index of a range a page, or none if there are too few"),
     "read": Form("S NAME I O K", "reads bytes of a file; a hole reads as zeros", data),
     "ls": Form("S", "lists the files, the oldest first", text),
-    "stat": Form("S NAME", "prints length, pages, entered indices and maps", stat),
+    "stat": Form("S NAME", "prints a file's length, pages, entered indices and maps", stat),
     "map": Form("T S NAME A N shared|private [noreserve]", "maps N pages of a file from A on", number),
     "anon": Form(
         "T N shared|private [noreserve]", "makes a file without name in slot 0, and maps it whole", number
@@ -183,7 +183,7 @@ FORMS = {
     "load": Form("T S M I O K", "reads bytes through a map", data),
     "store": Form("T S M I O HEX", "writes bytes through a map"),
     "nr": Form("N", "sets the number of persistent pages", number),
-    "overcommit": Form("N", "sets the most surplus pages that may be made"),
+    "overcommit": Form("N", "limits the surplus pages that may be made"),
     "meminfo": Form("", "prints the pool's counts", meminfo),
     "nodes": Form("", "prints each node's counts", nodes),
     "df": Form("S", "prints limit, minimum, pages in use, limit of files, files", usage),
