@@ -158,7 +158,7 @@ class Form:
 
 FORMS = {
     "connect": Form("T H", "adds a task with its home node"),
-    "attach": Form("T", "finds a task", number),
+    "attach": Form("T", "prints a task's home node", number),
     "fork": Form("T C", "makes C a copy of T, with copies of its maps that own nothing"),
     "exit": Form("T", "ends a task and its maps"),
     "mount": Form(
@@ -167,26 +167,26 @@ FORMS = {
     "remount": Form("S OPTIONS", "sets a mount's limits anew; an option that is not given sets none"),
     "umount": Form("S", "ends a mount without maps"),
     "create": Form("S NAME", "makes an empty file"),
-    "unlink": Form("S NAME", "takes a file's name; its pages go with its last map"),
+    "unlink": Form("S NAME", "removes a file's name; the file's pages go with its last map"),
     "truncate": Form("S NAME N", "sets a file's length"),
     "punch": Form("S NAME A E", "gives the pages of a range back"),
-    "preallocate": Form("S NAME A E", "gives each index of a range its page, or none if there are too few"),
+    "preallocate": Form("S NAME A E", "gives each index of a range a page, or none if there are too few"),
     "read": Form("S NAME I O K", "reads bytes of a file; a hole reads as zeros", data),
-    "ls": Form("S", "names the files, the oldest first", text),
-    "stat": Form("S NAME", "tells length, pages there, entered indices and maps", stat),
+    "ls": Form("S", "lists the files, the oldest first", text),
+    "stat": Form("S NAME", "prints a file's length, pages, entered indices and maps", stat),
     "map": Form("T S NAME A N shared|private [noreserve]", "maps N pages of a file from A on", number),
     "anon": Form(
         "T N shared|private [noreserve]", "makes a file without name in slot 0, and maps it whole", number
     ),
     "unmap": Form("T S M A E", "unmaps a range"),
-    "fault": Form("T S M I read|write", "sees to it that there is a page"),
+    "fault": Form("T S M I read|write", "ensures that index I has a page"),
     "load": Form("T S M I O K", "reads bytes through a map", data),
     "store": Form("T S M I O HEX", "writes bytes through a map"),
-    "nr": Form("N", "sets the persistent pages of the pool", number),
-    "overcommit": Form("N", "sets how many surplus pages may be made"),
-    "meminfo": Form("", "tells the pool's numbers", meminfo),
-    "nodes": Form("", "tells each node's numbers", nodes),
-    "df": Form("S", "tells limit, minimum, pages in use, limit of files, files", usage),
+    "nr": Form("N", "sets the number of persistent pages", number),
+    "overcommit": Form("N", "limits the surplus pages that may be made"),
+    "meminfo": Form("", "prints the pool's counts", meminfo),
+    "nodes": Form("", "prints each node's counts", nodes),
+    "df": Form("S", "prints limit, minimum, pages in use, limit of files, files", usage),
 }
 VALUES = {command: form.value for command, form in FORMS.items()}
 
