@@ -163,6 +163,12 @@ ROWS = {
     "a fork beside maps of others": Row(
         lambda n: [*a_file(), *of_others(n)], lambda n: ["fork 1 9999", "exit 9999"], 128
     ),
+    "an exit of maps beside files": Row(
+        lambda n: [*a_file(), *maps(8), *files(n)], lambda n: ["fork 1 7", "exit 7"], 250
+    ),
+    "an exit of maps beside maps of others": Row(
+        lambda n: [*a_file(), *maps(20), *of_others(n)], lambda n: ["fork 1 9999", "exit 9999"], 512
+    ),
     "a fork and an exit of maps": Row(
         lambda n: [*a_file(), *maps(n)], lambda n: ["fork 1 7", "exit 7"], 128, turns=4, is_linear=True
     ),
