@@ -159,6 +159,16 @@ ROWS = {
         words=WIDE,
     ),
     "a fork of a map of a great number": Row(of_map, lambda n: ["fork 1 7", "exit 7"], 256),
+    "a fork beside files": Row(lambda n: [*a_file(), *files(n)], lambda n: ["fork 1 7", "exit 7"], 128),
+    "a fork beside maps of others": Row(
+        lambda n: [*a_file(), *of_others(n)], lambda n: ["fork 1 9999", "exit 9999"], 128
+    ),
+    "an exit of maps beside files": Row(
+        lambda n: [*a_file(), *maps(8), *files(n)], lambda n: ["fork 1 7", "exit 7"], 250
+    ),
+    "an exit of maps beside maps of others": Row(
+        lambda n: [*a_file(), *maps(20), *of_others(n)], lambda n: ["fork 1 9999", "exit 9999"], 512
+    ),
     "a fork and an exit of maps": Row(
         lambda n: [*a_file(), *maps(n)], lambda n: ["fork 1 7", "exit 7"], 128, turns=4, is_linear=True
     ),
@@ -173,15 +183,21 @@ ROWS = {
 
 # Rows that grow and should not, or by more than a step for each.
 GROW = {
-    "a fork beside maps of others": Row(
+    "a fork of a lesser number beside tasks": Row(
         lambda n: [*a_file(), *of_others(n)], lambda n: ["fork 1 7", "exit 7"], 128
-    ),
-    "a fork beside files": Row(lambda n: [*a_file(), *files(n)], lambda n: ["fork 1 7", "exit 7"], 128),
+    )
 }
 
 
 # Lines before, others before, what is counted behind each, and how many times the second may cost the first.
 PAIRS = {
+    "a fork beside 1,000 files": (a_file(), [*a_file(), *files(1000)], ["fork 1 7", "exit 7"], 1.1),
+    "a fork beside 2,000 maps of others": (
+        a_file(),
+        [*a_file(), *of_others(2000)],
+        ["fork 1 9999", "exit 9999"],
+        1.4,
+    ),
     "a fork of a map numbered 4,095": (of_map(1), of_map(4095), ["fork 1 7", "exit 7"], 1.1),
     "a refused map beside 4,095 maps": (
         [*a_file(), *maps(0)],

@@ -6,3 +6,4 @@ pub mod FileList
 pub mod Lends
 pub mod HeldPages
 pub mod Leaving
+pub mod ForkLists

@@ -12,7 +12,7 @@ mod leaving;
 pub use dropping::drop_holder;
 pub use file::{CellState, File, word_end};
 pub use file_list::FileList;
-pub use fork_lists::{children, join_all, retain_some_used, room_for};
+pub use fork_lists::{FileMaps, children, join_all, retain_some_used, room_for};
 pub use forking::copies_of;
 pub use held_pages::HeldPages;
 pub use leaving::{drop_maps_of, drop_some_maps_of, sweep_file};

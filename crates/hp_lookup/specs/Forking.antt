@@ -38,64 +38,47 @@ abbrev pub with_children : (parent child : ℕ) → NumberedFile → NumberedFil
 with_children parent child f = record f { maps = f.maps ++ children_of parent child f.maps }
 
 -- the file with a list of maps behind its own
-abbrev pub with_list : NumberedFile → Vec (Mapping ℕ) → NumberedFile
-with_list f list = record f { maps = f.maps ++ list.items }
+abbrev pub with_list : NumberedFile → List (Mapping ℕ) → NumberedFile
+with_list f list = record f { maps = f.maps ++ list }
 
 -- each file with its list, as far as there are lists
-abbrev pub joined : List NumberedFile → List (Vec (Mapping ℕ)) → List NumberedFile
+abbrev pub joined : List NumberedFile → List (List (Mapping ℕ)) → List NumberedFile
 joined [] vs = []
 joined (f ∷ fs) [] = f ∷ fs
 joined (f ∷ fs) (v ∷ vs) = with_list f v ∷ joined fs vs
 
 -- the files, of which the one at a place got a list
-abbrev pub joined_at : ℕ → Vec (Mapping ℕ) → List NumberedFile → List NumberedFile
+abbrev pub joined_at : ℕ → List (Mapping ℕ) → List NumberedFile → List NumberedFile
 joined_at at list fs = slice_set fs at (with_list (numbered_at fs at) list)
 
 -- a list that has maps has room for its file's
 abbrev pub HasRoom : NumberedFile → Vec (Mapping ℕ) → Type 0
 HasRoom f list = 0 < length list.items → length list.items + length f.maps ≤ vec_capacity list
 
-abbrev pub HaveRoom : List NumberedFile → List (Vec (Mapping ℕ)) → Type 0
-HaveRoom [] [] = Unit {0}
-HaveRoom [] (v ∷ vs) = ⊥
-HaveRoom (f ∷ fs) [] = Unit {0}
-HaveRoom (f ∷ fs) (v ∷ vs) = HasRoom f v × HaveRoom fs vs
-
 -- a list of the child's maps of a file, with room for all its maps
 pub record IsReady (parent child : ℕ) (f : NumberedFile) (list : Vec (Mapping ℕ)) : Type 0 where
   pub children : list.items ≡ children_of parent child f.maps
   pub room : HasRoom f list
 
--- files have such lists, and those behind the last list no map of the parent
-abbrev pub AreReady : (parent child : ℕ) → List NumberedFile → List (Vec (Mapping ℕ)) → Type 0
+-- each list is the child's maps of its file, and the files behind the last list have no map of the parent
+abbrev pub AreReady : (parent child : ℕ) → List NumberedFile → List (List (Mapping ℕ)) → Type 0
 AreReady parent child [] [] = Unit {0}
 AreReady parent child [] (v ∷ vs) = ⊥
 AreReady parent child (f ∷ fs) [] = (children_of parent child f.maps ≡ []) × AreReady parent child fs []
-AreReady parent child (f ∷ fs) (v ∷ vs) = IsReady parent child f v × AreReady parent child fs vs
-
--- a list that has maps is its file's
-abbrev pub AreFilled : (parent child : ℕ) → List NumberedFile → List (Vec (Mapping ℕ)) → Type 0
-AreFilled parent child [] [] = Unit {0}
-AreFilled parent child [] (v ∷ vs) = ⊥
-AreFilled parent child (f ∷ fs) [] = Unit {0}
-AreFilled parent child (f ∷ fs) (v ∷ vs) = (0 < length v.items → IsReady parent child f v) × AreFilled parent child fs vs
-
--- how many maps a list has
-abbrev pub list_length : Vec (Mapping ℕ) → ℕ
-list_length list = length list.items
+AreReady parent child (f ∷ fs) (v ∷ vs) = (v ≡ children_of parent child f.maps) × AreReady parent child fs vs
 
 -- at how many places of lists a number stands, and how many copies they have
-abbrev pub in_list : ℕ → Vec (Mapping ℕ) → ℕ
-in_list n list = sum_by (in_map n) list.items
+abbrev pub in_list : ℕ → List (Mapping ℕ) → ℕ
+in_list n list = sum_by (in_map n) list
 
-abbrev pub in_lists : ℕ → List (Vec (Mapping ℕ)) → ℕ
+abbrev pub in_lists : ℕ → List (List (Mapping ℕ)) → ℕ
 in_lists n lists = sum_by (in_list n) lists
 
-abbrev pub list_copies : Vec (Mapping ℕ) → ℕ
-list_copies list = sum_by copies_in list.items
+abbrev pub list_copies : List (Mapping ℕ) → ℕ
+list_copies list = sum_by copies_in list
 
 -- files got the maps of their lists, and each of their copies has a holder more
-pub record HaveJoined (lists : List (Vec (Mapping ℕ))) (files grown : List NumberedFile) (store now : Store) (more later : ℕ) : Type 0 where
+pub record HaveJoined (lists : List (List (Mapping ℕ))) (files grown : List NumberedFile) (store now : Store) (more later : ℕ) : Type 0 where
   pub files_are : grown ≡ joined files lists
   pub sharing : IsSharing (λ n. in_lists n lists) store now
   pub counted : later ≡ more_in now.pages

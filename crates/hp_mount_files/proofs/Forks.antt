@@ -1,19 +1,22 @@
 use Rattle.std.proofs.lemmas.Grind.{common_steps}
 -- A fork as code leaves the files: maps of the child's number gone, and then the child's maps behind their parent's.
-use Rattle.std.proofs.Common.{◌≡◌, ℕ, suc, ◌+◌, ◌-◌, ◌<◌, ◌≤◌, ◌^◌, ◌==◌, ◌||◌, nat_lt, Bool, true, false, not, cond, None, max, replicate, List, [], ◌∷◌, ◌++◌, length, map, refl, sym, ap, subst, ◌∙◌}
+use Rattle.std.proofs.Common.{◌≡◌, ℕ, suc, zero, ◌+◌, ◌-◌, ◌<◌, ◌≤◌, ◌^◌, ◌==◌, ◌||◌, nat_lt, Bool, true, false}
+use Rattle.std.proofs.Common.{not, cond, None, max, replicate, List, [], ◌∷◌, ◌++◌, length, map, refl, sym, ap, subst, ◌∙◌}
 use Rattle.std.proofs.Common.{arith, is_some, All, filter, sum_by}
-use Rattle.std.specs.Global.{Vec}
 use Rattle.std.proofs.lemmas.Bool.Decides.{nat_tests}
 use Rattle.std.proofs.lemmas.List.{append-nil, length-map}
 use Rattle.std.proofs.lemmas.List.Sums.{length-filter, sum_by-cons}
 use Rattle.hp_model.proofs.Words.{File, Map, Mapping, file_forked, file_without, is_among, is_kept, is_of, map_for, map_punched}
 use Rattle.hp_model.proofs.Counting.{count_not}
 use Rattle.hp_store.specs.Store.{Store, held_count, page_at}
-use Rattle.hp_lookup.proofs.Words.{AreReady, AreSame, Files, HaveJoined, HaveMapsLeft, HaveRoom, IsCopied, IsFiles, IsKeyed, IsLeft, IsMoreButMapsOf, IsSharing, Label, Noted, NumberedFile}
+use Rattle.hp_lookup.proofs.Words.{AreReady, AreSame, Files, HaveJoined, HaveMapsLeft, IsCopied, IsFiles, IsKeyed, IsLeft, IsMoreButMapsOf, IsSharing, Label, Noted, NumberedFile}
 use Rattle.hp_lookup.proofs.Words.{all_maps, children_of}
-use Rattle.hp_lookup.proofs.Words.{count_at, emptied, files_shown, has_key, in_list, in_lists, in_map, is_listed, is_used, joined, keys_in, label_of, labels_of, left_by, list_copies, map_sum, maps_by}
+use Rattle.hp_lookup.proofs.Words.{count_at, emptied, files_shown, has_key, in_list, in_lists, in_map, is_listed, is_used}
+use Rattle.hp_lookup.proofs.Words.{joined, keys_in, label_of, labels_of, left_by, list_copies, map_sum, maps_by, numbered_at}
 use Rattle.hp_lookup.proofs.Words.{noted_numbers, tally_of, with_children, with_truncated}
+use Rattle.hp_file.specs.ForkLists.{AreFit}
 use Rattle.hp_file.specs.HeldPages.{AreHeld}
+use Rattle.hp_file.specs.declared.fork_lists.FileMaps.{FileMaps}
 use Rattle.hp_file.proofs.Entering.{room_keeps, room_view}
 use Rattle.hp_mount_files.proofs.Exiting.{exit_files, exit_keeps, exit_keys, exit_left, keys_gone}
 use Rattle.hp_file.proofs.FileLeaves.{empty_file}
@@ -137,30 +140,38 @@ module _ (parent child : ℕ) (apart : (parent == child) ≡ false) where
             (let short = ap length none in omega (arith, short)),
           )
 
-  ready_ended : (fs : List NumberedFile) (lists : List (Vec (Mapping ℕ))) → AreReady parent child fs lists → AreReady parent child (map (λ f. emptied (left_by child f)) fs) lists
+  ready_ended : (fs : List NumberedFile) (lists : List (List (Mapping ℕ))) → AreReady parent child fs lists → AreReady parent child (map (λ f. emptied (left_by child f)) fs) lists
   ready_ended [] [] all = tt
   ready_ended [] (v ∷ vs) all = absurd all
   ready_ended (f ∷ fs) [] all = ((ended_children f).0 ∙ all.0, ready_ended fs [] all.1)
   ready_ended (f ∷ fs) (v ∷ vs) all =
-      let same = ended_children f in (
-        record { children = all.0.children ∙ sym same.0; room = λ some. (let room = all.0.room some in let few = same.1 in omega (arith, room, few)) },
-        ready_ended fs vs all.1,
+      (all.0 ∙ sym (ended_children f).0, ready_ended fs vs all.1)
+
+  ended_few : (fs : List NumberedFile) (k : ℕ) → length (numbered_at (map (λ f. emptied (left_by child f)) fs) k).maps ≤ length (numbered_at fs k).maps
+  ended_few [] k = omega arith
+  ended_few (f ∷ fs) zero = (ended_children f).1
+  ended_few (f ∷ fs) (suc k) = ended_few fs k
+
+  fit_ended : (n : ℕ) (fs : List NumberedFile) (xs : List FileMaps) → AreFit n fs xs → AreFit n (map (λ f. emptied (left_by child f)) fs) xs
+  fit_ended n fs [] fit = tt
+  fit_ended n fs (x ∷ xs) fit =
+      let few = ended_few fs x.file in
+      let long = length-map fs (λ (f : NumberedFile). emptied (left_by child f)) in
+      let within = fit.1 in (
+        fit.0,
+        omega (arith, long, within),
+        λ some. (let room = fit.2 some in omega (arith, room, few)),
+        fit_ended (x.file + 1) fs xs fit.3,
       )
 
-  ready_room : (fs : List NumberedFile) (lists : List (Vec (Mapping ℕ))) → AreReady parent child fs lists → HaveRoom fs lists
-  ready_room [] [] all = tt
-  ready_room [] (v ∷ vs) all = absurd all
-  ready_room (f ∷ fs) [] all = tt
-  ready_room (f ∷ fs) (v ∷ vs) all = (all.0.room, ready_room fs vs all.1)
-
-  ready_joined : (fs : List NumberedFile) (lists : List (Vec (Mapping ℕ))) → AreReady parent child fs lists → joined fs lists ≡ map (λ f. with_children parent child f) fs
+  ready_joined : (fs : List NumberedFile) (lists : List (List (Mapping ℕ))) → AreReady parent child fs lists → joined fs lists ≡ map (λ f. with_children parent child f) fs
   ready_joined [] lists all = refl
   ready_joined (f ∷ fs) [] all =
       let same : with_children parent child f ≡ f = ap (λ ms. record f { maps = f.maps ++ ms }) all.0 ∙ ap (λ ms. record f { maps = ms }) (append-nil f.maps) in
       ap (λ g. g ∷ fs) (sym same) ∙ ap (λ gs. with_children parent child f ∷ gs) (sym (none_joined fs) ∙ ready_joined fs [] all.1)
-  ready_joined (f ∷ fs) (v ∷ vs) all = ap (λ ms. record f { maps = f.maps ++ ms } ∷ joined fs vs) all.0.children ∙ ap (λ gs. with_children parent child f ∷ gs) (ready_joined fs vs all.1)
+  ready_joined (f ∷ fs) (v ∷ vs) all = ap (λ ms. record f { maps = f.maps ++ ms } ∷ joined fs vs) all.0 ∙ ap (λ gs. with_children parent child f ∷ gs) (ready_joined fs vs all.1)
 
-  ready_in : (n : ℕ) (fs : List NumberedFile) (lists : List (Vec (Mapping ℕ))) → AreReady parent child fs lists → in_lists n lists ≡ in_kids parent child apart n fs
+  ready_in : (n : ℕ) (fs : List NumberedFile) (lists : List (List (Mapping ℕ))) → AreReady parent child fs lists → in_lists n lists ≡ in_kids parent child apart n fs
   ready_in n [] [] all = refl
   ready_in n [] (v ∷ vs) all = absurd all
   ready_in n (f ∷ fs) [] all =
@@ -168,7 +179,7 @@ module _ (parent child : ℕ) (apart : (parent == child) ≡ false) where
       let rest = ready_in n fs [] all.1 in
       omega (arith, here, rest, sum_by-cons (λ (f : NumberedFile). sum_by (in_map n) (children_of parent child f.maps)) f fs)
   ready_in n (f ∷ fs) (v ∷ vs) all =
-      let here = ap (sum_by (in_map n)) all.0.children in
+      let here = ap (sum_by (in_map n)) all.0 in
       let rest = ready_in n fs vs all.1 in
       omega (arith, here, rest, sum_by-cons (in_list n) v vs, sum_by-cons (λ (f : NumberedFile). sum_by (in_map n) (children_of parent child f.maps)) f fs)
 
@@ -201,7 +212,7 @@ module _ (parent child : ℕ) (apart : (parent == child) ≡ false) where
 -- ---- lists are ready and room is made
 
 -- what a fork goes on from, where the files showed as `v`
-pub record IsSet (parent child held : ℕ) (v : Files) (n : Noted) (s : Store) (more maps : ℕ) (tally : ℕ → ℕ) (fs : List NumberedFile) (lists : List (Vec (Mapping ℕ))) : Type 0 where
+pub record IsSet (parent child held : ℕ) (v : Files) (n : Noted) (s : Store) (more maps : ℕ) (tally : ℕ → ℕ) (fs : List NumberedFile) (lists : List (List (Mapping ℕ))) : Type 0 where
   pub is : IsFiles n s more maps tally fs
   pub ready : AreReady parent child fs lists
   pub room : held + more + sum_by list_copies lists ≤ s.room
@@ -209,7 +220,7 @@ pub record IsSet (parent child held : ℕ) (v : Files) (n : Noted) (s : Store) (
   pub shown : record (view s more fs) { room = held } ≡ record v { room = held }
 
 pub set_out : {parent child held all maps : ℕ} {v : Files} {old n : Noted} {s t : Store} {more : ℕ} {tally : ℕ → ℕ} {fs : List NumberedFile}
-    {lists counted : List (Vec (Mapping ℕ))} → IsFiles old s more maps tally fs → view s more fs ≡ v → AreSame old n
+    {lists counted : List (List (Mapping ℕ))} → IsFiles old s more maps tally fs → view s more fs ≡ v → AreSame old n
     → AreReady parent child fs lists → counted ≡ lists → (all < 2 ^ 64 - 1 → all ≡ held + more + sum_by list_copies counted) → held_count s.pages + all ≤ 2 ^ 32
     → t ≡ record s { pages = t.pages; room = max s.room all } → t.pages ≡ s.pages ++ replicate (length t.pages - length s.pages) None → ((m : ℕ) → page_at t m ≡ page_at s m)
     → IsSet parent child held v n t more maps tally fs lists
@@ -248,7 +259,7 @@ counts_copied {first} {n} {dropped} {table} {copy} parent child same gone copied
 -- ---- the maps of the child's number are gone
 
 module _ {n dropped : Noted} {s t : Store} {more now maps held : ℕ} {tally : ℕ → ℕ} {fs ended : List NumberedFile} {parent child r k : ℕ}
-    {lists : List (Vec (Mapping ℕ))} {v : Files} (set : IsSet parent child held v n s more maps tally fs lists)
+    {lists : List (List (Mapping ℕ))} {v : Files} (set : IsSet parent child held v n s more maps tally fs lists)
     (apart : (parent == child) ≡ false) (went : HaveMapsLeft child fs ended s t now k r) (gone : IsMoreButMapsOf child n dropped) where
   ended_is : ended ≡ map (λ f. emptied (left_by child f)) fs
   ended_is = went.left
@@ -265,8 +276,8 @@ module _ {n dropped : Noted} {s t : Store} {more now maps held : ℕ} {tally : �
   lists_in : (m : ℕ) → in_lists m lists ≡ in_kids parent child apart m K
   lists_in m = ready_in parent child apart m ended lists ready_now ∙ sym (used_in parent child apart m ended)
 
-  pub join_room : HaveRoom ended lists
-  join_room = ready_room parent child apart ended lists ready_now
+  pub join_room : (xs : List FileMaps) → AreFit 0 fs xs → AreFit 0 ended xs
+  join_room xs fit = subst (λ gs. AreFit 0 gs xs) (sym ended_is) (fit_ended parent child apart 0 fs xs fit)
 
   pub join_held : {N : Type 0} → AreHeld {N = N} (λ m. in_lists m lists) (record { store = t; more = now })
   join_held = record {

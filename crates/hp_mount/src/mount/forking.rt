@@ -44,7 +44,7 @@ impl<N: Naming> Mount<N> {
     /// - TooMany: after it there are more than 4,096 maps, or maps of more than 4,096 tasks (profile).
     /// - OutOfMemory: memory for the child's maps is refused.
     ///
-    /// It takes a step for each place of the parent's maps, and for each file and map.
+    /// It takes a step for each place of the parent's maps.
     pub fn fork_maps<D: PoolDoor<N>>(
         &mut self,
         door: &mut D,

@@ -10,7 +10,9 @@ ghost use Rattle.hp_model.specs.files.MountCounts.{file_reserves};
 ghost use Rattle.hp_model.specs.Profile.{most_maps};
 
 use super::Files;
+use crate::lookup::Lookup;
 use hp_file::{children, drop_some_maps_of, join_all, retain_some_used, room_for};
+use hp_lookup::MapPlace;
 use hp_model::naming::Naming;
 use std::alloc::AllocError;
 
@@ -22,12 +24,27 @@ impl<N: Naming> Files<N> {
         self.hints.count(task)
     }
 
+    // Where the maps of a task stand, in order of these places.
+    fn places_of(&self, task: u64) -> Result<Vec<MapPlace>, AllocError> {
+        let count = self.hints.count(task) as usize;
+        let mut places = Vec::with_capacity(self.alloc, count)?;
+        for map in 0..count {
+            if let Some(number) = self.hints.nth(task, map) {
+                if let Some(at) = self.find(task, number) {
+                    places.push(at)?;
+                }
+            }
+        }
+        places.sort_unstable();
+        Ok(places)
+    }
+
     /// A child gets a map for each of its parent's: the same number, range, copies and mark; it owns nothing. Maps that
     /// stand under the child's number go first, as by `exit`. Answers how many reservations went with them. Afterwards there
     /// is room for `held` pages, beside those for copies that several maps hold.
     ///
     /// Refused where memory is, before anything else changes but the room. It takes a step for each place of the parent's
-    /// maps, for each map of their files, and for each file; but a file without any of them is not looked at.
+    /// maps. Where maps stand under the child's number, it takes one for each file and map of the slot.
     pub fn fork(&mut self, parent: u64, child: u64, held: u64) -> Result<u64, AllocError>
         requires apart { (parent == child) ≡ false }
         requires few { sum_by file_reserves self.old.files < 2 ^ 64 }
@@ -42,9 +59,10 @@ impl<N: Naming> Files<N> {
         ensures more { OnErr result (self.old.room ≤ self.new.room) }
     {
         let count = self.hints.count(parent);
+        let places = self.places_of(parent)?;
         let lists = children(
             &self.list,
-            &self.hints,
+            &places,
             self.alloc,
             &mut self.tags,
             parent,

@@ -13,8 +13,14 @@ use hp_file::{drop_maps_of, sweep_file};
 use hp_lookup::MapPlace;
 use hp_model::naming::Naming;
 
-// So many maps of a task go one by one. Where it has more, the files are gone over once.
-const FEW_MAPS: u64 = 8;
+// A map that moves takes one step; a map that goes alone takes so many more.
+const ALONE: usize = 256;
+
+// A map that is gone over takes so many, and a file twice as many.
+const LOOKED_AT: usize = 4;
+
+// So many steps may go to maps that go alone, beside those that going over all would take.
+const FEW: usize = 2 * ALONE;
 
 impl<N: Naming> Files<N> {
     /// The least number of a task that has a map, if there is a map. It takes a step for each file and map.
@@ -46,8 +52,9 @@ impl<N: Naming> Files<N> {
         gone.reserves
     }
 
-    // The task's map of that number goes, if there is one. What the task leaves behind in the end is the same.
-    fn exit_map(&mut self, task: u64, number: u64) -> u64
+    // The task's map of that number goes, if there is one, where so many steps suffice. What the task leaves behind in the end is the
+    // same.
+    fn exit_map(&mut self, task: u64, number: u64, steps: usize) -> u64
         requires { sum_by file_reserves self.old.files < 2 ^ 64 }
         ensures files { filter is_kept (map (file_without task) self.new.files)
             ≡ filter is_kept (map (file_without task) self.old.files) }
@@ -56,7 +63,12 @@ impl<N: Naming> Files<N> {
         let Some(at) = self.find(task, number) else {
             return 0;
         };
-        let map = self.list[at.file].map(at.map);
+        let file = &self.list[at.file];
+        let behind = file.map_count().saturating_sub(at.map);
+        if behind.saturating_add(ALONE) > steps {
+            return 0;
+        }
+        let map = file.map(at.map);
         let start = map.start();
         let end = map.end();
         self.unmap(at, task, number, start, end)
@@ -64,19 +76,26 @@ impl<N: Naming> Files<N> {
 
     /// All maps of a task go, with their private copies and what their owners have not consumed. Files that are left
     /// without name and maps go, with their pages and entries, and the others move down. Answers how many reservations
-    /// went. It takes a step for each index that the maps had, and for each page that went. A few maps go one by
-    /// one, the last number first. More go by a step for each file and map of the slot. It takes no memory.
+    /// went. It takes a step for each index that the maps had, and for each page that went, and one for each map that
+    /// moves; but no more than a few for each file and map of the slot. It takes no memory.
     pub fn exit(&mut self, task: u64) -> u64
         requires { sum_by file_reserves self.old.files < 2 ^ 64 }
         ensures files { self.new.files ≡ filter is_kept (map (file_without task) self.old.files) }
         ensures left { IsLeft result self.old self.new }
     {
         let mut reserves = 0;
-        let count = self.hints.count(task);
-        let few = if count > FEW_MAPS { 0 } else { count };
-        for map in (0..few as usize).rev() {
+        let count = self.hints.count(task) as usize;
+        let files = self.list.len();
+        let all = (self.maps as usize)
+            .saturating_add(files)
+            .saturating_add(files);
+        let steps = all.saturating_mul(LOOKED_AT).saturating_add(FEW);
+        for map in (0..count).rev() {
             if let Some(number) = self.hints.nth(task, map) {
-                reserves += self.exit_map(task, number);
+                reserves += self.exit_map(task, number, steps / count);
+            }
+            if self.hints.count(task) as usize > map {
+                break;
             }
         }
         reserves + self.exit_among_all(task)

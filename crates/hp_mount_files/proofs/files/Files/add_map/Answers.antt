@@ -10,7 +10,6 @@ use Rattle.hp_lookup.proofs.Mapped.{map_files, map_view}
 use Rattle.hp_lookup.proofs.NewKey.{maps_few}
 use Rattle.hp_lookup.proofs.MapNumbers.{unused_is_new}
 use Rattle.hp_lookup.proofs.Views.{files_len}
-use Rattle.hp_mount_files.proofs.files.Files.add_map.Given.{Over}
 use Rattle.hp_mount_files.proofs.Here.{file_inside}
 use Rattle.hp_mount_files.proofs.files.Files.add_map.Goals as goal
 

@@ -4,6 +4,7 @@ use Rattle.hp_lookup.proofs.Words.{IsFiles, noted_numbers, tally_of}
 use Rattle.hp_mount_files.proofs.Exiting.{maps_in}
 use Rattle.hp_mount_files.proofs.Forks.{all_used, counts_copied, files_as, forked_few, forked_keeps, forked_left, forked_shows, join_few, join_held, join_room, keys_copied, set_out}
 use Rattle.hp_mount_files.proofs.Here.{all_held}
+use Rattle.hp_file.specs.ForkLists.{spread}
 use Rattle.hp_lookup.proofs.Keys.{files_same_noted}
 use Rattle.hp_lookup.proofs.Leaving.{files_owe}
 use Rattle.hp_lookup.proofs.Tallies.{maps_labelled}
@@ -29,15 +30,15 @@ drop_some_maps_of-gone-requires-clause-few g c = grind (arith, common_steps, fil
 pub drop_some_maps_of-gone-requires-clause-few_maps : goal.drop_some_maps_of-gone-requires-clause-few_maps
 drop_some_maps_of-gone-requires-clause-few_maps g c = grind (arith, common_steps, maps_in)
 
-pub join_all-requires-clause-room : goal.join_all-requires-clause-room
-join_all-requires-clause-room g c =
-    let set = set_out c.self.invariant c.self.view_is c.make_room.ensures.same c.in_ok-lists.ensures c.deref.ensures.value c.room_for-room.ensures
+pub join_all-requires-clause-fit : goal.join_all-requires-clause-fit
+join_all-requires-clause-fit g c =
+    let set = set_out c.self.invariant c.self.view_is c.make_room.ensures.same c.in_ok-lists.ensures.ready (ap spread c.deref-2.ensures.value) c.room_for-room.ensures
     c.in_ok-make_room-2.ensures.few c.in_ok-make_room-2.ensures.ok c.in_ok-make_room-2.ensures.pages c.make_room-2.ensures.same in
-    join_room set c.requires.apart c.drop_some_maps_of-gone.ensures c.forget_maps_of.ensures
+    join_room set c.requires.apart c.drop_some_maps_of-gone.ensures c.forget_maps_of.ensures _ c.in_ok-lists.ensures.fit
 
 pub join_all-requires-clause-held : goal.join_all-requires-clause-held
 join_all-requires-clause-held g c =
-    let set = set_out c.self.invariant c.self.view_is c.make_room.ensures.same c.in_ok-lists.ensures c.deref.ensures.value c.room_for-room.ensures
+    let set = set_out c.self.invariant c.self.view_is c.make_room.ensures.same c.in_ok-lists.ensures.ready (ap spread c.deref-2.ensures.value) c.room_for-room.ensures
     c.in_ok-make_room-2.ensures.few c.in_ok-make_room-2.ensures.ok c.in_ok-make_room-2.ensures.pages c.make_room-2.ensures.same in
     join_held set c.requires.apart c.drop_some_maps_of-gone.ensures c.forget_maps_of.ensures
 
@@ -46,7 +47,7 @@ join_all-requires-clause-few g c = grind (arith, common_steps, join_few, set_out
 
 pub retain_some_used-requires : goal.retain_some_used-requires
 retain_some_used-requires g c =
-    let set = set_out c.self.invariant c.self.view_is c.make_room.ensures.same c.in_ok-lists.ensures c.deref.ensures.value c.room_for-room.ensures
+    let set = set_out c.self.invariant c.self.view_is c.make_room.ensures.same c.in_ok-lists.ensures.ready (ap spread c.deref-2.ensures.value) c.room_for-room.ensures
     c.in_ok-make_room-2.ensures.few c.in_ok-make_room-2.ensures.ok c.in_ok-make_room-2.ensures.pages c.make_room-2.ensures.same in
     all_used set c.requires.apart c.drop_some_maps_of-gone.ensures c.forget_maps_of.ensures c.join_all.ensures.joined
 
@@ -55,14 +56,14 @@ overflow_sub-self g c = grind (arith, common_steps, maps_in)
 
 pub overflow_add-self : goal.overflow_add-self
 overflow_add-self g c =
-    let set = set_out c.self.invariant c.self.view_is c.make_room.ensures.same c.in_ok-lists.ensures c.deref.ensures.value c.room_for-room.ensures
+    let set = set_out c.self.invariant c.self.view_is c.make_room.ensures.same c.in_ok-lists.ensures.ready (ap spread c.deref-2.ensures.value) c.room_for-room.ensures
     c.in_ok-make_room-2.ensures.few c.in_ok-make_room-2.ensures.ok c.in_ok-make_room-2.ensures.pages c.make_room-2.ensures.same in
     let all = forked_few set c.requires.apart c.drop_some_maps_of-gone.ensures c.forget_maps_of.ensures c.join_all.ensures.joined c.retain_some_used.ensures in
     omega (arith, all, c.count-count.ensures, c.requires.maps)
 
 pub invariant_of-self-2 : goal.invariant_of-self-2
 invariant_of-self-2 g c =
-    let set = set_out c.self.invariant c.self.view_is c.make_room.ensures.same c.in_ok-lists.ensures c.deref.ensures.value c.room_for-room.ensures
+    let set = set_out c.self.invariant c.self.view_is c.make_room.ensures.same c.in_ok-lists.ensures.ready (ap spread c.deref-2.ensures.value) c.room_for-room.ensures
     c.in_ok-make_room-2.ensures.few c.in_ok-make_room-2.ensures.ok c.in_ok-make_room-2.ensures.pages c.make_room-2.ensures.same in
     let total = ap (λ n. c.self.inside.maps - c.drop_some_maps_of-gone.result.maps + n) c.count-count.ensures in
     files_as _ _ _ _ _ _ _ _ refl total
@@ -72,13 +73,13 @@ invariant_of-self-2 g c =
 
 pub returns-clause-files : goal.returns-clause-files
 returns-clause-files g c =
-    let set = set_out c.self.invariant c.self.view_is c.make_room.ensures.same c.in_ok-lists.ensures c.deref.ensures.value c.room_for-room.ensures
+    let set = set_out c.self.invariant c.self.view_is c.make_room.ensures.same c.in_ok-lists.ensures.ready (ap spread c.deref-2.ensures.value) c.room_for-room.ensures
     c.in_ok-make_room-2.ensures.few c.in_ok-make_room-2.ensures.ok c.in_ok-make_room-2.ensures.pages c.make_room-2.ensures.same in
     forked_shows set c.requires.apart c.drop_some_maps_of-gone.ensures c.forget_maps_of.ensures c.join_all.ensures.joined c.retain_some_used.ensures
 
 pub returns-clause-left : goal.returns-clause-left
 returns-clause-left g c =
-    let set = set_out c.self.invariant c.self.view_is c.make_room.ensures.same c.in_ok-lists.ensures c.deref.ensures.value c.room_for-room.ensures
+    let set = set_out c.self.invariant c.self.view_is c.make_room.ensures.same c.in_ok-lists.ensures.ready (ap spread c.deref-2.ensures.value) c.room_for-room.ensures
     c.in_ok-make_room-2.ensures.few c.in_ok-make_room-2.ensures.ok c.in_ok-make_room-2.ensures.pages c.make_room-2.ensures.same in
     forked_left set c.requires.apart c.drop_some_maps_of-gone.ensures c.forget_maps_of.ensures c.join_all.ensures.joined c.retain_some_used.ensures
 
