@@ -34,6 +34,4 @@ mod stress;
 #[cfg(test)]
 mod talking;
 #[cfg(test)]
-mod whole;
-#[cfg(test)]
 mod works;

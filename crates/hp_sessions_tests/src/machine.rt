@@ -51,9 +51,6 @@ pub trait Tested: Machine + Locks {
     /// A session that asks for steps.
     fn steps<R: Wait + Abort, S: Script>(&self, rt: &R, script: S) -> Self::Told;
 
-    /// Three sessions that are open at once: the last to open ends first.
-    fn three<R: Wait + Abort>(&self, rt: &R) -> (Self::Told, Self::Told, Self::Told);
-
     /// Holds the lock of the place that is watched, watches, and lets it go.
     fn watched<R: Wait + Clock>(&self, rt: &R, watch: &Watch<'_>) -> Seen;
 
@@ -62,24 +59,6 @@ pub trait Tested: Machine + Locks {
 
     /// Takes the machine apart.
     fn apart(self) -> Apart;
-}
-
-fn opened<'a, N: Naming + Places, R: Wait + Abort, G: Gate, const K: usize>(
-    rt: &'a R,
-    shared: &'a Shared<N, K>,
-    gate: &'a G,
-    room: usize,
-) -> Session<Entrance<'a, N, R, G, K>> {
-    let entrance = Entrance::open(rt, shared, gate, room, Rest::begin());
-    Session::open(entrance.ok().expect(rt, "out of memory"))
-}
-
-// What a session left that is over.
-fn left<N: Naming + Places, R: Wait, G: Gate, const K: usize>(
-    session: Session<Entrance<'_, N, R, G, K>>,
-) -> Finished<N, K> {
-    let (finished, _rest) = session.finish().into_finished();
-    finished
 }
 
 fn watched_at<T: Ordered, R: Wait + Clock, L: Locks>(
@@ -121,17 +100,11 @@ impl<N: Naming + Places, G: Gate + Drop, const K: usize> Locks for Served<N, G, 
 
 impl<N: Naming + Places + Send + Sync, G: Gate + Drop, const K: usize> Tested for Served<N, G, K> {
     fn steps<R: Wait + Abort, S: Script>(&self, rt: &R, script: S) -> Finished<N, K> {
-        let mut session = opened(rt, &self.shared, &self.gate, self.room);
+        let entrance = Entrance::open(rt, &self.shared, &self.gate, self.room, Rest::begin());
+        let mut session = Session::open(entrance.ok().expect(rt, "out of memory"));
         script.run(rt, &mut session);
-        left(session)
-    }
-
-    fn three<R: Wait + Abort>(&self, rt: &R) -> (Finished<N, K>, Finished<N, K>, Finished<N, K>) {
-        let first = opened(rt, &self.shared, &self.gate, self.room);
-        let second = opened(rt, &self.shared, &self.gate, self.room);
-        let third = left(opened(rt, &self.shared, &self.gate, self.room));
-        let first = left(first);
-        (first, left(second), third)
+        let (finished, _rest) = session.finish().into_finished();
+        finished
     }
 
     fn watched<R: Wait + Clock>(&self, rt: &R, watch: &Watch<'_>) -> Seen {

@@ -14,7 +14,6 @@ use crate::rows::HeldAt;
 use crate::same::same;
 use crate::sources::failed;
 use crate::stress::eight;
-use crate::whole::three;
 use hp_history::{Opened, Places, Shape};
 use hp_model::naming::Naming;
 use hp_pool::Blanks;
@@ -112,7 +111,6 @@ pub enum Scene<'a> {
     Made,
     Fills(Fills<'a>),
     Left,
-    Three,
     Eight,
 }
 
@@ -132,7 +130,6 @@ fn play<R: Runs + Net<Stream = TcpStream, Listener = TcpListener>, M: Tested + S
         Scene::Made => made(rt, stage),
         Scene::Fills(fills) => fills.play(rt, stage),
         Scene::Left => left(rt, stage),
-        Scene::Three => three(rt, stage),
         Scene::Eight => eight(rt, stage),
     }
 }
