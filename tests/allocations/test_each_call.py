@@ -29,13 +29,9 @@ from built import PROGRAM, SECONDS, TOP, Case, Client, Memory, Ran, Words, cases
 OUT_OF_MEMORY = b"error 1 OutOfMemory\n"
 # How a test that stops names what it wanted.
 NAMES_IT = re.compile(r"AllocError|AllocFailed|OutOfMemory|\bMemory\b|out of memory")
-# Where memory is refused to a run's own buffers nothing is read, and these want replies: so they are run with
-# no
-# call refused, and the program tries the others.
-OUTER = ("hp_serving_tests", "hp_server_tests")
-# In these several threads meet: where one is refused memory the others have other replies. They are run once,
-# too.
-TOGETHER = ("places::", "rows::", "stress::", "filling::", "making::")
+# In these several threads meet, or a refusal ends a run whose replies they want. They are run once, with no
+# call refused; the program tries the others.
+ONCE = ("places::", "rows::", "stress::", "filling::", "making::", "over_tcp::", "sources::", "runs::")
 WORDS = [
     ["--help"],
     ["--version"],
@@ -90,7 +86,7 @@ def run_test(program: Path, test: str, memory: Memory, refused: int) -> int:
 
 def try_test(memory: Memory, program: Path, test: str) -> None:
     calls = run_test(program, test, memory, 0)
-    if program.stem.removesuffix("_tests") not in OUTER and not test.startswith(TOGETHER):
+    if not test.startswith(ONCE):
         for refused in range(1, calls + 1):
             run_test(program, test, memory, refused)
 
@@ -188,9 +184,9 @@ def replies_of(port: int, script: bytes) -> list[bytes]:
 
 SCRIPT = built.text_of(
     ["nr 4", "connect 1 0", "create 0 a", "map 1 0 a 0 2 shared", "store 1 0 1 0 0 ff"]
-    + ["fork 1 2", "ls 0", "exit 2", "exit 1"]
+    + ["fork 1 2", "ls 0", "exit 2", "exit 1", "preallocate 0 a 0 4", "mount 1 -", "remount 1 size=2K"]
 )
-REPLIES = [b"ok 4\n", b"ok\n", b"ok\n", b"ok 1\n", b"ok\n", b"ok\n", b"text 1\na\n", b"ok\n", b"ok\n"]
+REPLIES = [b"ok 4\n", b"ok\n", b"ok\n", b"ok 1\n", b"ok\n", b"ok\n", b"text 1\na\n", *[b"ok\n"] * 5]
 
 
 @dataclass(frozen=True)

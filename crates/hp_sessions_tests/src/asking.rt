@@ -4,7 +4,7 @@ use crate::same::assert_same;
 use hp_events::Parts;
 use hp_model::answer::{Answer, Reply};
 use hp_model::lent::Lent;
-use hp_model::step::{Intent, Reserving, Sharing, Step};
+use hp_model::step::{Reserving, Sharing, Step};
 use hp_sessions::Session;
 use std::process::Abort;
 
@@ -64,61 +64,16 @@ pub fn create(slot: u64, name: &[u8]) -> Step<'_> {
     Step::Create { slot, name }
 }
 
-pub fn preallocate(slot: u64, name: &[u8], from: u64, to: u64) -> Step<'_> {
-    Step::Preallocate {
-        slot,
-        name: Lent::new(name),
-        from,
-        to,
-    }
-}
-
-/// A map of so many pages of file a from an index on, which are the file's, and reserved.
-pub fn map_at(task: u64, slot: u64, from: u64, pages: u64) -> Step<'static> {
+/// A map of so many pages of file a, from index 0 on, which are the file's, and reserved.
+pub fn map_shared(task: u64, slot: u64, pages: u64) -> Step<'static> {
     Step::Map {
         task,
         slot,
         name: Lent::new(b"a"),
-        from,
+        from: 0,
         pages,
         sharing: Sharing::Shared,
         reserving: Reserving::Reserve,
-    }
-}
-
-/// A map of so many pages of a file, from index 0 on.
-pub fn map(
-    task: u64,
-    slot: u64,
-    name: &[u8],
-    pages: u64,
-    sharing: Sharing,
-    reserving: Reserving,
-) -> Step<'_> {
-    Step::Map {
-        task,
-        slot,
-        name: Lent::new(name),
-        from: 0,
-        pages,
-        sharing,
-        reserving,
-    }
-}
-
-/// A map of so many pages of file a, from index 0 on, which are the file's, and reserved.
-pub fn map_shared(task: u64, slot: u64, pages: u64) -> Step<'static> {
-    map_at(task, slot, 0, pages)
-}
-
-/// A write at a page of a map.
-pub fn fault(task: u64, slot: u64, map: u64, index: u64) -> Step<'static> {
-    Step::Fault {
-        task,
-        slot,
-        map,
-        index,
-        intent: Intent::Write,
     }
 }
 
@@ -132,23 +87,4 @@ pub fn store(task: u64, slot: u64, bytes: &[u8]) -> Step<'_> {
         offset: 0,
         bytes: Lent::new(bytes),
     }
-}
-
-/// A load of the first byte there.
-pub fn load(task: u64, slot: u64) -> Step<'static> {
-    Step::Load {
-        task,
-        slot,
-        map: 1,
-        index: 0,
-        offset: 0,
-        count: 1,
-    }
-}
-
-/// What a load answers that finds this byte.
-pub fn byte(byte: u8) -> Reply {
-    let mut bytes = [0u8; 256];
-    bytes[0] = byte;
-    Ok(Answer::Bytes { count: 1, bytes })
 }

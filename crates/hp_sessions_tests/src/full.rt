@@ -1,140 +1,129 @@
 //! Full trails, a full room, and what a session left to others.
-ghost use Rattle.std.specs.Prelude.{◌≤◌};
-ghost use Rattle.hp_model.specs.Profile.{most_places};
 
-use crate::asking::{ask, byte, connect, counts, load, nr, store};
-use crate::gates::Free;
-use crate::machine::{Machine, Runs, Script};
-use crate::playing::{Lengths, joined, list_of};
+use crate::machine::{Apart, Runs, Tested};
 use crate::same::same;
-use crate::stage::{Scene, Stage, small, traced};
-use hp_events::Parts;
-use hp_model::answer::Answer;
-use hp_model::refusal::Refusal;
-use hp_model::step::{Reserving, Sharing, Step};
-use hp_sessions::Session;
-use std::alloc::Global;
+use crate::stage::{SMALL, Scene, Sizes, Stage, list_of, traced};
+use crate::talking::{Client, Nothing, asks, replies, same_text};
+use hp_closing::audit;
 use std::process::Abort;
 
-// The trails of a machine whose sessions, which are all, left this.
-fn trails_of<R: Runs, M: Machine>(rt: &R, stage: Stage<M>, sessions: Vec<M::Left>) -> Lengths {
-    let (_counts, trails) = joined(rt, stage, sessions);
-    trails.expect(rt, "no trails")
+// How many receipts and events there are of one run, and how many entries of tasks.
+fn lengths<R: Abort, M: Tested>(
+    rt: &R,
+    stage: Stage<'_, M, R>,
+    sessions: Vec<M::Told>,
+) -> [usize; 3] {
+    let Stage {
+        machine,
+        alloc,
+        draws: _,
+        audit: _,
+    } = stage;
+    let Apart {
+        counts: _,
+        trails,
+        in_order,
+        sessions: count,
+    } = machine.apart();
+    same!(rt; (in_order, count), (true, sessions.len() as u64));
+    let trails = trails.expect(rt, "no trails");
+    let mut told = Vec::new(alloc);
+    let mut receipts = 0usize;
+    for session in sessions {
+        let one = M::receipts(session);
+        receipts = receipts.saturating_add(one.len());
+        told.push(one).expect(rt, "memory");
+    }
+    let events = audit(alloc, &trails, told).expect(rt, "trails that are joined");
+    [receipts, events.len(), trails.tasks.len()]
+}
+
+/// One session of these lines gets these replies; after it there are so many receipts, events and entries of tasks.
+#[derive(Clone, Copy, Drop)]
+pub struct Fills<'a> {
+    lines: &'a [u8],
+    replies: &'a str,
+    wanted: [usize; 3],
+}
+
+impl Fills<'_> {
+    pub fn play<R: Runs, M: Tested + Sync>(self, rt: &R, stage: Stage<'_, M, R>) {
+        let told = asks(
+            rt,
+            stage.alloc,
+            &stage.machine,
+            &Nothing,
+            self.lines,
+            self.replies,
+        );
+        let all = list_of(rt, stage.alloc, told);
+        same!(rt; lengths(rt, stage, all), self.wanted);
+    }
 }
 
 // Each trail has two places: of tasks and of the pool all is refused then but what gives back.
-fn two_places<R: Abort, P: Parts>(rt: &R, session: &mut Session<P>) {
-    ask!(rt, session; connect(1, 0));
-    ask!(rt, session; connect(2, 0));
-    ask!(rt, session; connect(3, 0), Err(Refusal::TraceFull));
-    same!(rt; counts(session), Some([0, 0, 0, 0]));
-    nr(rt, session, 4);
-    ask!(rt, session; Step::Nr { pages: 5 }, Err(Refusal::TraceFull));
-    ask!(rt, session; Step::Meminfo, Err(Refusal::TraceFull));
-    ask!(rt, session; Step::Attach { task: 2 }, Err(Refusal::TraceFull));
-    ask!(rt, session; Step::Exit { task: 1 });
-    ask!(rt, session; Step::Exit { task: 1 }, Err(Refusal::TraceFull));
-}
+const TWO_PLACES: Fills<'static> = Fills {
+    lines: b"connect 1 0\nconnect 2 0\nconnect 3 0\nmeminfo\nnr 4\nnr 5\nmeminfo\nattach 2\n\
+exit 1\nexit 1\n",
+    replies: "ok\nok\nerror 23 TraceFull\ntext 6\n\
+HugePages_Total:       0\nHugePages_Free:        0\n\
+HugePages_Rsvd:        0\nHugePages_Surp:        0\nHugepagesize:          1 kB\n\
+Hugetlb:               0 kB\n\
+ok 4\nerror 23 TraceFull\nerror 23 TraceFull\nerror 23 TraceFull\nok\nerror 23 TraceFull\n",
+    wanted: [5, 5, 3],
+};
 
 // With room for one receipt the second step is refused before its event.
-fn room_for_one<R: Abort, P: Parts>(rt: &R, session: &mut Session<P>) {
-    ask!(rt, session; connect(1, 0));
-    ask!(rt, session; connect(2, 0), Err(Refusal::TraceFull));
-}
+const ROOM_FOR_ONE: Fills<'static> = Fills {
+    lines: b"connect 1 0\nconnect 2 0\n",
+    replies: "ok\nerror 23 TraceFull\n",
+    wanted: [1, 1, 1],
+};
 
-// A task with a map and a page, which its session leaves.
-fn leaves<R: Abort, P: Parts>(rt: &R, session: &mut Session<P>) {
-    nr(rt, session, 4);
-    ask!(rt, session; connect(1, 0));
-    let anon = Step::Anon {
-        task: 1,
-        pages: 1,
-        sharing: Sharing::Private,
-        reserving: Reserving::Reserve,
-    };
-    ask!(rt, session; anon, Ok(Answer::MapNo(1)));
-    ask!(rt, session; store(1, 0, &[0x5a]));
-}
+// A task with a map and a page, which its session leaves as its reader fails.
+const LEAVES: &[u8] = b"nr 4\nconnect 1 0\nanon 1 1 private\nstore 1 0 1 0 0 5a\n";
 
 // Another session finds all that, and ends it.
-fn finds<R: Abort, P: Parts>(rt: &R, session: &mut Session<P>) {
-    ask!(rt, session; Step::Attach { task: 1 }, Ok(Answer::Home(0)));
-    ask!(rt, session; load(1, 0), byte(0x5a));
-    ask!(rt, session; Step::Exit { task: 1 });
-    same!(rt; counts(session), Some([4, 4, 0, 0]));
-}
+const FINDS: &[u8] = b"attach 1\nload 1 0 1 0 0 1\nexit 1\nmeminfo\n";
 
-#[derive(Clone, Copy, Drop)]
-pub enum Does {
-    TwoPlaces,
-    RoomForOne,
-    Leaves,
-    Finds,
-}
+const FOUND: &str = "ok 0\nok 5a\nok\ntext 6\nHugePages_Total:       4\nHugePages_Free:        4\n\
+HugePages_Rsvd:        0\nHugePages_Surp:        0\nHugepagesize:          1 kB\n\
+Hugetlb:               4 kB\n";
 
-impl Script for Does {
-    fn room(&self) -> usize {
-        match self {
-            Does::RoomForOne => 1,
-            _ => 16,
-        }
-    }
-
-    fn run<R: Abort, P: Parts>(self, rt: &R, session: &mut Session<P>) {
-        match self {
-            Does::TwoPlaces => two_places(rt, session),
-            Does::RoomForOne => room_for_one(rt, session),
-            Does::Leaves => leaves(rt, session),
-            Does::Finds => finds(rt, session),
-        }
-    }
-}
-
-// One session, after which there are so many receipts, events and entries of tasks.
-#[derive(Clone, Copy, Drop)]
-pub struct Fills {
-    pub script: Does,
-    pub wanted: [usize; 3],
-}
-
-impl Fills {
-    pub fn play<R: Runs, M: Machine + Sync>(self, rt: &R, stage: Stage<M>) {
-        let left = stage.machine.session(rt, &Free {}, self.script);
-        let all = list_of(rt, stage.alloc, left);
-        let trails = trails_of(rt, stage, all);
-        same!(rt; [trails.receipts, trails.events, trails.tasks], self.wanted);
-    }
-}
-
-pub fn left<R: Runs, M: Machine + Sync>(rt: &R, stage: Stage<M>) {
-    let (one, two) = stage.machine.after(rt, Does::Leaves, Does::Finds);
+pub fn left<R: Runs, M: Tested + Sync>(rt: &R, stage: Stage<'_, M, R>) {
+    let mut client = Client {
+        pieces: &[LEAVES],
+        sent: 0,
+        fails: true,
+        by: &Nothing,
+    };
+    let (one, text) = replies(rt, stage.alloc, &stage.machine, &mut client);
+    same_text(rt, &text, "ok 4\nok\nok 1\nok\n");
+    let two = asks(rt, stage.alloc, &stage.machine, &Nothing, FINDS, FOUND);
     let mut all = list_of(rt, stage.alloc, one);
     all.push(two).expect(rt, "memory");
-    same!(rt; trails_of(rt, stage, all).tasks, 6);
+    same!(rt; lengths(rt, stage, all), [12, 12, 6]);
 }
 
-fn full<R: Runs>(rt: &R, alloc: Global, places: usize, script: Does, wanted: [usize; 3])
-    requires { places ≤ most_places }
-{
-    traced(
-        rt,
-        alloc,
-        small(places),
-        Scene::Fills(Fills { script, wanted }),
-    );
-}
+const SIZES: Sizes<'static> = Sizes {
+    places: 16,
+    room: 16,
+    ..SMALL
+};
 
 #[test]
 fn full_trails_refuse_all_but_what_gives_back(rt: HostRuntime) {
-    full(&rt, rt.alloc(), 2, Does::TwoPlaces, [5, 5, 3]);
+    let sizes = Sizes { places: 2, ..SIZES };
+    traced(&rt, rt.alloc(), sizes, Scene::Fills(TWO_PLACES));
 }
 
 #[test]
 fn a_full_room_refuses_a_step_with_no_event(rt: HostRuntime) {
-    full(&rt, rt.alloc(), 16, Does::RoomForOne, [1, 1, 1]);
+    let sizes = Sizes { room: 1, ..SIZES };
+    traced(&rt, rt.alloc(), sizes, Scene::Fills(ROOM_FOR_ONE));
 }
 
 #[test]
 fn what_a_session_left_is_there_for_another(rt: HostRuntime) {
-    traced(&rt, rt.alloc(), small(16), Scene::Left);
+    traced(&rt, rt.alloc(), SIZES, Scene::Left);
 }

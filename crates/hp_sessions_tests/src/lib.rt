@@ -4,8 +4,6 @@
 #[cfg(test)]
 mod asking;
 #[cfg(test)]
-mod draws;
-#[cfg(test)]
 mod filling;
 #[cfg(test)]
 mod following;
@@ -20,24 +18,20 @@ mod machine;
 #[cfg(test)]
 mod making;
 #[cfg(test)]
+mod over_tcp;
+#[cfg(test)]
 mod places;
-#[cfg(test)]
-mod playing;
-#[cfg(test)]
-mod preallocating;
-#[cfg(test)]
-mod remounting;
 #[cfg(test)]
 mod rows;
 #[cfg(test)]
 mod same;
 #[cfg(test)]
-mod stage;
+mod sources;
 #[cfg(test)]
-mod steps;
+mod stage;
 #[cfg(test)]
 mod stress;
 #[cfg(test)]
-mod whole;
+mod talking;
 #[cfg(test)]
 mod works;

@@ -1,94 +1,19 @@
 //! Each place, held while a session acts: which acts wait there, and what such an act holds meanwhile.
 
-use crate::gates::{Flag, Free, Hold, Place};
-use crate::machine::{Locks, Machine, Runs, Script};
-use crate::playing::{list_of, pages_left};
+use crate::gates::{Flag, Place, Watcher};
+use crate::machine::{Locks, Runs, Tested};
 use crate::same::same;
-use crate::stage::{Scene, Sizes, Stage, both};
-use crate::works::{PAGES, Prepares, USED, Work};
-use hp_events::Parts;
-use hp_sessions::Session;
+use crate::stage::{Scene, Sizes, Stage, both, closed};
+use crate::talking::{Beside, Client, goes_well};
+use crate::works::{
+    BEGIN, COPIES, FILES, PAGES, Pool, Row, Slots, Table, USED, of_files, of_maps, of_others,
+};
+use hp_serving::Machine;
+use std::alloc::Global;
 use std::process::Abort;
 use std::sync::Wait;
 use std::thread;
 use std::time::{Clock, Duration};
-
-/// Which slots an act takes, one at a time.
-#[derive(Clone, Copy, Drop, PartialEq, Eq)]
-enum Slots {
-    None,
-    /// The one that it is of, which has files.
-    Its,
-    Only(u64),
-    Each,
-}
-
-/// When an act takes the task table: with no trace, what looks a task up reads a word.
-#[derive(Clone, Copy, Drop, PartialEq, Eq)]
-enum Table {
-    Never,
-    Traced,
-    Always,
-}
-
-/// Whether an act takes the pool, and whether then a node.
-#[derive(Clone, Copy, Drop, PartialEq, Eq)]
-enum Pool {
-    Never,
-    Alone,
-    AndNode,
-}
-
-/// What an act takes. At the pool and at a node it holds its slot alone, or the first of each, and elsewhere nothing.
-#[derive(Clone, Copy, Drop)]
-struct Row {
-    work: Work,
-    slots: Slots,
-    table: Table,
-    pool: Pool,
-}
-
-fn makes(work: Work, slots: Slots, table: Table, pool: Pool) -> Row {
-    Row {
-        work,
-        slots,
-        table,
-        pool,
-    }
-}
-
-fn rows() -> [Row; 28] {
-    [
-        makes(Work::Load, Slots::Its, Table::Traced, Pool::Never),
-        makes(Work::Store, Slots::Its, Table::Traced, Pool::AndNode),
-        makes(Work::Queue, Slots::Its, Table::Traced, Pool::AndNode),
-        makes(Work::Run, Slots::Its, Table::Traced, Pool::AndNode),
-        makes(Work::Fault, Slots::Its, Table::Traced, Pool::AndNode),
-        makes(Work::Map, Slots::Its, Table::Traced, Pool::Alone),
-        makes(Work::Unmap, Slots::Its, Table::Traced, Pool::Alone),
-        makes(Work::Anon, Slots::Only(0), Table::Traced, Pool::Alone),
-        makes(Work::Preallocate, Slots::Its, Table::Never, Pool::AndNode),
-        makes(Work::Punch, Slots::Its, Table::Never, Pool::AndNode),
-        makes(Work::Truncate, Slots::Its, Table::Never, Pool::AndNode),
-        makes(Work::Read, Slots::Its, Table::Never, Pool::Never),
-        makes(Work::Create, Slots::Its, Table::Never, Pool::Never),
-        makes(Work::Unlink, Slots::Its, Table::Never, Pool::Alone),
-        makes(Work::Stat, Slots::Its, Table::Never, Pool::Never),
-        makes(Work::Ls, Slots::Its, Table::Never, Pool::Never),
-        makes(Work::Df, Slots::Its, Table::Never, Pool::Never),
-        makes(Work::Mount, Slots::Only(3), Table::Never, Pool::Alone),
-        makes(Work::Remount, Slots::Only(1), Table::Never, Pool::Alone),
-        makes(Work::Umount, Slots::Only(1), Table::Never, Pool::AndNode),
-        makes(Work::Fork, Slots::Each, Table::Always, Pool::Alone),
-        makes(Work::Exit, Slots::Each, Table::Always, Pool::AndNode),
-        makes(Work::Connect, Slots::None, Table::Always, Pool::Never),
-        makes(Work::Attach, Slots::None, Table::Traced, Pool::Never),
-        makes(Work::Nr, Slots::None, Table::Never, Pool::Alone),
-        makes(Work::Overcommit, Slots::None, Table::Never, Pool::Alone),
-        makes(Work::Meminfo, Slots::None, Table::Never, Pool::Alone),
-        makes(Work::Nodes, Slots::None, Table::Never, Pool::Alone),
-    ]
-}
 
 // The gate of a node stops who draws a page there, or gives one back. All pages here are of node 0.
 const PLACES: [Place; 9] = [
@@ -106,7 +31,7 @@ const PLACES: [Place; 9] = [
 /// An act on a slot, and a place that is held.
 #[derive(Clone, Copy, Debug, Drop, PartialEq, Eq)]
 struct Cell {
-    work: Work,
+    act: &'static str,
     slot: u64,
     place: Place,
     traced: bool,
@@ -163,49 +88,52 @@ struct Signs {
     held: Flag,
     opened: Flag,
     done: Flag,
+    slot: u64,
 }
 
-// Once the place is held: opens, acts, and undoes it.
-#[derive(Drop)]
-struct Acts<'a, C> {
-    rt: &'a C,
-    signs: &'a Signs,
-    cell: Cell,
-}
-
-impl<C: Clock> Script for Acts<'_, C> {
-    fn room(&self) -> usize {
-        100
+impl Beside for Signs {
+    fn sends(&self, count: usize) -> bool {
+        match count {
+            0 => self.opened.set(),
+            _ => self.done.set(),
+        }
+        true
     }
 
-    fn wait(&self) {
-        let _left = self.signs.held.wait(self.rt);
-    }
-
-    fn run<R: Abort, P: Parts>(self, rt: &R, session: &mut Session<P>) {
-        let Acts { rt: _, signs, cell } = self;
-        signs.opened.set();
-        let reply = cell.work.done(session, cell.slot);
-        signs.done.set();
-        same!(rt; (cell, reply.err()), (cell, None));
-        cell.work.undo(rt, session, cell.slot);
+    fn byte(&self, byte: u8) -> u8 {
+        match byte {
+            b'S' => b'0'.saturating_add((self.slot % 10) as u8),
+            other => other,
+        }
     }
 }
 
-// Prepares an act on a slot.
-#[derive(Clone, Copy, Drop)]
-struct Before {
-    cell: Cell,
+fn new_signs(slot: u64) -> Signs {
+    Signs {
+        held: Flag::new(),
+        opened: Flag::new(),
+        done: Flag::new(),
+        slot,
+    }
 }
 
-impl Script for Before {
-    fn room(&self) -> usize {
-        10
-    }
-
-    fn run<R: Abort, P: Parts>(self, rt: &R, session: &mut Session<P>) {
-        self.cell.work.prepare(rt, session, self.cell.slot);
-    }
+// A session of these lines on a slot, which come in two pieces.
+fn does<R: Wait + Abort, M: Machine>(
+    rt: &R,
+    alloc: Global,
+    machine: &M,
+    signs: &Signs,
+    lines: &str,
+    more: &str,
+    cell: Option<Cell>,
+) -> M::Told {
+    let mut client = Client {
+        pieces: &[lines.as_bytes(), more.as_bytes()],
+        sent: 0,
+        fails: false,
+        by: signs,
+    };
+    goes_well(rt, alloc, machine, &mut client, cell)
 }
 
 const SOON: u64 = 3;
@@ -271,46 +199,53 @@ fn becomes_free<R: Clock, L: Locks>(rt: &R, locks: &L, place: Place) -> bool {
 }
 
 // What is seen: at a node the gate holds who acts, once it comes there.
-fn watched<R: Wait + Clock, M: Machine>(
+fn watched<R: Runs, M: Tested>(
     rt: &R,
     machine: &M,
-    hold: &Hold<'_, R>,
+    gate: &Watcher<'_, R>,
     watch: &Watch<'_>,
 ) -> Seen {
     let seen = match watch.place() {
         Place::Node(_) if watch.row.waits(&watch.cell) => {
             watch.signs.held.set();
-            hold.wait();
+            gate.await_one();
             watch.seen_waiting(rt, machine)
         }
         _ => machine.watched(rt, watch),
     };
-    hold.open();
+    gate.open();
     seen
 }
 
+// The session that acts, once the place is held, or is about to be.
+fn acted<R: Runs, M: Machine>(rt: &R, alloc: Global, machine: &M, watch: &Watch<'_>) -> M::Told {
+    let Watch { signs, row, cell } = watch;
+    let _left = signs.held.wait(rt);
+    does(rt, alloc, machine, signs, row.act, row.after, Some(*cell))
+}
+
 // The session of a cell, which goes as its row says.
-fn play<R: Runs, M: Machine + Sync>(rt: &R, machine: &M, row: Row, cell: Cell) -> M::Left {
-    let signs = Signs {
-        held: Flag::new(),
-        opened: Flag::new(),
-        done: Flag::new(),
-    };
-    let hold = Hold::new(rt, cell.place);
-    let acts = Acts {
-        rt,
-        signs: &signs,
-        cell,
-    };
+fn play<R: Runs, M: Tested + Sync>(
+    rt: &R,
+    alloc: Global,
+    machine: &M,
+    gate: &Watcher<'_, R>,
+    row: Row,
+    cell: Cell,
+) -> M::Told {
+    let signs = new_signs(cell.slot);
     let watch = Watch {
         signs: &signs,
         row,
         cell,
     };
-    let (left, seen) = thread::join(
+    if let Place::Node(_) = cell.place {
+        gate.shut(cell.place);
+    }
+    let (told, seen) = thread::join(
         rt,
-        || machine.session(rt, &hold, acts),
-        || watched(rt, machine, &hold, &watch),
+        || acted(rt, alloc, machine, &watch),
+        || watched(rt, machine, gate, &watch),
     );
     let wanted = if row.waits(&cell) {
         Seen::Waits
@@ -318,31 +253,66 @@ fn play<R: Runs, M: Machine + Sync>(rt: &R, machine: &M, row: Row, cell: Cell) -
         Seen::GoesOn
     };
     same!(rt; (cell, seen), (cell, wanted));
-    left
+    told
+}
+
+// A row at each place, on each of its slots.
+fn each_place<R: Runs, M: Tested + Sync>(
+    rt: &R,
+    stage: &Stage<'_, M, R>,
+    row: Row,
+    all: &mut Vec<M::Told>,
+) {
+    for slot in row.tried() {
+        for place in PLACES {
+            let cell = Cell {
+                act: row.act,
+                slot: *slot,
+                place,
+                traced: stage.audit.is_some(),
+            };
+            let before = does(
+                rt,
+                stage.alloc,
+                &stage.machine,
+                &new_signs(*slot),
+                row.before,
+                "",
+                Some(cell),
+            );
+            all.push(before).expect(rt, "memory");
+            all.push(play(rt, stage.alloc, &stage.machine, stage.draws, row, cell))
+                .expect(rt, "memory");
+        }
+    }
 }
 
 // Each act on each of its slots, at each place.
-pub fn each_held<R: Runs, M: Machine + Sync>(rt: &R, stage: Stage<M>) {
-    let free = Free {};
-    let first = stage.machine.session(rt, &free, Prepares);
-    let mut all = list_of(rt, stage.alloc, first);
-    for row in rows() {
-        for slot in row.tried() {
-            for place in PLACES {
-                let cell = Cell {
-                    work: row.work,
-                    slot: *slot,
-                    place,
-                    traced: stage.audit.is_some(),
-                };
-                let before = stage.machine.session(rt, &free, Before { cell });
-                all.push(before).expect(rt, "memory");
-                let acted = play(rt, &stage.machine, row, cell);
-                all.push(acted).expect(rt, "memory");
-            }
-        }
+pub fn each_held<R: Runs, M: Tested + Sync>(rt: &R, stage: Stage<'_, M, R>) {
+    let mut all = Vec::new(stage.alloc);
+    for (slot, lines, more) in [(0, BEGIN, FILES), (2, FILES, ""), (4, FILES, COPIES)] {
+        let first = does(
+            rt,
+            stage.alloc,
+            &stage.machine,
+            &new_signs(slot),
+            lines,
+            more,
+            None,
+        );
+        all.push(first).expect(rt, "memory");
     }
-    same!(rt; pages_left(rt, stage, all), PAGES);
+    for row in of_maps() {
+        each_place(rt, &stage, row, &mut all);
+    }
+    for row in of_files() {
+        each_place(rt, &stage, row, &mut all);
+    }
+    for row in of_others() {
+        each_place(rt, &stage, row, &mut all);
+    }
+    let counts = closed(rt, stage, all).counts;
+    same!(rt; (counts.total, counts.free, counts.rsvd), (PAGES, PAGES, 0));
 }
 
 const SIZES: Sizes<'static> = Sizes {
@@ -350,6 +320,7 @@ const SIZES: Sizes<'static> = Sizes {
     page_bytes: 1024,
     slots: 5,
     places: 20_000,
+    room: 100,
 };
 
 #[test]

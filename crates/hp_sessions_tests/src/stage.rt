@@ -1,86 +1,135 @@
 //! Machines that tests play on, with a trace and without one.
 ghost use Rattle.std.specs.Prelude.{◌≡◌, ◌≤◌, ◌==◌, ◌∷◌, [], false, not, true};
-ghost use Rattle.hp_model.specs.Profile.{most_places};
 ghost use Rattle.hp_sessions_tests.specs.Machines.{AreMade, AreNamed, IsFit};
 
 use crate::filling::filled;
 use crate::following::followed;
 use crate::full::{Fills, left};
-use crate::machine::{Machine, Runs};
+use crate::gates::{Watched, Watcher};
+use crate::machine::{Runs, Tested};
 use crate::making::made;
+use crate::over_tcp::{Holding, outlasted};
 use crate::places::each_held;
-use crate::playing::alone;
-use crate::preallocating::Range;
-use crate::remounting::Limits;
 use crate::rows::HeldAt;
+use crate::same::same;
+use crate::sources::failed;
 use crate::stress::eight;
-use crate::whole::{closed_whole, numbered};
 use hp_history::{Opened, Places, Shape};
 use hp_model::naming::Naming;
 use hp_pool::Blanks;
+use hp_server::Served;
+use hp_serving::Closed;
 use hp_shared::Shared;
 use std::alloc::Global;
 use std::marker::Brand;
+use std::net::{Net, TcpListener, TcpStream};
+use std::process::Abort;
 
-/// How large a machine is: the frames of each node, the bytes of a page, the slots, and the places of each trail.
+/// How large a machine is: the frames of each node, the bytes of a page, the slots, the places of each trail, and for how many
+/// receipts each session has room.
 #[derive(Clone, Copy, Drop)]
 pub struct Sizes<'a> {
     pub frames: &'a [u64],
     pub page_bytes: usize,
     pub slots: usize,
     pub places: usize,
+    pub room: usize,
 }
 
 /// Two nodes of four small frames each, and four slots.
-pub fn small(places: usize) -> Sizes<'static>
-    requires { places ≤ most_places }
-    ensures { IsFit result.frames.now result.page_bytes result.slots result.places }
-{
-    Sizes {
-        frames: &[4, 4],
-        page_bytes: 1024,
-        slots: 4,
-        places,
-    }
-}
+pub const SMALL: Sizes<'static> = Sizes {
+    frames: &[4, 4],
+    page_bytes: 1024,
+    slots: 4,
+    places: 100,
+    room: 100,
+};
 
-/// A machine, and what its audit answers where its trails are joined: it has some or none.
-pub struct Stage<M> {
+/// A machine, who watches its locks, and what its audit answers: it has some trails or none.
+pub struct Stage<'a, M, R> {
     pub machine: M,
     pub alloc: Global,
+    pub draws: &'a Watcher<'a, R>,
     pub audit: Option<bool>,
+}
+
+/// Closes the machine with its sessions, which are all, and ended in any order. Its audit is as wanted.
+pub fn closed<R: Runs, M: Tested>(
+    rt: &R,
+    stage: Stage<'_, M, R>,
+    sessions: Vec<M::Told>,
+) -> Closed {
+    let Stage {
+        machine,
+        alloc,
+        draws: _,
+        audit,
+    } = stage;
+    let mut sessions = sessions;
+    sessions.sort_unstable_by_key(|one| M::number(one));
+    let closed = machine.close(alloc, sessions).expect(rt, "memory");
+    same!(rt; closed.audit, audit);
+    closed
+}
+
+/// Does so: how many pages there are, all of which are free, and none promised.
+pub fn pages_left<R: Runs, M: Tested>(
+    rt: &R,
+    stage: Stage<'_, M, R>,
+    sessions: Vec<M::Told>,
+) -> u64 {
+    let counts = closed(rt, stage, sessions).counts;
+    same!(rt; (counts.free, counts.rsvd), (counts.total, 0));
+    counts.total
+}
+
+/// What one session left.
+pub fn list_of<R: Abort, T: Drop>(rt: &R, alloc: Global, one: T) -> Vec<T> {
+    let mut all = Vec::new(alloc);
+    all.push(one).expect(rt, "memory");
+    all
+}
+
+/// What three left.
+pub fn all_three<R: Abort, T: Drop>(rt: &R, alloc: Global, one: T, two: T, three: T) -> Vec<T> {
+    let mut all = list_of(rt, alloc, one);
+    all.push(two).expect(rt, "memory");
+    all.push(three).expect(rt, "memory");
+    all
 }
 
 /// What a test does with a machine.
 #[derive(Clone, Copy, Drop)]
-pub enum Scene {
+pub enum Scene<'a> {
     Held(HeldAt),
+    Served(Holding<'a>),
+    Outlasted,
+    Fails,
     Places,
     Filled,
     Followed,
     Made,
-    Range,
-    Limits,
-    Fills(Fills),
+    Fills(Fills<'a>),
     Left,
-    Whole,
-    Numbered,
     Eight,
 }
 
-fn play<R: Runs, M: Machine + Sync>(rt: &R, stage: Stage<M>, scene: Scene) {
+fn play<R: Runs + Net<Stream = TcpStream, Listener = TcpListener>, M: Tested + Sync>(
+    rt: &R,
+    stage: Stage<'_, M, R>,
+    scene: Scene<'_>,
+) {
     match scene {
         Scene::Held(held) => held.play(rt, stage),
+        Scene::Served(holding) => holding.play(rt, stage),
+        Scene::Outlasted => outlasted(rt, stage),
+        Scene::Fails => failed(rt, stage),
         Scene::Places => each_held(rt, stage),
         Scene::Filled => filled(rt, stage),
         Scene::Followed => followed(rt, stage),
         Scene::Made => made(rt, stage),
-        Scene::Range => alone(rt, stage, Range {}),
-        Scene::Limits => alone(rt, stage, Limits {}),
         Scene::Fills(fills) => fills.play(rt, stage),
         Scene::Left => left(rt, stage),
-        Scene::Whole => closed_whole(rt, stage),
-        Scene::Numbered => numbered(rt, stage),
         Scene::Eight => eight(rt, stage),
     }
 }
@@ -94,7 +143,7 @@ struct Source<'a> {
     history: Opened,
 }
 
-fn make<'a, R: Runs>(rt: &R, alloc: Global, sizes: Sizes<'a>, looks: bool) -> Source<'a>
+fn make<'a, R: Abort>(rt: &R, alloc: Global, sizes: Sizes<'a>, looks: bool) -> Source<'a>
     requires { IsFit sizes.frames.now sizes.page_bytes sizes.slots sizes.places }
     ensures sizes { result.sizes ≡ sizes.entry }
     ensures made { AreMade sizes.entry.frames.now sizes.entry.page_bytes sizes.entry.slots
@@ -115,11 +164,11 @@ fn make<'a, R: Runs>(rt: &R, alloc: Global, sizes: Sizes<'a>, looks: bool) -> So
     }
 }
 
-fn on<N: Naming + Places + Send + Sync, R: Runs, const K: usize>(
-    rt: &R,
-    source: Source<'_>,
-    scene: Scene,
-)
+fn on<
+    N: Naming + Places + Send + Sync,
+    R: Runs + Net<Stream = TcpStream, Listener = TcpListener>,
+    const K: usize,
+>(rt: &R, source: Source<'_>, scene: Scene<'_>)
     requires named { let s = source.sizes in AreNamed N.Naming N.Places s.frames.now s.page_bytes
         s.slots s.places source.blanks source.history.shape (not (K == 1)) }
     requires history { source.history.table.shared.table_id ≡ N.history }
@@ -135,20 +184,28 @@ fn on<N: Naming + Places + Send + Sync, R: Runs, const K: usize>(
         page_bytes,
         slots,
         places,
+        room,
     } = sizes;
-    let machine = Shared::<N, K>::new(
+    let shared = Shared::<N, K>::new(
         alloc, frames, page_bytes, slots, places, blanks, history,
     ).expect(rt, "memory");
+    let watcher = Watcher::new(rt);
+    let gate = Watched { by: &watcher };
+    let machine = Served { shared, gate, room };
     let audit = if K == 1 { Some(true) } else { None };
     let stage = Stage {
         machine,
         alloc,
+        draws: &watcher,
         audit,
     };
     play(rt, stage, scene);
 }
 
-fn on_traced<N: Naming + Places + Send + Sync, R: Runs>(rt: &R, source: Source<'_>, scene: Scene)
+fn on_traced<
+    N: Naming + Places + Send + Sync,
+    R: Runs + Net<Stream = TcpStream, Listener = TcpListener>,
+>(rt: &R, source: Source<'_>, scene: Scene<'_>)
     requires named { let s = source.sizes in AreNamed N.Naming N.Places s.frames.now s.page_bytes
         s.slots s.places source.blanks source.history.shape false }
     requires history { source.history.table.shared.table_id ≡ N.history }
@@ -156,7 +213,10 @@ fn on_traced<N: Naming + Places + Send + Sync, R: Runs>(rt: &R, source: Source<'
     on::<N, R, 1>(rt, source, scene);
 }
 
-fn on_untraced<N: Naming + Places + Send + Sync, R: Runs>(rt: &R, source: Source<'_>, scene: Scene)
+fn on_untraced<
+    N: Naming + Places + Send + Sync,
+    R: Runs + Net<Stream = TcpStream, Listener = TcpListener>,
+>(rt: &R, source: Source<'_>, scene: Scene<'_>)
     requires named { let s = source.sizes in AreNamed N.Naming N.Places s.frames.now s.page_bytes
         s.slots s.places source.blanks source.history.shape true }
     requires history { source.history.table.shared.table_id ≡ N.history }
@@ -165,7 +225,12 @@ fn on_untraced<N: Naming + Places + Send + Sync, R: Runs>(rt: &R, source: Source
 }
 
 /// Plays on a machine that keeps trails.
-pub fn traced<R: Runs>(rt: &R, alloc: Global, sizes: Sizes<'_>, scene: Scene)
+pub fn traced<R: Runs + Net<Stream = TcpStream, Listener = TcpListener>>(
+    rt: &R,
+    alloc: Global,
+    sizes: Sizes<'_>,
+    scene: Scene<'_>,
+)
     requires { IsFit sizes.frames.now sizes.page_bytes sizes.slots sizes.places }
 {
     let source = make(rt, alloc, sizes, false);
@@ -173,7 +238,12 @@ pub fn traced<R: Runs>(rt: &R, alloc: Global, sizes: Sizes<'_>, scene: Scene)
 }
 
 /// Plays on one that keeps none.
-pub fn untraced<R: Runs>(rt: &R, alloc: Global, sizes: Sizes<'_>, scene: Scene)
+pub fn untraced<R: Runs + Net<Stream = TcpStream, Listener = TcpListener>>(
+    rt: &R,
+    alloc: Global,
+    sizes: Sizes<'_>,
+    scene: Scene<'_>,
+)
     requires { IsFit sizes.frames.now sizes.page_bytes sizes.slots sizes.places }
 {
     let source = make(rt, alloc, sizes, true);
@@ -181,7 +251,12 @@ pub fn untraced<R: Runs>(rt: &R, alloc: Global, sizes: Sizes<'_>, scene: Scene)
 }
 
 /// Plays on both.
-pub fn both<R: Runs>(rt: &R, alloc: Global, sizes: Sizes<'_>, scene: Scene)
+pub fn both<R: Runs + Net<Stream = TcpStream, Listener = TcpListener>>(
+    rt: &R,
+    alloc: Global,
+    sizes: Sizes<'_>,
+    scene: Scene<'_>,
+)
     requires { IsFit sizes.frames.now sizes.page_bytes sizes.slots sizes.places }
 {
     traced(rt, alloc, sizes, scene);

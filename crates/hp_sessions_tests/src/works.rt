@@ -1,296 +1,241 @@
 //! What a session does while a test holds a place, and how all is as before.
 
-use crate::asking::{ask, connect, create, fault, map, mount, nr, preallocate};
-use crate::machine::Script;
-use hp_events::Parts;
-use hp_model::answer::{Answer, Reply};
-use hp_model::lent::Lent;
-use hp_model::profile::MOST_BYTES;
-use hp_model::queued::{Queued, Wanted};
-use hp_model::service::{Access, Service};
-use hp_model::step::{Intent, Reserving, Sharing, Step};
-use hp_sessions::Session;
-use std::process::Abort;
-
 /// So many pages in the pool.
 pub const PAGES: u64 = 48;
 
 /// The slots with files and maps: the first, a middle one and the last. Slot 1 has a mount with nothing on it, and slot 3 none.
 pub const USED: [u64; 3] = [0, 2, 4];
 
-/// What a session does on a slot.
-#[derive(Clone, Copy, Debug, Drop, PartialEq, Eq)]
-pub enum Work {
-    /// Task 1 loads from a page that is there.
-    Load,
-    /// It stores into a page that is reserved.
-    Store,
-    /// It does so by a line that came together with a fault of that page.
-    Queue,
-    /// It faults at two reserved indices, by lines that came together.
-    Run,
-    /// It faults at a hole of which nothing is reserved.
-    Fault,
-    Map,
-    Unmap,
-    /// Its page of slot 0 that has no file's name.
-    Anon,
-    /// A file gets a page.
-    Preallocate,
-    /// A page of a file goes.
-    Punch,
-    Truncate,
-    Read,
-    Create,
-    Unlink,
-    Stat,
-    Ls,
-    Df,
-    /// Of slot 3.
-    Mount,
-    /// Of slot 1, as is the next.
-    Remount,
-    Umount,
-    /// Task 1 has a child.
-    Fork,
-    /// Task 2 exits, which has a copy of a page on each slot.
-    Exit,
-    Connect,
-    Attach,
-    Nr,
-    Overcommit,
-    Meminfo,
-    Nodes,
-}
-
-fn name(name: &'static [u8]) -> Lent<'static> {
-    Lent::new(name)
-}
-
-fn unmap(slot: u64, map: u64, to: u64) -> Step<'static> {
-    Step::Unmap {
-        task: 1,
-        slot,
-        map,
-        from: 0,
-        to,
-    }
-}
-
-fn punch(slot: u64, of: &'static [u8]) -> Step<'static> {
-    Step::Punch {
-        slot,
-        name: name(of),
-        from: 0,
-        to: 1,
-    }
-}
-
-fn unlink(slot: u64) -> Step<'static> {
-    Step::Unlink {
-        slot,
-        name: name(b"n"),
-    }
-}
-
-fn reserved(slot: u64) -> Step<'static> {
-    map(1, slot, b"a", 2, Sharing::Shared, Reserving::Reserve)
-}
-
-// The maps of task 2: a copy of a page on each slot.
-fn copies<R: Abort, P: Parts>(rt: &R, session: &mut Session<P>) {
-    ask!(rt, session; connect(2, 0));
-    for slot in USED {
-        let copy = map(2, slot, b"p", 1, Sharing::Private, Reserving::Reserve);
-        ask!(rt, session; copy, Ok(Answer::MapNo(1)));
-        ask!(rt, session; fault(2, slot, 1, 0));
-    }
-}
-
-// The files of a slot, and the maps of task 1: of a page, of two reserved indices, and of a hole.
-fn files<R: Abort, P: Parts>(rt: &R, session: &mut Session<P>, slot: u64) {
-    for file in [b"p", b"a", b"h"] {
-        ask!(rt, session; create(slot, file));
-    }
-    ask!(rt, session; preallocate(slot, b"p", 0, 1));
-    let page = map(1, slot, b"p", 1, Sharing::Shared, Reserving::NoReserve);
-    ask!(rt, session; page, Ok(Answer::MapNo(1)));
-    ask!(rt, session; reserved(slot), Ok(Answer::MapNo(2)));
-    let hole = map(1, slot, b"h", 1, Sharing::Shared, Reserving::NoReserve);
-    ask!(rt, session; hole, Ok(Answer::MapNo(3)));
-}
-
 /// All that the works want to be there.
+pub const BEGIN: &str = "nr 48\nconnect 1 0\nmount 1 -\nmount 2 -\nmount 4 -\n";
+
+/// The files of a slot S, and the maps of task 1: of a page, of two reserved indices, and of a hole.
+pub const FILES: &str =
+    "create S p\ncreate S a\ncreate S h\npreallocate S p 0 1\nmap 1 S p 0 1 shared noreserve\n\
+map 1 S a 0 2 shared\nmap 1 S h 0 1 shared noreserve\n";
+
+/// The maps of task 2: a copy of a page on each slot.
+pub const COPIES: &str =
+    "connect 2 0\nmap 2 0 p 0 1 private\nfault 2 0 1 0 write\nmap 2 2 p 0 1 private\nfault 2 2 1 0 write\n\
+map 2 4 p 0 1 private\nfault 2 4 1 0 write\n";
+
+const RESERVED: &str = "punch S a 0 2\nunmap 1 S 2 0 2\nmap 1 S a 0 2 shared\n";
+
+/// Which slots an act takes, one at a time.
+#[derive(Clone, Copy, Drop, PartialEq, Eq)]
+pub enum Slots {
+    None,
+    /// The one that it is of, which has files.
+    Its,
+    Only(u64),
+    Each,
+}
+
+/// When an act takes the task table: with no trace, what looks a task up reads a word.
+#[derive(Clone, Copy, Drop, PartialEq, Eq)]
+pub enum Table {
+    Never,
+    Traced,
+    Always,
+}
+
+/// Whether an act takes the pool, and whether then a node.
+#[derive(Clone, Copy, Drop, PartialEq, Eq)]
+pub enum Pool {
+    Never,
+    Alone,
+    AndNode,
+}
+
+/// What an act takes, of slot S: these lines, which come together. At the pool and at a node it holds its slot alone, or the first
+/// of each, and elsewhere nothing. What it wants just before it, and what undoes it.
 #[derive(Clone, Copy, Drop)]
-pub struct Prepares;
+pub struct Row {
+    pub act: &'static str,
+    pub slots: Slots,
+    pub table: Table,
+    pub pool: Pool,
+    pub before: &'static str,
+    pub after: &'static str,
+}
 
-impl Script for Prepares {
-    fn run<R: Abort, P: Parts>(self, rt: &R, session: &mut Session<P>) {
-        nr(rt, session, PAGES);
-        ask!(rt, session; connect(1, 0));
-        for slot in [1, 2, 4] {
-            ask!(rt, session; mount(slot, b"-"));
-        }
-        for slot in USED {
-            files(rt, session, slot);
-        }
-        copies(rt, session);
+fn takes(
+    act: &'static str,
+    slots: Slots,
+    table: Table,
+    pool: Pool,
+    before: &'static str,
+    after: &'static str,
+) -> Row {
+    Row {
+        act,
+        slots,
+        table,
+        pool,
+        before,
+        after,
     }
 }
 
-// Two accesses of task 1's second map, that came together.
-fn queued<P: Parts>(session: &mut Session<P>, slot: u64, stores: bool) -> Reply {
-    let access = |index| Access {
-        task: 1,
-        slot,
-        map: 2,
-        index,
-        offset: 0,
-    };
-    let mut queue = [Queued::new(), Queued::new()];
-    if stores {
-        queue[0].set_store(access(0), &[0x11]);
-        queue[1].set(access(0), Wanted::Fault(Intent::Write));
-    } else {
-        queue[0].set(access(0), Wanted::Fault(Intent::Write));
-        queue[1].set(access(1), Wanted::Fault(Intent::Write));
-    }
-    let mut room = [0u8; MOST_BYTES];
-    session.do_queued(&mut queue, &mut room);
-    match (queue[0].reply(), queue[1].reply()) {
-        (Ok(_first), Ok(_second)) => Ok(Answer::Done),
-        (Err(refusal), _) | (_, Err(refusal)) => Err(refusal),
-    }
+/// The works of a task at its maps: of a page that is there, of reserved indices by one line or by two, of a hole, and of slot 0
+/// with no file's name.
+pub fn of_maps() -> [Row; 8] {
+    let (its, looks) = (Slots::Its, Table::Traced);
+    [
+        takes("load 1 S 1 0 0 1\n", its, looks, Pool::Never, "", ""),
+        takes(
+            "store 1 S 2 0 0 78\n",
+            its,
+            looks,
+            Pool::AndNode,
+            "",
+            RESERVED,
+        ),
+        takes(
+            "store 1 S 2 0 0 11\nfault 1 S 2 0 write\n",
+            its,
+            looks,
+            Pool::AndNode,
+            "",
+            RESERVED,
+        ),
+        takes(
+            "fault 1 S 2 0 write\nfault 1 S 2 1 write\n",
+            its,
+            looks,
+            Pool::AndNode,
+            "",
+            RESERVED,
+        ),
+        takes(
+            "fault 1 S 3 0 write\n",
+            its,
+            looks,
+            Pool::AndNode,
+            "",
+            "punch S h 0 1\n",
+        ),
+        takes(
+            "map 1 S p 0 1 private\n",
+            its,
+            looks,
+            Pool::Alone,
+            "",
+            "unmap 1 S 4 0 1\n",
+        ),
+        takes(
+            "unmap 1 S 2 0 2\n",
+            its,
+            looks,
+            Pool::Alone,
+            "",
+            "map 1 S a 0 2 shared\n",
+        ),
+        takes(
+            "anon 1 1 shared\n",
+            Slots::Only(0),
+            looks,
+            Pool::Alone,
+            "",
+            "unmap 1 S 4 0 1\n",
+        ),
+    ]
 }
 
-// The step of a task or of a whole machine.
-fn machine_step(work: Work) -> Step<'static> {
-    match work {
-        Work::Fork => Step::Fork {
-            parent: 1,
-            child: 9,
-        },
-        Work::Exit => Step::Exit { task: 2 },
-        Work::Connect => connect(9, 1),
-        Work::Attach => Step::Attach { task: 1 },
-        Work::Nr => Step::Nr { pages: PAGES - 1 },
-        Work::Overcommit => Step::Overcommit { pages: 1 },
-        Work::Meminfo => Step::Meminfo,
-        _ => Step::Nodes,
-    }
+/// Those of files.
+pub fn of_files() -> [Row; 9] {
+    let (its, never) = (Slots::Its, Table::Never);
+    [
+        takes(
+            "preallocate S h 0 1\n",
+            its,
+            never,
+            Pool::AndNode,
+            "",
+            "punch S h 0 1\n",
+        ),
+        takes(
+            "punch S p 0 1\n",
+            its,
+            never,
+            Pool::AndNode,
+            "",
+            "preallocate S p 0 1\n",
+        ),
+        takes(
+            "truncate S p 0\n",
+            its,
+            never,
+            Pool::AndNode,
+            "",
+            "preallocate S p 0 1\n",
+        ),
+        takes("read S p 0 0 1\n", its, never, Pool::Never, "", ""),
+        takes("create S n\n", its, never, Pool::Never, "", "unlink S n\n"),
+        takes("unlink S n\n", its, never, Pool::Alone, "create S n\n", ""),
+        takes("stat S p\n", its, never, Pool::Never, "", ""),
+        takes("ls S\n", its, never, Pool::Never, "", ""),
+        takes("df S\n", its, never, Pool::Never, "", ""),
+    ]
 }
 
-// The step of a file or of a mount.
-fn file_step(work: Work, slot: u64) -> Step<'static> {
-    match work {
-        Work::Preallocate => preallocate(slot, b"h", 0, 1),
-        Work::Punch => punch(slot, b"p"),
-        Work::Truncate => Step::Truncate {
-            slot,
-            name: name(b"p"),
-            pages: 0,
-        },
-        Work::Read => Step::Read {
-            slot,
-            name: name(b"p"),
-            index: 0,
-            offset: 0,
-            count: 1,
-        },
-        Work::Create => create(slot, b"n"),
-        Work::Unlink => unlink(slot),
-        Work::Stat => Step::Stat {
-            slot,
-            name: name(b"p"),
-        },
-        Work::Ls => Step::Ls { slot },
-        Work::Df => Step::Df { slot },
-        Work::Mount => mount(slot, b"min_size=1K"),
-        Work::Remount => Step::Remount {
-            slot,
-            options: name(b"min_size=1K"),
-        },
-        Work::Umount => Step::Umount { slot },
-        other => machine_step(other),
-    }
-}
-
-// The step of a map.
-fn map_step(work: Work, slot: u64) -> Step<'static> {
-    match work {
-        Work::Load => Step::Load {
-            task: 1,
-            slot,
-            map: 1,
-            index: 0,
-            offset: 0,
-            count: 1,
-        },
-        Work::Store => Step::Store {
-            task: 1,
-            slot,
-            map: 2,
-            index: 0,
-            offset: 0,
-            bytes: name(b"x"),
-        },
-        Work::Fault => fault(1, slot, 3, 0),
-        Work::Map => map(1, slot, b"p", 1, Sharing::Private, Reserving::Reserve),
-        Work::Unmap => unmap(slot, 2, 2),
-        Work::Anon => Step::Anon {
-            task: 1,
-            pages: 1,
-            sharing: Sharing::Shared,
-            reserving: Reserving::Reserve,
-        },
-        other => file_step(other, slot),
-    }
-}
-
-impl Work {
-    /// What is to be there just before it: a file to unlink, and a page that goes with a mount.
-    pub fn prepare<R: Abort, P: Parts>(self, rt: &R, session: &mut Session<P>, slot: u64) {
-        match self {
-            Work::Unlink => ask!(rt, session; create(slot, b"n")),
-            Work::Umount => {
-                ask!(rt, session; create(slot, b"p"));
-                ask!(rt, session; preallocate(slot, b"p", 0, 1));
-            }
-            _ => {}
-        }
-    }
-
-    /// Does it.
-    pub fn done<P: Parts>(self, session: &mut Session<P>, slot: u64) -> Reply {
-        match self {
-            Work::Queue => queued(session, slot, true),
-            Work::Run => queued(session, slot, false),
-            other => session.call(&map_step(other, slot)),
-        }
-    }
-
-    /// All is as before it.
-    pub fn undo<R: Abort, P: Parts>(self, rt: &R, session: &mut Session<P>, slot: u64) {
-        match self {
-            Work::Store | Work::Queue | Work::Run => {
-                ask!(rt, session; punch(slot, b"a"));
-                ask!(rt, session; unmap(slot, 2, 2));
-                ask!(rt, session; reserved(slot), Ok(Answer::MapNo(2)));
-            }
-            Work::Fault | Work::Preallocate => ask!(rt, session; punch(slot, b"h")),
-            Work::Map | Work::Anon => ask!(rt, session; unmap(slot, 4, 1)),
-            Work::Unmap => ask!(rt, session; reserved(slot), Ok(Answer::MapNo(2))),
-            Work::Punch | Work::Truncate => ask!(rt, session; preallocate(slot, b"p", 0, 1)),
-            Work::Create => ask!(rt, session; unlink(slot)),
-            Work::Mount => ask!(rt, session; Step::Umount { slot }),
-            Work::Remount =>
-                ask!(rt, session; Step::Remount { slot, options: name(b"min_size=0") }),
-            Work::Umount => ask!(rt, session; mount(slot, b"-")),
-            Work::Fork | Work::Connect => ask!(rt, session; Step::Exit { task: 9 }),
-            Work::Exit => copies(rt, session),
-            Work::Nr => nr(rt, session, PAGES),
-            Work::Overcommit => ask!(rt, session; Step::Overcommit { pages: 0 }),
-            _ => {}
-        }
-    }
+/// Those of mounts, of slots 3 and 1, of tasks and of the pool. Task 1 has a child, and task 2 exits.
+pub fn of_others() -> [Row; 11] {
+    let (one, none, never) = (Slots::Only(1), Slots::None, Table::Never);
+    let page = "create S p\npreallocate S p 0 1\n";
+    [
+        takes(
+            "mount S min_size=1K\n",
+            Slots::Only(3),
+            never,
+            Pool::Alone,
+            "",
+            "umount S\n",
+        ),
+        takes(
+            "remount S min_size=1K\n",
+            one,
+            never,
+            Pool::Alone,
+            "",
+            "remount S min_size=0\n",
+        ),
+        takes("umount S\n", one, never, Pool::AndNode, page, "mount S -\n"),
+        takes(
+            "fork 1 9\n",
+            Slots::Each,
+            Table::Always,
+            Pool::Alone,
+            "",
+            "exit 9\n",
+        ),
+        takes(
+            "exit 2\n",
+            Slots::Each,
+            Table::Always,
+            Pool::AndNode,
+            "",
+            COPIES,
+        ),
+        takes(
+            "connect 9 1\n",
+            none,
+            Table::Always,
+            Pool::Never,
+            "",
+            "exit 9\n",
+        ),
+        takes("attach 1\n", none, Table::Traced, Pool::Never, "", ""),
+        takes("nr 47\n", none, never, Pool::Alone, "", "nr 48\n"),
+        takes(
+            "overcommit 1\n",
+            none,
+            never,
+            Pool::Alone,
+            "",
+            "overcommit 0\n",
+        ),
+        takes("meminfo\n", none, never, Pool::Alone, "", ""),
+        takes("nodes\n", none, never, Pool::Alone, "", ""),
+    ]
 }

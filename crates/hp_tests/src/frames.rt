@@ -1,4 +1,4 @@
-//! A stock of two frames of eight bytes, at node 1.
+//! A stock of three frames of eight bytes, at node 1.
 use crate::same::same;
 use hp_frames::{Frame, Stock};
 use std::alloc::AllocError;
@@ -10,10 +10,11 @@ fn holds<R: Abort>(rt: &R, frame: &Frame, bytes: [u8; 8]) {
     same!(rt; frame.bytes(), bytes.as_slice());
 }
 
-// Each frame keeps its bytes, in whatever order the frames come back, and is zeros again only once it is zeroed.
+// Each frame keeps its bytes, in whatever order the frames come back, and is zeros again only once it is zeroed. The stock, of
+// which one was never taken, gives its memory back.
 #[test]
 fn frames_keep_their_bytes(rt: HostRuntime) -> Result<(), AllocError> {
-    let mut stock = Stock::new(rt.alloc(), 1, 2, 8)?;
+    let mut stock = Stock::new(rt.alloc(), 1, 3, 8)?;
     let mut first = stock.take();
     let mut second = stock.take();
     holds(&rt, &first, [0; 8]);
@@ -30,49 +31,6 @@ fn frames_keep_their_bytes(rt: HostRuntime) -> Result<(), AllocError> {
     holds(&rt, &first, [0; 8]);
     stock.put(second);
     stock.put(first);
-    Ok(())
-}
-
-// A copy has all bytes of the other frame, also where it was written further than that one before, and keeps them.
-#[test]
-fn a_frame_is_copied(rt: HostRuntime) -> Result<(), AllocError> {
-    let mut stock = Stock::new(rt.alloc(), 1, 2, 8)?;
-    let mut first = stock.take();
-    let mut second = stock.take();
-    first.write(1, &[1, 2]);
-    second.write(4, &[7, 8, 9]);
-    second.copy_from(&first);
-    first.zero();
-    holds(&rt, &first, [0; 8]);
-    holds(&rt, &second, [0, 1, 2, 0, 0, 0, 0, 0]);
-    stock.put(second);
-    stock.put(first);
-    Ok(())
-}
-
-// A part of a frame is as it was written, also where what was written begins and ends in it, and behind it.
-#[test]
-fn a_part_is_copied(rt: HostRuntime) -> Result<(), AllocError> {
-    let mut stock = Stock::new(rt.alloc(), 1, 1, 8)?;
-    let mut frame = stock.take();
-    frame.write(1, &[1, 2]);
-    let mut part = [7; 3];
-    frame.copy_to(0, &mut part);
-    assert!(rt; part == [0, 1, 2]);
-    frame.copy_to(2, &mut part);
-    assert!(rt; part == [2, 0, 0]);
-    frame.copy_to(3, &mut part);
-    assert!(rt; part == [0; 3]);
-    stock.put(frame);
-    Ok(())
-}
-
-// A stock of which one frame was never taken gives its memory back too.
-#[test]
-fn a_stock_is_dropped(rt: HostRuntime) -> Result<(), AllocError> {
-    let mut stock = Stock::new(rt.alloc(), 1, 2, 8)?;
-    let frame = stock.take();
-    stock.put(frame);
     Ok(())
 }
 

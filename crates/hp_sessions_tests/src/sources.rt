@@ -1,0 +1,88 @@
+//! A source of connections that fails.
+
+use crate::machine::{Runs, Tested};
+use crate::over_tcp::serves;
+use crate::same::same;
+use crate::stage::{SMALL, Scene, Stage, both};
+use crate::talking::same_text;
+use hp_serving::{Connections, Endings};
+use hp_wire::ends::Sink;
+use std::io;
+use std::io::Write;
+use std::sync::atomic::{AtomicU64, Ordering};
+
+// A writer that counts what it takes.
+#[derive(Drop)]
+struct Counts<'a> {
+    bytes: &'a AtomicU64,
+}
+
+impl Write for Counts<'_> {
+    fn write(&mut self, buf: &[u8]) -> io::Result<usize> {
+        let _before = self.bytes.fetch_add(buf.len() as u64, Ordering::SeqCst);
+        Ok(buf.len())
+    }
+
+    fn flush(&mut self) -> io::Result<()> {
+        Ok(())
+    }
+}
+
+impl Sink for Counts<'_> {
+    fn write_some(&mut self, buf: &[u8]) -> io::Result<usize> {
+        self.write(buf)
+    }
+}
+
+// Connections that send these inputs. Behind the last the source fails.
+#[derive(Drop)]
+struct InMemory<'a> {
+    inputs: &'a [&'a [u8]],
+    sent: usize,
+    bytes: &'a AtomicU64,
+}
+
+impl<'a> Connections for InMemory<'a> {
+    type Reader = &'a [u8];
+
+    type Writer = Counts<'a>;
+
+    fn next(&mut self, _ended: &Endings) -> io::Result<Option<(&'a [u8], Counts<'a>)>> {
+        let Some(input) = self.inputs.get(self.sent) else {
+            return Err(io::Error::from(io::ErrorKind::Other));
+        };
+        self.sent += 1;
+        Ok(Some((*input, Counts { bytes: self.bytes })))
+    }
+}
+
+const INPUTS: [&[u8]; 2] = [b"nr 4\nload 1 0 1 0 0 2\nbad\n", b"nr 4\n"];
+
+// The sessions that came before are served, the fault is named, and nothing is printed.
+pub fn failed<R: Runs, M: Tested + Sync>(rt: &R, stage: Stage<'_, M, R>) {
+    let Stage {
+        machine,
+        alloc,
+        draws: _,
+        audit: _,
+    } = stage;
+    let bytes = AtomicU64::new(0);
+    let mut connections = InMemory {
+        inputs: &INPUTS,
+        sent: 0,
+        bytes: &bytes,
+    };
+    let mut machine = Some(machine);
+    let end = serves(rt, alloc, &mut machine, &mut connections, 3).expect(rt, "a machine");
+    if let Some(machine) = machine {
+        machine.abandon();
+    }
+    same!(rt; (end.status, bytes.load(Ordering::SeqCst)), (1, 5 + 19 + 17 + 5));
+    same_text(rt, &end.output, "");
+    same_text(rt, &end.faults, "hugetlbd: network failed\n");
+}
+
+#[test]
+fn a_source_that_fails(rt: HostRuntime) {
+    both(&rt, rt.alloc(), SMALL, Scene::Fails);
+}

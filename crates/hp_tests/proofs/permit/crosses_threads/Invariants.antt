@@ -1,4 +1,0 @@
-use Rattle.hp_tests.proofs.permit.crosses_threads.Given as goal
-
-abbrev pub ghosts-share_out : goal.ghosts-share_out
-ghosts-share_out g a = record { permits = a.blank.name; pages = λ _. 0; claims = λ _. 0; frames = λ _. 0; page_bytes = 0; memory = λ _. record { block = 0; start = 0; end = 0 } }

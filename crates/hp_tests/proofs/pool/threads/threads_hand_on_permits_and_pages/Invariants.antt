@@ -1,5 +1,0 @@
-use Rattle.hp_pool.specs.Ledgers.{names_of}
-use Rattle.hp_tests.proofs.pool.threads.threads_hand_on_permits_and_pages.Given as goal
-
-abbrev pub ghosts-run : goal.ghosts-run
-ghosts-run g a = names_of a.blanks 1024
