@@ -35,8 +35,8 @@ fn run_end(places: &[MapPlace], from: usize) -> usize
     end
 }
 
-/// The maps that a child gets of each file for those of a parent, which are so many and stand at some places in order. All files
-/// are gone over where the places are others, which is never.
+/// The maps that a child gets of each file for those of a parent, which are so many and stand at some places in order. Where the
+/// places are others, all files are gone over.
 pub fn children(
     files: &FileList,
     places: &[MapPlace],
