@@ -170,7 +170,7 @@ FORMS = {
     "unlink": Form("S NAME", "removes a file's name; the file's pages go with its last map"),
     "truncate": Form("S NAME N", "sets a file's length"),
     "punch": Form("S NAME A E", "gives the pages of a range back"),
-    "preallocate": Form("S NAME A E", "gives each index of a range a page, or none if there are too few"),
+    "preallocate": Form("S NAME A E", "gives each index of a range a page; if pages are too few, gives none"),
     "read": Form("S NAME I O K", "reads bytes of a file; a hole reads as zeros", data),
     "ls": Form("S", "lists the files, the oldest first", text),
     "stat": Form("S NAME", "prints a file's length, pages, entered indices and maps", stat),
@@ -186,7 +186,7 @@ FORMS = {
     "overcommit": Form("N", "limits the surplus pages that may be made"),
     "meminfo": Form("", "prints the pool's counts", meminfo),
     "nodes": Form("", "prints each node's counts", nodes),
-    "df": Form("S", "prints limit, minimum, pages in use, limit of files, files", usage),
+    "df": Form("S", "prints limit, minimum, pages used or reserved, limit of files, files", usage),
 }
 VALUES = {command: form.value for command, form in FORMS.items()}
 
