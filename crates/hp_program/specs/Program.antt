@@ -15,7 +15,9 @@ use Rattle.hp_model.specs.declared.fault.RunFault.{RunFault}
 use Rattle.hp_model.specs.declared.fault.RunFault.TheVariants as fault
 use Rattle.hp_serving.specs.Ended as serving
 use Rattle.hp_serving.specs.Ended.{Says}
-use Rattle.hp_serving.specs.Session.{IsOfConnection}
+use Rattle.hp_serving.specs.Tcp.{IsOverTcp}
+use Rattle.hp_serving.specs.declared.entry.Outcome.{Outcome}
+use Rattle.hp_serving.specs.declared.tcp.NotOpened.{NotOpened}
 use Rattle.hp_sessions.specs.Calls.{IsCallAnswered, SessionView}
 use Rattle.hp_serving.specs.declared.host.Closed.{Closed}
 use Rattle.hp_serving.specs.declared.sessions.Ended.{Ended}
@@ -117,10 +119,11 @@ pub record Refuses {W : Type 0} (contents : W → Option (List ℕ)) (is_sure : 
 
 -- ---- a server
 
--- A session that had no receipts yet answered the lines of a connection by its calls, and left this
-abbrev pub IsToldOn : MachineChoice → Serving → FinishedView → Type 0
-IsToldOn c s left =
-    IsOfConnection {S = SessionView} (λ session. session.receipts ≡ []) HasLeft (IsCallAnswered (nat_lt 0 s.room) c.page) (λ session. c.page) left
+-- How a connection ended, as both its ends tell it, which were of one descriptor: a session that had no receipts yet was asked all that
+-- was read, answered it by its calls, and left this; or its client was answered that it has no session; or it could not be opened
+abbrev pub EndedOn : MachineChoice → Serving → Outcome FinishedView NotOpened → Type 0
+EndedOn c s outcome =
+    IsOverTcp {S = SessionView} (λ session. session.receipts ≡ []) HasLeft (IsCallAnswered (nat_lt 0 s.room) c.page) (λ session. c.page) outcome
 
 -- What may be left of the machine that was asked for, once it is closed with what its sessions left. Unless sessions were found
 -- to be missing, their events were one run of it, with the replies that they were told, at whose end all its pages are free. Just
@@ -131,11 +134,11 @@ pub record MayBeLeft (c : MachineChoice) (s : Serving) (left : List FinishedView
   pub run : closed.audit ≢ Some false → WasOneRun (chosen c) left closed.counts
   pub joined : closed.audit ≡ Some true → WasJoined (chosen c) (all_told left) closed.counts
 
--- how the serving of all sessions ended, what these were told and what is left then, what was printed and said, and the status
+-- how the serving of all sessions ended, how each of so many connections did, what is left then, what was printed and said, and the status
 pub record IsServingEnded (c : MachineChoice) (s : Serving) (before after : Option (List ℕ)) (sure : Type 0) (unsaid said : Option (List ℕ))
     (status : ℕ) : Type 0 where
   pub ended : Ended
-  pub leaves : serving.LeavesAsked (IsToldOn c s) (MayBeLeft c s) ended
+  pub leaves : serving.LeavesAsked s.sessions (EndedOn c s) (MayBeLeft c s) ended
   pub ends : status ≡ serving.status_of ended
   pub prints : serving.Prints before after ended
   pub says : serving.SaysEnd sure unsaid said ended

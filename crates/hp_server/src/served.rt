@@ -14,7 +14,7 @@ use hp_history::Places;
 use hp_locked::Gate;
 use hp_model::naming::Naming;
 use hp_order::Rest;
-use hp_serving::{Closed, Machine, serve_session};
+use hp_serving::{Closed, Machine, Refused, serve_session};
 use hp_shared::{Finished, Shared};
 use hp_wire::ends::{Sink, Source};
 use std::alloc::{AllocError, Global};
@@ -53,7 +53,7 @@ impl<N: Naming + Places + Send + Sync, G: Gate + Drop, const K: usize> Machine f
         alloc: Global,
         reader: &mut A,
         writer: &mut B,
-    ) -> (Result<Finished<N, K>, AllocError>, Rest) {
+    ) -> (Result<Finished<N, K>, Refused>, Rest) {
         let host = Waiting {
             rt,
             shared: &self.shared,

@@ -1,3 +1,3 @@
 pub mod Printed
-mod Filing
 mod Tails
+mod Known

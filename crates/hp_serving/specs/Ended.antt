@@ -1,10 +1,12 @@
 -- How the serving of all sessions ends, and what is printed then.
-use Rattle.std.specs.Prelude.{◌≡◌, ◌≤◌, ◌++◌, ℕ, Bool, true, false, List, [], Option, Some, None, codes}
+use Rattle.std.specs.Prelude.{◌≡◌, ◌≤◌, ◌++◌, ℕ, Bool, true, false, IsPermutation, List, [], Option, Some, None, codes, length}
 use Rattle.std.specs.List.{All}
 use Rattle.std.specs.Io.KnownBytes.{Appends}
 use Rattle.hp_model.specs.text.Writing.{meminfo_text}
 use Rattle.hp_model.specs.Profile.{most_frames_in_all, most_page_bytes}
 use Rattle.hp_model.specs.run.Ran.{AppendsFront}
+use Rattle.hp_serving.specs.Connection.{told_of}
+use Rattle.hp_serving.specs.declared.entry.Outcome.{Outcome}
 use Rattle.hp_serving.specs.declared.fault.ServeFault.{ServeFault}
 use Rattle.hp_serving.specs.declared.fault.ServeFault.TheVariants.{Memory, Write, Network}
 use Rattle.hp_serving.specs.declared.host.Closed.{Closed}
@@ -42,15 +44,18 @@ status_of (Printed closed) = status_after closed.audit 0
 status_of (Unprinted closed) = status_after closed.audit 1
 status_of (Failed fault) = 1
 
--- closing a machine left this, and it was given what sessions were told, each as it may be
-abbrev pub Leaves : {T : Type 0} → (T → Type 0) → (List T → Closed → Type 0) → Closed → Type 0
-Leaves {T} may_tell may_leave closed = (told : List T) × All may_tell told × may_leave told closed
+-- So many connections came, and each of them ended as it may. Closing the machine left this, and it was given what the sessions
+-- were told that served them.
+abbrev pub Leaves : {T G : Type 0} → ℕ → (Outcome T G → Type 0) → (List T → Closed → Type 0) → Closed → Type 0
+Leaves {T} {G} sessions may_end may_leave closed =
+    (outcomes : List (Outcome T G)) × (length outcomes ≡ sessions) × All may_end outcomes
+    × (told : List T) × IsPermutation (told_of outcomes) told × may_leave told closed
 
 -- so it was, where it is told what is left of the machine
-abbrev pub LeavesAsked : {T : Type 0} → (T → Type 0) → (List T → Closed → Type 0) → Ended → Type 0
-LeavesAsked may_tell may_leave (Printed closed) = Leaves may_tell may_leave closed
-LeavesAsked may_tell may_leave (Unprinted closed) = Leaves may_tell may_leave closed
-LeavesAsked may_tell may_leave (Failed fault) = Unit {0}
+abbrev pub LeavesAsked : {T G : Type 0} → ℕ → (Outcome T G → Type 0) → (List T → Closed → Type 0) → Ended → Type 0
+LeavesAsked sessions may_end may_leave (Printed closed) = Leaves sessions may_end may_leave closed
+LeavesAsked sessions may_end may_leave (Unprinted closed) = Leaves sessions may_end may_leave closed
+LeavesAsked sessions may_end may_leave (Failed fault) = Unit {0}
 
 -- what was printed: the text of the close, or a front of it where a write failed, and nothing where a fault came before
 abbrev pub Prints : Option (List ℕ) → Option (List ℕ) → Ended → Type 0

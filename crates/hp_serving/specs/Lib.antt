@@ -1,3 +1,5 @@
 pub mod Ended
 pub mod Session
 pub mod FirstLine
+pub mod Connection
+pub mod Tcp

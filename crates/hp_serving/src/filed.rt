@@ -1,24 +1,25 @@
-//! What sessions were told, kept until the machine is closed.
-ghost use Rattle.std.specs.Prelude.{◌≡◌, [], All};
-ghost use Rattle.hp_serving.specs.Session.{IsOfConnection};
+//! What became of connections, kept until the machine is closed.
+ghost use Rattle.std.specs.Prelude.{◌≡◌, length};
 
+use crate::connection::Spent;
+use crate::entry::Entry;
 use crate::host::Machine;
-use hp_order::{Ordered, RankedLock};
+use crate::right::Right;
+use hp_order::Ordered;
+use hp_wire::ends::{Sink, Source};
+use std::alloc::{AllocError, Global};
+use std::sync::ledger::{Ledger, Share};
 
-/// What a session was told, on which a connection was served.
+/// How connections ended, in the order in which they did. All of these were owed.
 #[derive(Drop)]
-pub struct Filed<M: Machine> {
-    pub told: M::Told,
-    pub ghost served: { IsOfConnection M.is_opened M.was_told M.may_answer M.page told },
+pub(crate) struct Filed<A: Source, B: Sink, M: Machine, G, L: Ledger> {
+    list: Vec<Entry<A, B, M, G>>,
+    share: Share<L>,
+    ghost one: { share.parts ≡ 1 },
+    ghost counted: { share.amount ≡ length list.items },
 }
 
-/// Where it is filed what the session of a number was told.
-#[derive(Drop)]
-pub struct Place<M: Machine> {
-    pub(crate) filed: Option<Filed<M>>,
-}
-
-impl<M: Machine> Ordered for Place<M> {
+impl<A: Source, B: Sink, M: Machine, G, L: Ledger> Ordered for Filed<A, B, M, G, L> {
     ghost rank = { 1 };
 
     #[inline(always)]
@@ -27,19 +28,34 @@ impl<M: Machine> Ordered for Place<M> {
     }
 }
 
-/// What the sessions were told, in the order of the places. The list has room for all.
-pub fn all_told<M: Machine>(
-    filed: Vec<RankedLock<Place<M>>>,
-    mut told: Vec<M::Told>,
-) -> Vec<M::Told>
-    requires { told.items ≡ [] }
-    ensures { All (IsOfConnection M.is_opened M.was_told M.may_answer M.page) result.items }
-{
-    for lock in filed {
-        let Place { filed } = lock.into_inner();
-        if let Some(one) = filed {
-            let _ = told.push(one.told);
-        }
+impl<A: Source, B: Sink, M: Machine, G: Drop, L: Ledger> Filed<A, B, M, G, L> {
+    /// None has ended. There is room for so many.
+    pub(crate) fn new(
+        alloc: Global,
+        room: usize,
+        share: Share<L>,
+    ) -> Result<Filed<A, B, M, G, L>, AllocError>
+        requires one { share.parts ≡ 1 }
+        requires none { share.amount ≡ 0 }
+    {
+        let list = Vec::with_capacity(alloc, room)?;
+        Ok(Filed { list, share })
     }
-    told
+
+    /// Files what became of a connection, and gives the right back that it was taken by.
+    pub(crate) fn file(&mut self, spent: Spent<A, B, M, G, L>) -> Result<Right<L>, AllocError> {
+        let Filed { list, share } = self;
+        let (entry, mut theirs) = spent.into_parts();
+        list.push(entry)?;
+        theirs.transfer(share, 1);
+        Ok(Right::new(theirs))
+    }
+
+    pub(crate) fn into_parts(self) -> (Vec<Entry<A, B, M, G>>, Share<L>)
+        ensures one { result.1.parts ≡ 1 }
+        ensures counted { result.1.amount ≡ length result.0.items }
+    {
+        let Filed { list, share } = self;
+        (list, share)
+    }
 }

@@ -7,6 +7,7 @@ ghost use Rattle.hp_serving.specs.Ended.{IsOfMachine};
 ghost use Rattle.hp_serving.specs.Session.{IsServed};
 ghost use Rattle.hp_serving.specs.declared.host.Closed.{Closed as TheClosed};
 
+use crate::session::Refused;
 use hp_model::answer::Counts;
 use hp_model::service::Service;
 use hp_order::Rest;
@@ -84,10 +85,14 @@ pub trait Machine {
         alloc: Global,
         reader: &mut A,
         writer: &mut B,
-    ) -> (Result<Self::Told, AllocError>, Rest)
+    ) -> (Result<Self::Told, Refused>, Rest)
         ensures served { IfOk result.0 (IsServed is_opened was_told may_answer page
-            (A.remaining reader.old) (A.remaining reader.new)
-            (B.contents writer.old) (B.contents writer.new)) }
+            (A.remaining reader.old, A.heard reader.old)
+            (A.remaining reader.new, A.heard reader.new)
+            (B.contents writer.old) (B.contents writer.new)
+            (A.is_over reader.new) (A.has_failed reader.new) (B.has_failed writer.new)) }
+        ensures reads_of { A.connection reader.new ≡ A.connection reader.old }
+        ensures writes_to { B.connection writer.new ≡ B.connection writer.old }
         ensures unread { OnErr result.0 (reader.new ≡ reader.old) }
         ensures unwritten { OnErr result.0 (writer.new ≡ writer.old) };
 

@@ -1,23 +1,28 @@
 //! Sessions over connections, served by several workers on one machine.
 #![tactic(auto)]
 
+mod accepted;
+mod connection;
 mod connections;
 mod endings;
+mod entry;
 mod fault;
 mod filed;
 mod first_line;
 mod host;
+mod right;
 mod serving;
 mod session;
 mod sessions;
+mod taking;
 mod tcp;
 
 pub use connections::Connections;
 pub use endings::Endings;
+pub use entry::{Entry, Outcome};
 pub use fault::ServeFault;
-pub use filed::Filed;
 pub use host::{Closed, Host, Machine};
-pub use serving::serve;
-pub use session::serve_session;
+pub use serving::{Stopped, serve};
+pub use session::{Refused, serve_session};
 pub use sessions::{Ended, report, serve_sessions};
-pub use tcp::{Incoming, Listening, Outgoing};
+pub use tcp::{Incoming, Listening, NotOpened, Outgoing};

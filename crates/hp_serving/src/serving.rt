@@ -1,225 +1,508 @@
 //! Workers that serve accepted connections.
-ghost use Rattle.std.specs.Prelude.{◌≡◌, ◌≤◌, IfOk, OnErr};
-ghost use Rattle.hp_serving.specs.Session.{IsServed};
+ghost use Rattle.std.specs.Prelude.{◌≡◌, ◌+◌, ◌<◌, IfOk, OnOk, length, vec_len};
 
+use crate::accepted::Accepted;
+use crate::connection::{Connection, Ends, Spent};
 use crate::connections::Connections;
 use crate::endings::{Endings, Teller, pair};
+use crate::entry::Entry;
 use crate::fault::ServeFault;
-use crate::filed::{Filed, Place};
+use crate::filed::Filed;
 use crate::host::Machine;
+use crate::right::Right;
+use crate::taking::{Open, Plan, Taken, Taker};
 use crossbeam_channel::{Receiver, Sender};
 use hp_order::{RankedLock, Rest, hold, let_go, receive};
 use hp_wire::ends::{Sink, Source};
 use std::alloc::{AllocError, Global};
+use std::marker::Brand;
 use std::sync::Wait;
+use std::sync::ledger::{Blank, Book, Ledger, Share};
 use std::thread;
-use std::thread::{Builder, Scope, Threads};
+use std::thread::{Builder, JoinHandle, Scope, Threads};
 
 // The bytes of a worker's stack, of which lines at their limits touch 28 KB. The system's own size, 8 MB as a rule, would count
 // for each worker where addresses are limited.
 const STACK: usize = 256 * 1024;
 
-/// Serves as many sessions as there are places, on so many workers, and files what each was told in the place of the
-/// number that it got. A worker that can't be started is left out. The connections are announced once one runs.
+/// Why not all connections were served.
+#[derive(Drop)]
+pub enum Stopped<F> {
+    /// Memory was refused, or no worker could be started.
+    Memory,
+    /// The connections could not be announced.
+    Write,
+    /// The source failed, for this.
+    Failed(F),
+}
+
+impl<F> Stopped<F> {
+    /// What is said of it.
+    pub fn fault(&self) -> ServeFault {
+        match self {
+            Stopped::Memory => ServeFault::Memory,
+            Stopped::Write => ServeFault::Write,
+            Stopped::Failed(_) => ServeFault::Network,
+        }
+    }
+}
+
+// What workers share.
+#[derive(Drop)]
+struct Hall<'x, R, A: Source, B: Sink, M: Machine, G, L: Ledger> {
+    rt: &'x R,
+    alloc: Global,
+    machine: &'x M,
+    rights: &'x Receiver<Right<L>, Global>,
+    jobs: &'x Receiver<(), Global>,
+    ends: &'x Teller,
+    accepted: &'x RankedLock<Accepted<A, B, L>>,
+    filed: &'x RankedLock<Filed<A, B, M, G, L>>,
+}
+
+/// Takes so many connections, and serves them by so many workers: each is served, or answered that it has no session, or it could not be
+/// opened. A worker that can't be started is left out. The connections are announced once one runs.
 ///
 /// It returns when all sessions that were handed out have ended, however these ended. `Memory` says that no worker
-/// could be started or no queue made, and `Write` that the connections could not be announced: then no session was
-/// handed out. `Network` says that the source failed.
+/// could be started, or no queue or list made, and `Write` that the connections could not be announced: then no session was
+/// handed out. `Failed` says that the source failed.
 pub fn serve<R: Threads + Wait + Sync, M: Machine + Sync, C: Connections>(
     rt: &R,
     alloc: Global,
     machine: &M,
     connections: &mut C,
-    workers: usize,
-    filed: &[RankedLock<Place<M>>],
-) -> Result<(), ServeFault> {
-    let Ok((to, from)) = crossbeam_channel::bounded(alloc, workers.max(1)) else {
-        return Err(ServeFault::Memory);
-    };
-    let Ok((ends, ended)) = pair(alloc) else {
-        return Err(ServeFault::Memory);
-    };
-    run(
+    sessions: usize,
+    workers: u32,
+) -> Result<Vec<Entry<C::Reader, C::Writer, M, C::Gone>>, Stopped<C::Fault>>
+    ensures { IfOk result (λ entries. length entries.items ≡ sessions) }
+{
+    let blank = Blank::new(u64::from(workers) + 3);
+    serve_named::<R, M, C, Brand, Brand>(
         rt,
         alloc,
         machine,
         connections,
+        sessions,
         workers,
-        filed,
-        &from,
-        to,
-        &ends,
-        &ended,
+        blank,
     )
 }
 
-fn run<'x, R: Threads + Wait + Sync, M: Machine + Sync, C: Connections>(
-    rt: &'x R,
+fn serve_named<
+    R: Threads + Wait + Sync,
+    M: Machine + Sync,
+    C: Connections,
+    L: Ledger + Send + Sync,
+    P: Plan,
+>(
+    rt: &R,
     alloc: Global,
-    machine: &'x M,
+    machine: &M,
     connections: &mut C,
-    workers: usize,
-    filed: &'x [RankedLock<Place<M>>],
-    jobs: &'x Receiver<(C::Reader, C::Writer), Global>,
-    to: Sender<(C::Reader, C::Writer), Global>,
-    ends: &'x Teller,
-    ended: &'x Endings,
-) -> Result<(), ServeFault> {
-    thread::scope(thread::scope_env(), rt, |scope| {
-        if start_workers(scope, rt, alloc, machine, workers, jobs, ends, filed) {
-            hand_out(rt, connections, to, ended, filed.len())
-        } else {
-            Err(ServeFault::Memory)
-        }
+    sessions: usize,
+    workers: u32,
+    blank: Blank,
+) -> Result<Vec<Entry<C::Reader, C::Writer, M, C::Gone>>, Stopped<C::Fault>>
+    requires name { blank.name ≡ L.name }
+    requires parts { blank.parts ≡ L.parts }
+    requires rights { blank.parts ≡ workers + 3 }
+    requires planned { sessions ≡ P.sessions }
+    requires all { blank.parts ≡ P.rights }
+    ensures { IfOk result (λ entries. length entries.items ≡ sessions) }
+{
+    let (book, mut share) = blank.open::<L>();
+    let room = workers as usize;
+    let Ok(accepted) = Accepted::<C::Reader, C::Writer, L>::new(
+        alloc,
+        2 * room + 1,
+        share.split_off(1, 0),
+    ) else {
+        return Err(Stopped::Memory);
+    };
+    let Ok(filed) = Filed::<C::Reader, C::Writer, M, C::Gone, L>::new(
+        alloc,
+        sessions,
+        share.split_off(1, 0),
+    ) else {
+        return Err(Stopped::Memory);
+    };
+    let taker = Taker::<L, P>::new(book, share, workers, sessions);
+    let accepted = RankedLock::new(accepted);
+    let filed = RankedLock::new(filed);
+    let taken = serve_on(rt, alloc, machine, connections, &accepted, &filed, taker)?;
+    let (accepted, filed) = (accepted.into_inner(), filed.into_inner());
+    match end(rt, alloc, machine, accepted, filed, taken) {
+        Ok(entries) => Ok(entries),
+        Err(AllocError) => Err(Stopped::Memory),
+    }
+}
+
+// Takes and serves all connections by workers.
+fn serve_on<
+    R: Threads + Wait + Sync,
+    M: Machine + Sync,
+    C: Connections,
+    L: Ledger + Send + Sync,
+    P: Plan,
+>(
+    rt: &R,
+    alloc: Global,
+    machine: &M,
+    connections: &mut C,
+    accepted: &RankedLock<Accepted<C::Reader, C::Writer, L>>,
+    filed: &RankedLock<Filed<C::Reader, C::Writer, M, C::Gone, L>>,
+    taker: Taker<L, P>,
+) -> Result<Taken<L, P>, Stopped<C::Fault>> {
+    let room = (taker.workers as usize).max(1);
+    let Ok((rights_to, rights)) = crossbeam_channel::bounded(alloc, room) else {
+        return Err(Stopped::Memory);
+    };
+    let Ok((to, jobs)) = crossbeam_channel::bounded(alloc, room) else {
+        return Err(Stopped::Memory);
+    };
+    let Ok((ends, ended)) = pair(alloc) else {
+        return Err(Stopped::Memory);
+    };
+    let hall = Hall {
+        rt,
+        alloc,
+        machine,
+        rights: &rights,
+        jobs: &jobs,
+        ends: &ends,
+        accepted,
+        filed,
+    };
+    run(&hall, connections, rights_to, to, &ended, taker)
+}
+
+fn run<
+    'x,
+    R: Threads + Wait + Sync,
+    M: Machine + Sync,
+    C: Connections,
+    L: Ledger + Send + Sync,
+    P: Plan,
+>(
+    hall: &'x Hall<'x, R, C::Reader, C::Writer, M, C::Gone, L>,
+    connections: &mut C,
+    rights_to: Sender<Right<L>, Global>,
+    to: Sender<(), Global>,
+    ended: &Endings,
+    taker: Taker<L, P>,
+) -> Result<Taken<L, P>, Stopped<C::Fault>> {
+    thread::scope(thread::scope_env(), hall.rt, |scope| {
+        take_all(scope, hall, connections, rights_to, to, ended, taker)
     })
 }
 
-// Starts so many workers, and says whether one could be.
+// Starts the workers, takes all connections, and waits for all who serve them.
+fn take_all<
+    'x,
+    E,
+    R: Threads + Wait + Sync,
+    M: Machine + Sync,
+    C: Connections,
+    L: Ledger + Send + Sync,
+    P: Plan,
+>(
+    scope: &Scope<'x, E>,
+    hall: &'x Hall<'x, R, C::Reader, C::Writer, M, C::Gone, L>,
+    connections: &mut C,
+    rights_to: Sender<Right<L>, Global>,
+    to: Sender<(), Global>,
+    ended: &Endings,
+    taker: Taker<L, P>,
+) -> Result<Taken<L, P>, Stopped<C::Fault>> {
+    let (mut book, share, workers, sessions) = taker.into_parts();
+    let Ok((handles, mut share)) = start_workers(scope, hall, workers, &rights_to, share) else {
+        return Err(Stopped::Memory);
+    };
+    if handles.is_empty() {
+        return Err(Stopped::Memory);
+    }
+    if connections.announce().is_err() {
+        return Err(Stopped::Write);
+    }
+    let right = Right::new(share.split_off(1, 0));
+    let right = hand_out(hall, connections, &to, ended, sessions, &mut book, right)?;
+    drop(to);
+    share.merge(right.into_share());
+    match join_all(hall.rt, handles, share) {
+        Ok(share) => Ok(Taken::new(book, share)),
+        Err(AllocError) => Err(Stopped::Memory),
+    }
+}
+
+// A worker that was started. It ends with its right.
+type Worker<L> = JoinHandle<Result<Right<L>, AllocError>>;
+
+// Starts so many workers, as far as they can be started, and gives each a right.
 fn start_workers<
     'x,
     E,
     R: Wait + Sync,
-    M: Machine + Sync,
     A: Source + Drop + Send,
     B: Sink + Drop + Send,
+    M: Machine + Sync,
+    G: Drop + Send,
+    L: Ledger + Send + Sync,
 >(
     scope: &Scope<'x, E>,
-    rt: &'x R,
-    alloc: Global,
-    machine: &'x M,
-    workers: usize,
-    jobs: &'x Receiver<(A, B), Global>,
-    ends: &'x Teller,
-    filed: &'x [RankedLock<Place<M>>],
-) -> bool {
-    let mut started = false;
+    hall: &'x Hall<'x, R, A, B, M, G, L>,
+    workers: u32,
+    rights_to: &Sender<Right<L>, Global>,
+    mut share: Share<L>,
+) -> Result<(Vec<Worker<L>>, Share<L>), AllocError>
+    requires many { share.parts ≡ workers + 1 }
+    requires none { share.amount ≡ 0 }
+    ensures rights { IfOk result (λ r. r.1.parts + vec_len r.0 ≡ workers + 1) }
+    ensures own { IfOk result (λ r. 0 < r.1.parts) }
+    ensures none { IfOk result (λ r. r.1.amount ≡ 0) }
+{
+    let mut handles = Vec::with_capacity(hall.alloc, workers as usize)?;
     for _ in 0..workers {
         let worker = Builder::new()
             .stack_size(STACK)
-            .spawn_scoped(scope, move || {
-                let _ended = work(rt, Rest::begin(), alloc, machine, jobs, ends, filed);
-            });
-        if worker.is_ok() {
-            started = true;
+            .spawn_scoped(scope, move || work(hall));
+        if let Ok(handle) = worker {
+            handles.push_reserved(handle);
+            let right = Right::new(share.split_off(1, 0));
+            if rights_to.send(hall.rt, right).is_err() {
+                return Err(AllocError);
+            }
         }
     }
-    started
+    Ok((handles, share))
 }
 
-// Announces the connections, and hands out so many; fewer only where the source fails.
-fn hand_out<R: Wait, C: Connections>(
+// Waits for the workers, and takes their rights back.
+fn join_all<R: Threads, L: Ledger>(
     rt: &R,
+    handles: Vec<Worker<L>>,
+    mut share: Share<L>,
+) -> Result<Share<L>, AllocError>
+    requires none { share.amount ≡ 0 }
+    ensures rights { IfOk result (λ all. all.parts ≡ share.parts + vec_len handles) }
+    ensures none { IfOk result (λ all. all.amount ≡ 0) }
+{
+    let mut rest = handles.into_iter();
+    while let Some(handle) = rest.next() {
+        let right = handle.join(rt)?;
+        share.merge(right.into_share());
+    }
+    Ok(share)
+}
+
+// Takes so many connections. Those that can be opened wait for a worker.
+fn hand_out<R: Wait, C: Connections, M: Machine, L: Ledger>(
+    hall: &Hall<'_, R, C::Reader, C::Writer, M, C::Gone, L>,
     connections: &mut C,
-    to: Sender<(C::Reader, C::Writer), Global>,
+    to: &Sender<(), Global>,
     ended: &Endings,
     count: usize,
-) -> Result<(), ServeFault> {
-    if connections.announce().is_err() {
-        return Err(ServeFault::Write);
-    }
+    book: &mut Book<L>,
+    right: Right<L>,
+) -> Result<Right<L>, Stopped<C::Fault>>
+    ensures { OnOk result (book.new.total ≡ book.old.total + count) }
+{
+    let mut rest = Rest::begin();
+    let mut right = right;
     for _ in 0..count {
-        match connections.next(ended) {
-            Ok(Some(connection)) => {
-                if to.send(rt, connection).is_err() {
-                    return Err(ServeFault::Network);
-                }
+        let now = match connections.next(&rest, ended) {
+            Ok(Ok((reader, writer))) => {
+                let ends = Ends::new(reader, writer);
+                let connection = Connection::came(ends, right, book);
+                put(hall, rest, to, connection)
             }
-            Ok(None) => {}
-            Err(_) => return Err(ServeFault::Network),
-        }
+            Ok(Err(gone)) => file(hall, rest, Spent::gone(gone, right, book)),
+            Err(fault) => return Err(Stopped::Failed(fault)),
+        };
+        let Ok((again, back)) = now else {
+            return Err(Stopped::Memory);
+        };
+        rest = again;
+        right = back;
     }
-    Ok(())
+    Ok(right)
+}
+
+// Lets a connection wait for a worker. Where there is no memory for it, it is served at once.
+fn put<
+    R: Wait,
+    A: Source + Drop,
+    B: Sink + Drop,
+    M: Machine,
+    G: Drop,
+    L: Ledger,
+>(
+    hall: &Hall<'_, R, A, B, M, G, L>,
+    rest: Rest,
+    to: &Sender<(), Global>,
+    connection: Connection<A, B, L>,
+) -> Result<(Rest, Right<L>), AllocError> {
+    let mut turn = rest.into_turn();
+    let mut accepted = hold(&mut turn, hall.accepted, hall.rt);
+    let put = accepted.put(connection);
+    let_go(&mut turn, accepted);
+    let rest = Rest::of(turn);
+    match put {
+        Ok(right) => {
+            send(&rest, hall.rt, to);
+            Ok((rest, right))
+        }
+        Err(connection) => serve_one(hall, rest, connection),
+    }
+}
+
+// Tells one who waits that a connection came. The thread holds nothing meanwhile. Where nobody is left to be told, that waits till the end.
+fn send<R: Wait>(_rest: &Rest, rt: &R, to: &Sender<(), Global>) {
+    let _sent = to.send(rt, ());
 }
 
 // Serves connections until no more come.
-fn work<R: Wait, M: Machine, A: Source + Drop, B: Sink + Drop>(
-    rt: &R,
-    rest: Rest,
-    alloc: Global,
-    machine: &M,
-    jobs: &Receiver<(A, B), Global>,
-    ends: &Teller,
-    filed: &[RankedLock<Place<M>>],
-) -> Rest {
-    let mut rest = rest;
-    for _ in rt.forever() {
-        let Ok((reader, writer)) = receive(&rest, rt, jobs) else {
-            return rest;
+fn work<
+    R: Wait,
+    A: Source + Drop,
+    B: Sink + Drop,
+    M: Machine,
+    G: Drop,
+    L: Ledger,
+>(
+    hall: &Hall<'_, R, A, B, M, G, L>,
+) -> Result<Right<L>, AllocError> {
+    let mut rest = Rest::begin();
+    let Ok(mut right) = receive(&rest, hall.rt, hall.rights) else {
+        return Err(AllocError);
+    };
+    for _ in hall.rt.forever() {
+        let Ok(()) = receive(&rest, hall.rt, hall.jobs) else {
+            return Ok(right);
         };
-        rest = serve_and_file(rt, rest, alloc, machine, reader, writer, filed);
-        ends.tell(rt);
+        (rest, right) = serve_next(hall, rest, right)?;
+        hall.ends.tell(hall.rt);
     }
     unreachable!()
 }
 
-// Serves one connection, which has ended after it.
-fn serve_and_file<R: Wait, M: Machine, A: Source + Drop, B: Sink + Drop>(
-    rt: &R,
+// Serves the connection that has waited longest, if there is one.
+fn serve_next<
+    R: Wait,
+    A: Source + Drop,
+    B: Sink + Drop,
+    M: Machine,
+    G: Drop,
+    L: Ledger,
+>(
+    hall: &Hall<'_, R, A, B, M, G, L>,
     rest: Rest,
+    right: Right<L>,
+) -> Result<(Rest, Right<L>), AllocError> {
+    let mut turn = rest.into_turn();
+    let mut accepted = hold(&mut turn, hall.accepted, hall.rt);
+    let taken = accepted.take(right);
+    let_go(&mut turn, accepted);
+    let rest = Rest::of(turn);
+    match taken {
+        Ok(connection) => serve_one(hall, rest, connection),
+        Err(right) => Ok((rest, right)),
+    }
+}
+
+// Serves a connection, and files what became of it.
+fn serve_one<
+    R: Wait,
+    A: Source + Drop,
+    B: Sink + Drop,
+    M: Machine,
+    G: Drop,
+    L: Ledger,
+>(
+    hall: &Hall<'_, R, A, B, M, G, L>,
+    rest: Rest,
+    connection: Connection<A, B, L>,
+) -> Result<(Rest, Right<L>), AllocError> {
+    let (spent, rest) = connection.serve(hall.rt, rest, hall.alloc, hall.machine);
+    file(hall, rest, spent)
+}
+
+fn file<
+    R: Wait,
+    A: Source + Drop,
+    B: Sink + Drop,
+    M: Machine,
+    G: Drop,
+    L: Ledger,
+>(
+    hall: &Hall<'_, R, A, B, M, G, L>,
+    rest: Rest,
+    spent: Spent<A, B, M, G, L>,
+) -> Result<(Rest, Right<L>), AllocError> {
+    let mut turn = rest.into_turn();
+    let mut filed = hold(&mut turn, hall.filed, hall.rt);
+    let right = filed.file(spent);
+    let_go(&mut turn, filed);
+    Ok((Rest::of(turn), right?))
+}
+
+// Serves the connections that nobody took, and closes the count: all that came have ended.
+fn end<
+    R: Wait,
+    A: Source + Drop,
+    B: Sink + Drop,
+    M: Machine,
+    G: Drop,
+    L: Ledger,
+    P: Plan,
+>(
+    rt: &R,
     alloc: Global,
     machine: &M,
-    mut reader: A,
-    mut writer: B,
-    filed: &[RankedLock<Place<M>>],
-) -> Rest {
-    let (served, rest) = serve_one(rt, rest, alloc, machine, &mut reader, &mut writer);
-    match served {
-        Ok(one) => file(rt, rest, one, filed),
-        Err(AllocError) => {
-            answer_no_session(&mut reader, &mut writer);
-            rest
+    accepted: Accepted<A, B, L>,
+    filed: Filed<A, B, M, G, L>,
+    taken: Taken<L, P>,
+) -> Result<Vec<Entry<A, B, M, G>>, AllocError>
+    requires { L.parts ≡ P.rights }
+    ensures { IfOk result (λ entries. length entries.items ≡ P.sessions) }
+{
+    let mut rest = Rest::begin();
+    let mut accepted = accepted;
+    let mut filed = filed;
+    let (open, mut right) = taken.with_right();
+    for _ in rt.forever() {
+        match accepted.take(right) {
+            Ok(connection) => {
+                let (spent, again) = connection.serve(rt, rest, alloc, machine);
+                rest = again;
+                right = filed.file(spent)?;
+            }
+            Err(back) => return Ok(close(accepted, filed, open, back)),
         }
     }
+    unreachable!()
 }
 
-// What a client gets whose session was refused memory as it opened.
-const NO_MEMORY: &[u8] = b"error 1 OutOfMemory\n";
-
-// The reply to what comes first, whatever that is, of a client that has no session. What it sent is read, so that the end of its
-// connection is no reset, in which the reply could be lost.
-fn answer_no_session<A: Source, B: Sink>(reader: &mut A, writer: &mut B) {
-    let mut come = [0; 1024];
-    let _read = reader.read_some(&mut come);
-    let _sent = writer.write_some(NO_MEMORY);
-}
-
-// Serves one connection to its end, whatever that is. It is refused only where its session is, and then nothing is read
-// or written.
-fn serve_one<R: Wait, M: Machine, A: Source, B: Sink>(
-    rt: &R,
-    rest: Rest,
-    alloc: Global,
-    machine: &M,
-    reader: &mut A,
-    writer: &mut B,
-) -> (Result<Filed<M>, AllocError>, Rest)
-    ensures served { IfOk result.0 (λ one. IsServed M.is_opened M.was_told M.may_answer M.page
-        (A.remaining reader.old) (A.remaining reader.new)
-        (B.contents writer.old) (B.contents writer.new) one.told) }
-    ensures unread { OnErr result.0 (reader.new ≡ reader.old) }
-    ensures unwritten { OnErr result.0 (writer.new ≡ writer.old) }
+// All that came have ended, as the rights say that are back.
+fn close<
+    A: Source + Drop,
+    B: Sink + Drop,
+    M: Machine,
+    G: Drop,
+    L: Ledger,
+    P: Plan,
+>(
+    accepted: Accepted<A, B, L>,
+    filed: Filed<A, B, M, G, L>,
+    open: Open<L, P>,
+    right: Right<L>,
+) -> Vec<Entry<A, B, M, G>>
+    requires none { length accepted.waiting.items ≡ 0 }
+    requires rights { L.parts ≡ P.rights }
+    ensures { length result.items ≡ P.sessions }
 {
-    let (told, rest) = machine.serve_one(rt, rest, alloc, reader, writer);
-    match told {
-        Ok(told) => (Ok(Filed { told }), rest),
-        Err(refused) => (Err(refused), rest),
-    }
-}
-
-// Files it in the place of its session's number. What has no place is lost, and the machine finds that out when it is closed.
-fn file<R: Wait, M: Machine>(
-    rt: &R,
-    rest: Rest,
-    one: Filed<M>,
-    filed: &[RankedLock<Place<M>>],
-) -> Rest {
-    let Some(lock) = filed.get(M::number(&one.told)) else {
-        return rest;
-    };
-    let mut turn = rest.into_turn();
-    let mut value = hold(&mut turn, lock, rt);
-    let place: &mut Place<M> = &mut value;
-    place.filed = Some(one);
-    let_go(&mut turn, value);
-    Rest::of(turn)
+    let (list, mut share) = filed.into_parts();
+    share.merge(accepted.into_share());
+    share.merge(right.into_share());
+    open.close(share);
+    list
 }

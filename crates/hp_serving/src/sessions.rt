@@ -1,18 +1,17 @@
 //! All sessions of a machine, from its first to its close.
-ghost use Rattle.std.specs.Prelude.{◌≡◌, ◌≤◌, [], ◌++◌, vec_capacity, IfOk, IfErr, IfSome, IsOk, OnOk};
+ghost use Rattle.std.specs.Prelude.{◌≡◌, ◌≤◌, [], ◌++◌, map, vec_capacity, vec_len, All, IfOk, IfErr, IfSome, IsOk, IsPermutation, OnOk};
 ghost use Rattle.hp_wire.specs.Sent.{Writes, WritesFront};
 ghost use Rattle.hp_serving.specs.Ended.{IsOfMachine, LeavesAsked, Prints, Says, SaysEnd, line_of_fault, status_after, status_of, text_of_audit, text_of_close};
-ghost use Rattle.hp_serving.specs.Session.{IsOfConnection};
+ghost use Rattle.hp_serving.specs.Connection.{IsClosed, told_of};
 ghost use Rattle.hp_serving.specs.declared.sessions.Ended.{Ended as TheEnd};
 
 use crate::connections::Connections;
 use crate::fault::ServeFault;
-use crate::filed::{Place, all_told};
+use crate::entry::Entry;
 use crate::host::{Closed, Machine};
 use crate::serving::serve;
-use hp_order::RankedLock;
 use hp_text::meminfo::meminfo_text;
-use hp_wire::ends::{Sink, write_whole};
+use hp_wire::ends::{Sink, Source, write_whole};
 use hp_wire::fault::RunFault;
 use std::alloc::{AllocError, Global};
 use std::io::Write;
@@ -30,7 +29,11 @@ pub enum Ended {
     Failed(ServeFault),
 }
 
-/// Serves so many sessions on the machine by so many workers, closes it, and gives the status that a process ends with.
+/// Serves so many connections on the machine by so many workers, closes it, and gives the status that a process ends with.
+///
+/// All of these came. Of each it is known how it ended, by both its ends as they were when they were closed, which are of one
+/// connection: what was read is what its session was asked, what was written are the lines of that session's replies, or a front of
+/// them where a write failed; or it got the one line that says that there is no session; or it could not be opened.
 ///
 /// After the last session `output` gets `audit ok` or `audit failed`, where the machine keeps trails, and the six lines
 /// of meminfo, and nothing before. A fault is named on `faults`. The status is 0; 1 after a
@@ -47,12 +50,14 @@ pub fn serve_sessions<
     machine: M,
     connections: &mut C,
     sessions: usize,
-    workers: usize,
+    workers: u32,
     output: &mut W,
     faults: &mut E,
 ) -> u8
     ensures { (ended : TheEnd)
-        × LeavesAsked (IsOfConnection M.is_opened M.was_told M.may_answer M.page)
+        × LeavesAsked {G = C.Gone} sessions (IsClosed M.is_opened M.was_told M.may_answer M.page
+        C.Reader.connection C.Reader.heard C.Reader.is_over C.Reader.has_failed
+        C.Writer.connection C.Writer.contents C.Writer.has_failed)
         (M.may_leave machine) ended
         × (result ≡ status_of ended)
         × Prints (W.contents output.old) (W.contents output.new) ended
@@ -60,7 +65,7 @@ pub fn serve_sessions<
 {
     match rooms::<M>(alloc, sessions) {
         Ok(rooms) => {
-            let ended = run(rt, alloc, machine, connections, workers, rooms, output);
+            let ended = run(rt, alloc, machine, connections, sessions, workers, rooms, output);
             report(ended, faults)
         }
         Err(AllocError) => {
@@ -70,33 +75,40 @@ pub fn serve_sessions<
     }
 }
 
-// Places for what the sessions are told, a list of it, and a text.
-type Rooms<M> = (
-    Vec<RankedLock<Place<M>>>,
-    Vec<<M as Machine>::Told>,
-    Vec<u8>,
-);
+// A list of what the sessions are told, and a text.
+type Rooms<M> = (Vec<<M as Machine>::Told>, Vec<u8>);
 
 // What is asked for before the first session.
 fn rooms<M: Machine>(alloc: Global, sessions: usize) -> Result<Rooms<M>, AllocError>
-    ensures { IfOk result (λ rooms. (rooms.1.items ≡ [])
-        × (rooms.2.items ≡ []) × (256 ≤ vec_capacity rooms.2)) }
+    ensures { IfOk result (λ rooms. (rooms.0.items ≡ []) × (sessions ≤ vec_capacity rooms.0)
+        × (rooms.1.items ≡ []) × (256 ≤ vec_capacity rooms.1)) }
 {
     let text = Vec::with_capacity(alloc, 256)?;
     let told = Vec::with_capacity(alloc, sessions)?;
-    let filed = places(alloc, sessions)?;
-    Ok((filed, told, text))
+    Ok((told, text))
 }
 
-fn places<M: Machine>(
-    alloc: Global,
-    sessions: usize,
-) -> Result<Vec<RankedLock<Place<M>>>, AllocError> {
-    let mut places = Vec::new(alloc);
-    for _ in 0..sessions {
-        places.push(RankedLock::new(Place { filed: None }))?;
+// What the sessions were told that served these connections, in the order of their numbers.
+fn told_by_number<A: Source, B: Sink, M: Machine, G: Drop>(
+    entries: Vec<Entry<A, B, M, G>>,
+    mut told: Vec<M::Told>,
+) -> Vec<M::Told>
+    requires none { told.items ≡ [] }
+    requires room { vec_len entries ≤ vec_capacity told }
+    ensures told { IsPermutation (told_of (map (λ e. e.outcome) entries.items)) result.items }
+    ensures closed { All (IsClosed M.is_opened M.was_told M.may_answer M.page
+        A.connection A.heard A.is_over A.has_failed
+        B.connection B.contents B.has_failed)
+        (map (λ e. e.outcome) entries.items) }
+{
+    let mut rest = entries.into_iter();
+    while let Some(entry) = rest.next() {
+        if let Some(one) = entry.into_told() {
+            told.push_reserved(one);
+        }
     }
-    Ok(places)
+    told.sort_unstable_by_key(|one| M::number(one));
+    told
 }
 
 fn run<R: Threads + Wait + Sync, M: Machine + Sync, C: Connections, W: Sink>(
@@ -104,24 +116,30 @@ fn run<R: Threads + Wait + Sync, M: Machine + Sync, C: Connections, W: Sink>(
     alloc: Global,
     machine: M,
     connections: &mut C,
-    workers: usize,
+    sessions: usize,
+    workers: u32,
     rooms: Rooms<M>,
     output: &mut W,
 ) -> Ended
-    requires untold { rooms.1.items ≡ [] }
-    requires empty { rooms.2.items ≡ [] }
-    requires room { 256 ≤ vec_capacity rooms.2 }
-    ensures leaves { LeavesAsked
-        (IsOfConnection M.is_opened M.was_told M.may_answer M.page)
+    requires untold { rooms.0.items ≡ [] }
+    requires places { sessions ≤ vec_capacity rooms.0 }
+    requires empty { rooms.1.items ≡ [] }
+    requires room { 256 ≤ vec_capacity rooms.1 }
+    ensures leaves { LeavesAsked {G = C.Gone} sessions (IsClosed M.is_opened M.was_told M.may_answer M.page
+        C.Reader.connection C.Reader.heard C.Reader.is_over C.Reader.has_failed
+        C.Writer.connection C.Writer.contents C.Writer.has_failed)
         (M.may_leave machine) result }
     ensures prints { Prints (W.contents output.old) (W.contents output.new) result }
 {
-    let (filed, told, mut text) = rooms;
-    if let Err(fault) = serve(rt, alloc, &machine, connections, workers, &filed) {
-        machine.abandon();
-        return Ended::Failed(fault);
-    }
-    let Ok(closed) = machine.close(alloc, all_told(filed, told)) else {
+    let (told, mut text) = rooms;
+    let entries = match serve(rt, alloc, &machine, connections, sessions, workers) {
+        Ok(entries) => entries,
+        Err(stopped) => {
+            machine.abandon();
+            return Ended::Failed(stopped.fault());
+        }
+    };
+    let Ok(closed) = machine.close(alloc, told_by_number(entries, told)) else {
         return Ended::Failed(ServeFault::Memory);
     };
     match print(closed, &mut text, output) {

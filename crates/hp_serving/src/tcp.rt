@@ -1,10 +1,18 @@
 //! Connections over TCP.
-ghost use Rattle.std.specs.Io.{WritesAtMost};
+ghost use Rattle.std.specs.Prelude.{◌≡◌, ◌<◌, [], IfOk, IfSome, OnErr, Some, length, true};
+ghost use Rattle.std.specs.Io.{ReadsAtMost, WritesAtMost};
+ghost use Rattle.std.specs.Io.KnownBytes.{WriteAppends};
+ghost use Rattle.std.specs.Net.Tcp.{stream_raw_fd};
+ghost use Rattle.hp_wire.specs.Reading.{IsGiven};
+ghost use Rattle.hp_wire.specs.Sent.{IsBroken};
+ghost use Rattle.hp_serving.specs.Tcp.{CannotRead, CannotWrite, IsOver, all_heard, all_said, reads_of, writes_to};
 
 use crate::connections::Connections;
 use crate::endings::Endings;
 use crate::first_line::{FirstLine, read_on};
+use hp_order::Rest;
 use hp_wire::ends::{Sink, Source};
+use hp_wire::written::Written;
 use std::alloc::Global;
 use std::io;
 use std::io::{ErrorKind, Read, Write};
@@ -26,21 +34,57 @@ const LONGEST_PAUSE: u64 = 1000;
 pub struct Incoming {
     stream: Arc<TcpStream>,
     first: FirstLine,
+    // Whether the client ended what it sends.
+    over: bool,
+    failed: bool,
+    heard: Written,
 }
 
-impl Read for Incoming {
-    fn read(&mut self, buf: &mut [u8]) -> io::Result<usize> {
+impl Incoming {
+    fn take(&mut self, buf: &mut [u8]) -> io::Result<usize>
+        ensures bound { ReadsAtMost result buf.new }
+        ensures heard { IsGiven (Some self.old.heard.bytes) (Some self.new.heard.bytes)
+            result buf.new }
+        ensures over { IfOk result (λ n. n ≡ 0 → 0 < length buf.new → self.new.over ≡ true) }
+        ensures failed { OnErr result (self.new.failed ≡ true) }
+        ensures same { self.new.stream ≡ self.old.stream }
+    {
         let mut stream: &TcpStream = &self.stream;
-        match read_on(&mut self.first, &mut stream, buf)? {
-            Some(len) => Ok(len),
-            None => Err(ErrorKind::InvalidData.into()),
+        match read_on(&mut self.first, &mut stream, buf) {
+            Ok(Some(len)) => {
+                self.heard = Written::with(&self.heard, &buf[..len]);
+                self.over = len == 0;
+                Ok(len)
+            }
+            Ok(None) => {
+                self.failed = true;
+                Err(ErrorKind::InvalidData.into())
+            }
+            Err(error) => {
+                self.failed = true;
+                Err(error)
+            }
         }
     }
 }
 
+impl Read for Incoming {
+    fn read(&mut self, buf: &mut [u8]) -> io::Result<usize> {
+        self.take(buf)
+    }
+}
+
 impl Source for Incoming {
+    ghost connection = { reads_of };
+
+    ghost heard = { all_heard };
+
+    ghost is_over = { IsOver };
+
+    ghost has_failed = { CannotRead };
+
     fn read_some(&mut self, buf: &mut [u8]) -> io::Result<usize> {
-        self.read(buf)
+        self.take(buf)
     }
 }
 
@@ -55,20 +99,58 @@ pub struct Outgoing {
     since: Option<Duration>,
     // Whether the next write is one that was due.
     due: bool,
+    // Whether a write failed, or the client was found to have gone: then nothing is written any more.
+    gone: bool,
+    written: Written,
+}
+
+impl Outgoing {
+    fn put(&mut self, buf: &[u8]) -> io::Result<usize>
+        ensures bound { WritesAtMost result buf.now }
+        ensures bytes { WriteAppends (Some self.old.written.bytes) (Some self.new.written.bytes)
+            result buf.now }
+        ensures failed { IsBroken result buf.now (self.new.gone ≡ true) }
+        ensures same { self.new.stream ≡ self.old.stream }
+    {
+        if self.gone {
+            return Err(ErrorKind::BrokenPipe.into());
+        }
+        match write_again(&self.stream, buf) {
+            Ok(written) => {
+                self.written = Written::with(&self.written, &buf[..written]);
+                self.gone = written == 0;
+                self.look();
+                Ok(written)
+            }
+            Err(error) => {
+                self.gone = true;
+                Err(error)
+            }
+        }
+    }
+
+    // After a write: one that was due tells whether the client has gone.
+    fn look(&mut self)
+        ensures written { self.new.written.bytes ≡ self.old.written.bytes }
+        ensures gone { self.old.gone ≡ true → self.new.gone ≡ true }
+        ensures same { self.new.stream ≡ self.old.stream }
+    {
+        if !self.due {
+            self.since = None;
+            return;
+        }
+        self.due = false;
+        if let Ok(Some(_)) = self.stream.take_error() {
+            self.gone = true;
+        }
+    }
 }
 
 impl Write for Outgoing {
+    ghost contents = { all_said };
+
     fn write(&mut self, buf: &[u8]) -> io::Result<usize> {
-        let written = write_again(&self.stream, buf)?;
-        if !self.due {
-            self.since = None;
-            return Ok(written);
-        }
-        self.due = false;
-        match self.stream.take_error() {
-            Ok(Some(gone)) => Err(gone),
-            _ => Ok(written),
-        }
+        self.put(buf)
     }
 
     fn flush(&mut self) -> io::Result<()> {
@@ -77,11 +159,18 @@ impl Write for Outgoing {
 }
 
 impl Sink for Outgoing {
+    ghost connection = { writes_to };
+
+    ghost has_failed = { CannotWrite };
+
     fn write_some(&mut self, buf: &[u8]) -> io::Result<usize> {
-        self.write(buf)
+        self.put(buf)
     }
 
     fn is_due(&mut self) -> bool {
+        if self.gone {
+            return true;
+        }
         let Some(clock) = self.clock else {
             return false;
         };
@@ -114,7 +203,12 @@ fn ends_of(
     alloc: Global,
     stream: TcpStream,
     idle: u64,
-) -> Option<(Incoming, Outgoing)> {
+) -> Option<(Incoming, Outgoing)>
+    ensures same { IfSome result (λ ends.
+        stream_raw_fd ends.0.stream.value ≡ stream_raw_fd ends.1.stream.value) }
+    ensures unheard { IfSome result (λ ends. ends.0.heard.bytes ≡ []) }
+    ensures unsaid { IfSome result (λ ends. ends.1.written.bytes ≡ []) }
+{
     // Without it a reply may wait until the one before is acknowledged.
     let _ = stream.set_nodelay(true);
     if idle > 0 {
@@ -132,12 +226,17 @@ fn ends_of(
         Incoming {
             stream,
             first: FirstLine::new(),
+            over: false,
+            failed: false,
+            heard: Written::new(),
         },
         Outgoing {
             clock,
             stream: again,
             since: None,
             due: false,
+            gone: false,
+            written: Written::new(),
         },
     ))
 }
@@ -164,6 +263,12 @@ fn told_by(error: &io::Error) -> After {
         Some(1 | 11 | 12 | 23 | 24 | 71 | 100 | 101 | 105 | 113) => After::Pause,
         _ => After::End,
     }
+}
+
+/// That a connection was given up by its client before it could be opened, or memory for it was refused.
+#[derive(Drop)]
+pub struct NotOpened {
+    _by: (),
 }
 
 /// The connections that a listener accepts, and where its port is told.
@@ -205,6 +310,10 @@ impl<'a, R: Wait + Clock, P: Sink> Connections for Listening<'a, R, P> {
 
     type Writer = Outgoing;
 
+    type Gone = NotOpened;
+
+    type Fault = io::Error;
+
     /// Writes the line `port <number>`.
     fn announce(&mut self) -> io::Result<()> {
         let port = self.listener.local_addr()?.port();
@@ -214,16 +323,23 @@ impl<'a, R: Wait + Clock, P: Sink> Connections for Listening<'a, R, P> {
 
     /// A connection that its client gave up before, or for which no memory can be had, can't be opened. Errors that pass are
     /// waited out, until another connection has ended.
-    fn next(&mut self, ended: &Endings) -> io::Result<Option<(Incoming, Outgoing)>> {
+    fn next(
+        &mut self,
+        _rest: &Rest,
+        ended: &Endings,
+    ) -> io::Result<Result<(Incoming, Outgoing), NotOpened>> {
         let rt = self.rt;
         let mut pause = FIRST_PAUSE;
         for _ in rt.forever() {
             let error = match self.listener.accept() {
-                Ok((stream, _)) => return Ok(ends_of(self.clock, self.alloc, stream, self.idle)),
+                Ok((stream, _)) => {
+                    let ends = ends_of(self.clock, self.alloc, stream, self.idle);
+                    return Ok(ends.ok_or(NotOpened { _by: () }));
+                }
                 Err(error) => error,
             };
             match told_by(&error) {
-                After::Gone => return Ok(None),
+                After::Gone => return Ok(Err(NotOpened { _by: () })),
                 After::Again => {}
                 After::Pause => {
                     ended.wait(rt, pause);
@@ -232,6 +348,6 @@ impl<'a, R: Wait + Clock, P: Sink> Connections for Listening<'a, R, P> {
                 After::End => return Err(error),
             }
         }
-        Ok(None)
+        Ok(Err(NotOpened { _by: () }))
     }
 }

@@ -3,12 +3,12 @@ use Rattle.std.proofs.Common.{◌≡◌, ℕ, List, ◌++◌, ◌+◌, ◌-◌, 
 use Rattle.std.proofs.lemmas.Bool.Decides.{nat_tests}
 use Rattle.std.proofs.lemmas.List.{drop-take, take-append-le}
 use Rattle.std.proofs.Math.Seq.{take-append-add}
-use Rattle.std.specs.Io.KnownBytes.{Consumes}
+use Rattle.hp_wire.specs.Reading.{Reading, Reads}
 use Rattle.hp_wire.specs.Unanswered.{Gets}
 use borrow.Rule.Slice.PartMut.{put_mid}
 
 -- what was read into the part behind them stands behind them
-pub gets_behind : {r r1 : Option (List ℕ)} (end k n : ℕ) (old buf items now : List ℕ) → end ≤ length old → n ≤ length buf → Consumes r r1 (take n buf) → old ≡ items
+pub gets_behind : {r r1 : Reading} (end k n : ℕ) (old buf items now : List ℕ) → end ≤ length old → n ≤ length buf → Reads r r1 (take n buf) → old ≡ items
     → now ≡ take (end + n) (put_mid end k old buf) → Gets (take end items) now r r1 n
 gets_behind end k n old buf items now within fits read is same =
     let front : length (take end old) ≡ end = omega (arith, length-take end old) in

@@ -3,7 +3,8 @@ use Rattle.std.proofs.Common.{◌≡◌, ◌≤◌, ℕ, zero, suc, List, [], �
 use Rattle.std.proofs.Common.{length-append, cond, IfOk, IfErr, OnOk}
 use Rattle.std.proofs.lemmas.Bool.Decides.{nat_tests}
 use Rattle.std.proofs.lemmas.List.{nil_from_length}
-use Rattle.std.specs.Io.KnownBytes.{Consumes, Appends}
+use Rattle.std.specs.Io.KnownBytes.{Appends}
+use Rattle.hp_wire.specs.Reading.{Reading, Reads}
 use Rattle.hp_model.proofs.Words.{AnswersLines, AppendsFront, Line, Ran, RanInPart, Reply, Serves, after_lines, ended_lines, line_of, lines, text, text_of_refusals, unended, unended_by}
 use Rattle.hp_model.specs.declared.step.Step.{Step}
 use Rattle.hp_model.specs.declared.refusal.Refusal.{Refusal}
@@ -13,7 +14,7 @@ use Rattle.hp_wire.specs.Unanswered.{Gets}
 use Rattle.hp_model.specs.declared.fault.RunFault.{RunFault}
 use Rattle.hp_wire.proofs.Known.{ran_then, ran_cut}
 use Rattle.hp_wire.proofs.Stands.{StandsFor}
-use Rattle.hp_wire.proofs.Turns.{Progress, consumes_then}
+use Rattle.hp_wire.proofs.Turns.{Progress, reads_then}
 
 abbrev refused : List Refusal → List Line
 refused [] = []
@@ -69,12 +70,12 @@ length_refused [] = refl
 length_refused (r ∷ rs) = ap suc (length_refused rs)
 
 -- the lines of an input, where so much of the last one is held
-all_lines : {S : Type 0} {may_answer : S → Step → Reply → S → Type 0} {page : ℕ} {r0 r : Option (List ℕ)} {s0 s : S} {w0 w : Option (List ℕ)} {held : List ℕ} {total count : ℕ}
+all_lines : {S : Type 0} {may_answer : S → Step → Reply → S → Type 0} {page : ℕ} {r0 r : Reading} {s0 s : S} {w0 w : Option (List ℕ)} {held : List ℕ} {total count : ℕ}
     → (p : Progress may_answer page r0 r s0 s w0 w held total count) → lines p.input ≡ ended_lines p.input ++ refused (unended_by (length held))
 all_lines {held} p = ap (λ (ls : List Line). ended_lines p.input ++ ls) (unended_stands held (after_lines p.input) p.stands)
 
 -- the input ended, and the line that it ended in was answered
-finished_at : {S : Type 0} (may_answer : S → Step → Reply → S → Type 0) (page q : ℕ) (r0 r : Option (List ℕ)) (s0 s : S) (w0 w w1 : Option (List ℕ))
+finished_at : {S : Type 0} (may_answer : S → Step → Reply → S → Type 0) (page q : ℕ) (r0 r : Reading) (s0 s : S) (w0 w w1 : Option (List ℕ))
     (held : List ℕ) (total count : ℕ) (result : Result ℕ RunFault)
     → (p : Progress may_answer page r0 r s0 s w0 w held total count) → q ≡ page → total ≤ 1073741824
     → IfOk result (λ m. m ≡ count + length (unended_by (length held))) → OnOk result (Appends w w1 (text_of_refusals q (unended_by (length held))))
@@ -90,18 +91,18 @@ finished_at may_answer page q r0 r s0 s w0 w w1 held total count (Ok m) p same w
 finished_at may_answer page q r0 r s0 s w0 w w1 held total count (Err e) p same within all written cut =
     rw (cut.0, all_lines p) (ran_cut p.ran (ends_part (unended_by (length held)) (subst (λ (x : ℕ). AppendsFront w w1 (text_of_refusals x (unended_by (length held)))) same cut.1)))
 
-pub finished : {S : Type 0} {may_answer : S → Step → Reply → S → Type 0} {page q : ℕ} {r0 r r1 : Option (List ℕ)} {s0 s : S} {w0 w : Option (List ℕ)}
+pub finished : {S : Type 0} {may_answer : S → Step → Reply → S → Type 0} {page q : ℕ} {r0 r r1 : Reading} {s0 s : S} {w0 w : Option (List ℕ)}
     {held chunk : List ℕ} {n total count : ℕ} (w1 : Option (List ℕ)) (result : Result ℕ RunFault)
     → Progress may_answer page r0 r s0 s w0 w held total count → Gets held chunk r r1 n → n ≡ 0 → q ≡ page → total ≤ 1073741824
     → IfOk result (λ m. m ≡ count + length (unended_by (length chunk))) → OnOk result (Appends w w1 (text_of_refusals q (unended_by (length chunk))))
     → IfErr result (IsWriteCut w w1 (text_of_refusals q (unended_by (length chunk))))
-    → (input : List ℕ) × Consumes r0 r1 input × Serves may_answer page s0 s w0 w1 input result
+    → (input : List ℕ) × Reads r0 r1 input × Serves may_answer page s0 s w0 w1 input result
 finished {may_answer} {page} {q} {r0} {r} {r1} {s0} {s} {w0} {w} {held} {chunk} {total} {count} w1 result before got none_read same within all written cut =
     let none : got.bytes ≡ [] = nil_from_length got.bytes (sym got.all ∙ none_read) in
     let same_held : chunk ≡ held = got.behind ∙ ap (λ (bs : List ℕ). held ++ bs) none ∙ append-nil held in
     let p : Progress may_answer page r0 r s0 s w0 w chunk total count = rw same_held before in
-    let reads : Consumes r r1 [] = subst (λ (bs : List ℕ). Consumes r r1 bs) none got.consumed in (
+    let reads : Reads r r1 [] = subst (λ (bs : List ℕ). Reads r r1 bs) none got.consumed in (
       p.input,
-      subst (λ (bs : List ℕ). Consumes r0 r1 bs) (append-nil p.input) (consumes_then r0 r r1 p.input [] p.consumed reads),
+      subst (λ (bs : List ℕ). Reads r0 r1 bs) (append-nil p.input) (reads_then r0 r r1 p.input [] p.consumed reads),
       finished_at may_answer page q r0 r s0 s w0 w w1 chunk total count result p same within all written cut,
     )

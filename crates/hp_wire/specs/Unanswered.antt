@@ -1,20 +1,20 @@
 -- Bytes that were read and wait to be answered.
-use Rattle.std.specs.Prelude.{◌≡◌, ◌≤◌, ◌-◌, ℕ, List, ◌++◌, drop, length, Option}
-use Rattle.std.specs.Io.KnownBytes.{Consumes, Keeps}
+use Rattle.std.specs.Prelude.{◌≡◌, ◌≤◌, ◌-◌, ℕ, List, ◌++◌, drop, length}
+use Rattle.hp_wire.specs.Reading.{Reading, Reads, ReadsNone}
 use Rattle.hp_model.specs.text.Lines.{after_lines, ended_lines}
 use Rattle.hp_model.specs.declared.fault.RunFault.{RunFault}
 use Rattle.hp_model.specs.declared.fault.RunFault.TheVariants.{Read}
 
 -- so many bytes were read, and stand behind those that were there
-pub record Gets (old new : List ℕ) (unread left : Option (List ℕ)) (count : ℕ) : Type 0 where
+pub record Gets (old new : List ℕ) (unread left : Reading) (count : ℕ) : Type 0 where
   pub bytes : List ℕ
-  pub consumed : Consumes unread left bytes
+  pub consumed : Reads unread left bytes
   pub behind : new ≡ old ++ bytes
   pub all : count ≡ length bytes
 
 -- a read failed, and took nothing
-abbrev pub FailsToRead : Option (List ℕ) → Option (List ℕ) → RunFault → Type 0
-FailsToRead unread left fault = (fault ≡ Read) × Keeps unread left
+abbrev pub FailsToRead : Reading → Reading → RunFault → Type 0
+FailsToRead unread left fault = (fault ≡ Read) × ReadsNone unread left
 
 -- so many bytes follow the last line that ended, and so many lines ended
 abbrev pub CountsLines : List ℕ → ℕ × ℕ → Type 0

@@ -141,7 +141,8 @@ impl Replies {
             (text_of_refusals self.old.page (unended_by held))) }
         ensures cut { IfErr result (WritesFront W.contents writer.old writer.new
             (text_of_refusals self.old.page (unended_by held))) }
-        ensures writer { KeepsWriter W.is_sure W.lent writer.old writer.new result }
+        ensures writer { KeepsWriter W.is_sure W.lent W.connection W.has_failed
+            writer.old writer.new result }
     {
         let mut lines = count;
         if held > 0 {

@@ -40,7 +40,8 @@ impl Replies {
         ensures none { OnOk result (self.new.text ≡ []) }
         ensures no_queue { OnOk result (queue.new ≡ []) }
         ensures page { self.new.page ≡ self.old.page }
-        ensures writer { KeepsWriter W.is_sure W.lent writer.old writer.new result }
+        ensures writer { KeepsWriter W.is_sure W.lent W.connection W.has_failed
+            writer.old writer.new result }
         ensures ready { S.is_ready service.new }
     {
         // What waits in the queue waits for lines behind it, and nothing does at the end.
@@ -93,7 +94,8 @@ impl Replies {
         ensures few { OnOk result (length queue.new < 16) }
         ensures alone { OnOk result (several ≡ false → queue.new ≡ []) }
         ensures page { self.new.page ≡ self.old.page }
-        ensures writer { KeepsWriter W.is_sure W.lent writer.old writer.new result }
+        ensures writer { KeepsWriter W.is_sure W.lent W.connection W.has_failed
+            writer.old writer.new result }
         ensures ready { S.is_ready service.new }
     {
         if several {
@@ -128,7 +130,8 @@ impl Replies {
             service.old service.new writer.old writer.new self.old fault) }
         ensures none { OnOk result (queue.new ≡ []) }
         ensures page { self.new.page ≡ self.old.page }
-        ensures writer { KeepsWriter W.is_sure W.lent writer.old writer.new result }
+        ensures writer { KeepsWriter W.is_sure W.lent W.connection W.has_failed
+            writer.old writer.new result }
         ensures ready { S.is_ready service.new }
     {
         queue.do_all(service, room);
@@ -144,7 +147,8 @@ impl Replies {
         ensures cut { IfErr result (CutsText W.contents writer.old writer.new self.old
             (queued_text self.old.page queue.now)) }
         ensures page { self.new.page ≡ self.old.page }
-        ensures writer { KeepsWriter W.is_sure W.lent writer.old writer.new result }
+        ensures writer { KeepsWriter W.is_sure W.lent W.connection W.has_failed
+            writer.old writer.new result }
     {
         let waiting = queue.as_slice();
         for at in 0..waiting.len() {

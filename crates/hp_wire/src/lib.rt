@@ -9,7 +9,7 @@ mod queue;
 mod replies;
 pub mod running;
 mod unanswered;
-mod written;
+pub mod written;
 
 pub use hp_model::fault;
 pub use hp_wire_lines::{reading, words, writing};

@@ -118,7 +118,8 @@ impl Replies {
         ensures page { self.new.page ≡ self.old.page }
         ensures kept { OnOk result (LosesNone W.contents writer.old writer.new self.old self.new) }
         ensures cut { IfErr result (WritesFront W.contents writer.old writer.new self.old.text) }
-        ensures writer { KeepsWriter W.is_sure W.lent writer.old writer.new result }
+        ensures writer { KeepsWriter W.is_sure W.lent W.connection W.has_failed
+            writer.old writer.new result }
     {
         if self.waiting.len() < self.ask_at {
             return Ok(());
@@ -133,7 +134,8 @@ impl Replies {
         ensures page { self.new.page ≡ self.old.page }
         ensures kept { OnOk result (LosesNone W.contents writer.old writer.new self.old self.new) }
         ensures cut { IfErr result (WritesFront W.contents writer.old writer.new self.old.text) }
-        ensures writer { KeepsWriter W.is_sure W.lent writer.old writer.new result }
+        ensures writer { KeepsWriter W.is_sure W.lent W.connection W.has_failed
+            writer.old writer.new result }
     {
         if self.waiting.len() > ROOM - LONGEST {
             return self.send(writer);
@@ -159,7 +161,8 @@ impl Replies {
         ensures none { OnOk result (self.new.text ≡ []) }
         ensures page { self.new.page ≡ self.old.page }
         ensures cut { IfErr result (WritesFront W.contents writer.old writer.new self.old.text) }
-        ensures writer { KeepsWriter W.is_sure W.lent writer.old writer.new result }
+        ensures writer { KeepsWriter W.is_sure W.lent W.connection W.has_failed
+            writer.old writer.new result }
     {
         write_whole(writer, self.waiting.as_slice())?;
         self.waiting.clear();

@@ -3,6 +3,7 @@ ghost use Rattle.std.specs.Prelude.{◌≡◌, ◌≢◌, ◌≤◌, [], IfErr, 
 ghost use Rattle.std.specs.Io.KnownBytes.{IsAtEnd};
 ghost use Rattle.hp_model.specs.Profile.{most_page_bytes};
 ghost use Rattle.hp_model.specs.run.Served.{ServesInput};
+ghost use Rattle.hp_wire.specs.Reading.{HasCause, ServesRead};
 
 use crate::ends::{Sink, Source};
 use crate::fault::RunFault;
@@ -73,8 +74,13 @@ pub fn run_lines_in<R: Source, W: Sink, S: Service>(
 ) -> Result<u64, RunFault>
     requires page { S.page service.old ≤ most_page_bytes }
     requires ready { S.is_ready service.old }
-    ensures served { ServesInput S.may_answer S.page R.remaining W.contents
-        service.old service.new reader.old reader.new writer.old writer.new result }
+    ensures served { ServesRead S.may_answer (S.page service.old) service.old service.new
+        (R.remaining reader.old, R.heard reader.old) (R.remaining reader.new, R.heard reader.new)
+        (W.contents writer.old) (W.contents writer.new) result }
+    ensures cause { HasCause (R.is_over reader.new) (R.has_failed reader.new)
+        (W.has_failed writer.new) result }
+    ensures reads_of { R.connection reader.new ≡ R.connection reader.old }
+    ensures writes_to { W.connection writer.new ≡ W.connection writer.old }
     ensures whole { OnOk result (IsAtEnd (R.remaining reader.new)) }
     ensures sure_reader { R.is_sure reader.old → IfErr result (λ e. e ≢ RunFault.Read) }
     ensures sure_writer { W.is_sure writer.old → IfErr result (λ e. e ≢ RunFault.Write) }

@@ -1,5 +1,5 @@
 //! The bytes that were read and wait to be answered.
-ghost use Rattle.std.specs.Prelude.{◌≡◌, ◌+◌, ◌-◌, ◌<◌, ◌≤◌, [], drop, length, take, IfErr, IfOk, IsOk};
+ghost use Rattle.std.specs.Prelude.{◌≡◌, ◌+◌, ◌-◌, ◌<◌, ◌≤◌, [], drop, length, take, IfErr, IfOk, IsOk, OnErr};
 ghost use Rattle.std.specs.Io.KnownBytes.{IsAtEnd};
 ghost use Rattle.hp_wire.specs.Unanswered.{FailsToRead, Gets};
 
@@ -48,11 +48,15 @@ impl Unanswered {
     pub fn read<R: Source>(&mut self, reader: &mut R, most: usize) -> Result<usize, RunFault>
         requires { length self.old ≤ 1025 }
         ensures got { IfOk result (Gets self.old self.new
-            (R.remaining reader.old) (R.remaining reader.new)) }
+            (R.remaining reader.old, R.heard reader.old) (R.remaining reader.new, R.heard reader.new)) }
         ensures bound { IfOk result (λ n. n ≤ most) }
         ensures end { IfOk result (λ n. n ≡ 0 → 0 < most
             → IsAtEnd (R.remaining reader.new)) }
-        ensures err { IfErr result (FailsToRead (R.remaining reader.old) (R.remaining reader.new)) }
+        ensures over { IfOk result (λ n. n ≡ 0 → 0 < most → R.is_over reader.new) }
+        ensures err { IfErr result (FailsToRead
+            (R.remaining reader.old, R.heard reader.old) (R.remaining reader.new, R.heard reader.new)) }
+        ensures failed { OnErr result (R.has_failed reader.new) }
+        ensures connection { R.connection reader.new ≡ R.connection reader.old }
         ensures sure { R.is_sure reader.old → IsOk result }
         ensures stays { R.is_sure reader.old → R.is_sure reader.new }
     {

@@ -1,13 +1,13 @@
-//! The bytes that a writer took. It takes no memory, and its functions do nothing at run time: proofs alone read it.
+//! Bytes that a writer took, or a reader gave. It takes no memory, and its functions do nothing at run time: proofs alone read it.
 ghost use Rattle.std.specs.Prelude.{◌≡◌, ℕ, List, [], ◌++◌};
 ghost use Rattle.std.specs.Borrow.{ftrue};
 
 use std::marker::Model;
 
-/// All bytes that were written, in order.
+/// All bytes that were written, or read, in order.
 #[derive(Drop)]
-pub(crate) struct Written {
-    pub(crate) ghost bytes: { List ℕ },
+pub struct Written {
+    pub ghost bytes: { List ℕ },
 }
 
 impl Model for Written {
@@ -15,13 +15,15 @@ impl Model for Written {
 }
 
 impl Written {
-    pub(crate) fn new() -> Written
+    /// None yet.
+    pub fn new() -> Written
         ensures { result.bytes ≡ [] }
     {
         Written {}
     }
 
-    pub(crate) fn with(_before: &Written, _bytes: &[u8]) -> Written
+    /// What was written before, and these bytes behind it.
+    pub fn with(_before: &Written, _bytes: &[u8]) -> Written
         ensures { result.bytes ≡ _before.now.bytes ++ _bytes.now }
     {
         Written {}

@@ -3,7 +3,9 @@ use Rattle.std.proofs.Common.{◌≡◌, ◌==◌, ◌∙◌, ℕ, Bool, List, [
 use Rattle.hp_model.proofs.Words.{State}
 use Rattle.hp_server.specs.Left as left
 use Rattle.hp_serving.specs.Ended.{LeavesAsked}
-use Rattle.hp_serving.specs.Session.{IsOfConnection}
+use Rattle.hp_serving.specs.Tcp.{IsOverTcp}
+use Rattle.hp_serving.specs.declared.entry.Outcome.{Outcome}
+use Rattle.hp_serving.specs.declared.tcp.NotOpened.{NotOpened}
 use Rattle.hp_serving.specs.declared.host.Closed.{Closed}
 use Rattle.hp_serving.specs.declared.sessions.Ended.{Ended}
 use Rattle.hp_serving.specs.declared.sessions.Ended.TheVariants.{Printed, Unprinted, Failed}
@@ -13,15 +15,15 @@ use Rattle.hp_closing.specs.Left.{HasLeft}
 use Rattle.hp_closing.specs.OneRun.{WasOneRun, all_told}
 use Rattle.hp_shared.specs.Ended.{FinishedView}
 use Rattle.hp_words.specs.Config.{MachineChoice, chosen}
-use Rattle.hp_program.specs.Program.{IsToldOn, MayBeLeft}
+use Rattle.hp_program.specs.Program.{EndedOn, MayBeLeft}
 use Rattle.hp_words.specs.declared.settings.Serving.{Serving}
 
 -- what sessions left and what is left of the machine, seen otherwise
-pub leaves : {S : Type 0} (A B : S → Type 0) (L M : List S → Closed → Type 0) (ended : Ended)
-    → ((x : S) → A x → B x) → ((all : List S) (x : Closed) → L all x → M all x) → LeavesAsked A L ended → LeavesAsked B M ended
-leaves A B L M (Printed closed) one all left = (left.0, (λ k d within. one _ (left.1 k d within)), all left.0 closed left.2)
-leaves A B L M (Unprinted closed) one all left = (left.0, (λ k d within. one _ (left.1 k d within)), all left.0 closed left.2)
-leaves A B L M (Failed fault) one all left = tt
+pub leaves : {T G : Type 0} (count : ℕ) (A B : Outcome T G → Type 0) (L M : List T → Closed → Type 0) (ended : Ended)
+    → ((x : Outcome T G) → A x → B x) → ((all : List T) (x : Closed) → L all x → M all x) → LeavesAsked count A L ended → LeavesAsked count B M ended
+leaves count A B L M (Printed closed) one all left = (left.0, left.1, (λ k d within. one _ (left.2 k d within)), left.3, left.4, all left.3 closed left.5)
+leaves count A B L M (Unprinted closed) one all left = (left.0, left.1, (λ k d within. one _ (left.2 k d within)), left.3, left.4, all left.3 closed left.5)
+leaves count A B L M (Failed fault) one all left = tt
 
 -- a machine that started as the one that was asked for
 pub as_asked : (c : MachineChoice) (s : Serving) (keeps : ℕ) (machine : State) → machine ≡ chosen c → (keeps == 1) ≡ nat_lt 0 s.room
@@ -33,8 +35,8 @@ as_asked c s keeps machine same kept ended x h = record {
   joined = λ joined. subst (λ (m : State). WasJoined m (all_told ended) x.counts) same (h.joined joined);
 }
 
--- a session on it
-pub told_on : (c : MachineChoice) (s : Serving) (kept : Bool) (size : ℕ) → kept ≡ nat_lt 0 s.room → size ≡ c.page → (one : FinishedView)
-    → IsOfConnection {S = SessionView} (λ session. session.receipts ≡ []) HasLeft (IsCallAnswered kept size) (λ session. size) one
-    → IsToldOn c s one
-told_on c s kept size keeps bytes one h = (let kept_is = keeps in let size_is = bytes in rw (sym kept_is, sym size_is) h)
+-- a connection to it
+pub ended_on : (c : MachineChoice) (s : Serving) (kept : Bool) (size : ℕ) → kept ≡ nat_lt 0 s.room → size ≡ c.page → (one : Outcome FinishedView NotOpened)
+    → IsOverTcp {S = SessionView} (λ session. session.receipts ≡ []) HasLeft (IsCallAnswered kept size) (λ session. size) one
+    → EndedOn c s one
+ended_on c s kept size keeps bytes one h = (let kept_is = keeps in let size_is = bytes in rw (sym kept_is, sym size_is) h)

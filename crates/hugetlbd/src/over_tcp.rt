@@ -11,7 +11,7 @@ use hp_model::naming::Naming;
 use hp_pool::Blanks;
 use hp_program::Server;
 use hp_server::{Open, Served};
-use hp_serving::{Connections, Ended, Listening, ServeFault, report, serve_sessions};
+use hp_serving::{Ended, Listening, ServeFault, report, serve_sessions};
 use hp_shared::Shared;
 use hp_wire::ends::Sink;
 use hp_words::settings::{Machine, Serving};
@@ -66,12 +66,12 @@ impl<
 }
 
 /// Serves the sessions of these connections on a new machine, and closes it, as `Server::serve` does.
-pub fn serve_over<R: Threads + Wait + Sync, C: Connections, W: Sink, E: Sink>(
+pub fn serve_over<R: Threads + Wait + Clock + Sync, P: Sink, W: Sink, E: Sink>(
     rt: &R,
     alloc: Global,
     machine: &Machine,
     serving: Serving,
-    connections: &mut C,
+    connections: &mut Listening<'_, R, P>,
     output: &mut W,
     faults: &mut E,
 ) -> u8
@@ -95,7 +95,7 @@ pub fn serve_over<R: Threads + Wait + Sync, C: Connections, W: Sink, E: Sink>(
     let Ok(opened) = Opened::new(alloc, shape) else {
         return report(Ended::Failed(ServeFault::Memory), faults);
     };
-    serve_kept::<Brand, R, C, W, E>(
+    serve_kept::<Brand, R, P, W, E>(
         rt,
         alloc,
         machine,
@@ -111,8 +111,8 @@ pub fn serve_over<R: Threads + Wait + Sync, C: Connections, W: Sink, E: Sink>(
 // Keeps trails where there is room for entries.
 fn serve_kept<
     N: Naming + Places + Send + Sync,
-    R: Threads + Wait + Sync,
-    C: Connections,
+    R: Threads + Wait + Clock + Sync,
+    P: Sink,
     W: Sink,
     E: Sink,
 >(
@@ -122,7 +122,7 @@ fn serve_kept<
     serving: Serving,
     blanks: Blanks,
     opened: Opened,
-    connections: &mut C,
+    connections: &mut Listening<'_, R, P>,
     output: &mut W,
     faults: &mut E,
 ) -> u8
@@ -143,7 +143,7 @@ fn serve_kept<
         (E.contents faults.new) result }
 {
     if serving.room == 0 {
-        serve_on::<N, R, C, W, E, 0>(
+        serve_on::<N, R, P, W, E, 0>(
             rt,
             alloc,
             machine,
@@ -155,7 +155,7 @@ fn serve_kept<
             faults,
         )
     } else {
-        serve_on::<N, R, C, W, E, 1>(
+        serve_on::<N, R, P, W, E, 1>(
             rt,
             alloc,
             machine,
@@ -172,8 +172,8 @@ fn serve_kept<
 // Makes the machine, serves on it and closes it. Its trails are kept where K is 1.
 fn serve_on<
     N: Naming + Places + Send + Sync,
-    R: Threads + Wait + Sync,
-    C: Connections,
+    R: Threads + Wait + Clock + Sync,
+    P: Sink,
     W: Sink,
     E: Sink,
     const K: usize,
@@ -184,7 +184,7 @@ fn serve_on<
     serving: Serving,
     blanks: Blanks,
     opened: Opened,
-    connections: &mut C,
+    connections: &mut Listening<'_, R, P>,
     output: &mut W,
     faults: &mut E,
 ) -> u8
@@ -227,7 +227,7 @@ fn serve_on<
         served,
         connections,
         serving.sessions,
-        serving.workers,
+        serving.workers as u32,
         output,
         faults,
     )

@@ -9,4 +9,5 @@ loop-at-preserved g c = record {
   within = within_rest c.loop-at.at c.in-Ok.n c.args.bytes.now c.loop-at.invariant.within c.in-Ok.ensures.bound;
   sure = λ s. c.write_some.ensures.stays (c.loop-at.invariant.sure s);
   lent = c.write_some.ensures.lent ∙ c.loop-at.invariant.lent;
+  connection = c.write_some.ensures.connection ∙ c.loop-at.invariant.connection;
 }

@@ -8,6 +8,7 @@ invariant-loop-at g l = record {
   within : l.at ≤ length l.bytes;
   sure : g.W.Sink.is_sure l.fn.writer → g.W.Sink.is_sure l.writer;
   lent : g.W.Sink.lent l.writer ≡ g.W.Sink.lent l.fn.writer;
+  connection : g.W.Sink.connection l.writer ≡ g.W.Sink.connection l.fn.writer;
 }
 
 abbrev pub decreases-loop-at : goal.decreases-loop-at

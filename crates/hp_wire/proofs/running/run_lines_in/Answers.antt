@@ -60,4 +60,6 @@ loop-preserved g c =
       reader = λ s. c.read.ensures.stays (i.reader s);
       writer = λ s. c.answer_chunk-in-loop.ensures.writer.1 (i.writer s);
       lent = c.answer_chunk-in-loop.ensures.writer.2 ∙ i.lent;
+      reads_of = c.read.ensures.connection ∙ i.reads_of;
+      writes_to = c.answer_chunk-in-loop.ensures.writer.3 ∙ i.writes_to;
     }

@@ -4,7 +4,7 @@ use Rattle.hp_wire.proofs.running.run_lines_in.Given as goal
 
 abbrev pub invariant-loop : goal.invariant-loop
 invariant-loop g l = record {
-  progress : Progress g.S.Service.may_answer (g.S.Service.page l.fn.service) (g.R.Read.remaining l.fn.reader) (g.R.Read.remaining l.reader) l.fn.service l.service
+  progress : Progress g.S.Service.may_answer (g.S.Service.page l.fn.service) (g.R.Read.remaining l.fn.reader, g.R.Source.heard l.fn.reader) (g.R.Read.remaining l.reader, g.R.Source.heard l.reader) l.fn.service l.service
       (g.W.Write.contents l.fn.writer) (g.W.Write.contents l.writer) l.unanswered l.total l.count;
   limit : l.total ≤ 1073741824;
   turns : l.counter ≤ l.total;
@@ -17,4 +17,6 @@ invariant-loop g l = record {
   reader : g.R.Source.is_sure l.fn.reader → g.R.Source.is_sure l.reader;
   writer : g.W.Sink.is_sure l.fn.writer → g.W.Sink.is_sure l.writer;
   lent : g.W.Sink.lent l.writer ≡ g.W.Sink.lent l.fn.writer;
+  reads_of : g.R.Source.connection l.reader ≡ g.R.Source.connection l.fn.reader;
+  writes_to : g.W.Sink.connection l.writer ≡ g.W.Sink.connection l.fn.writer;
 }

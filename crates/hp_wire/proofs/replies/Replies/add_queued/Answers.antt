@@ -34,4 +34,5 @@ loop-at-preserved g c =
       page = c.add_done.ensures.page ∙ c.make_room.ensures.page ∙ i.page;
       sure = λ s. c.make_room.ensures.writer.1 (i.sure s);
       lent = c.make_room.ensures.writer.2 ∙ i.lent;
+      connection = c.make_room.ensures.writer.3 ∙ i.connection;
     }

@@ -9,4 +9,5 @@ invariant-loop-at g l = record {
   page : l.self.page ≡ l.fn.self.page;
   sure : g.W.Sink.is_sure l.fn.writer → g.W.Sink.is_sure l.writer;
   lent : g.W.Sink.lent l.writer ≡ g.W.Sink.lent l.fn.writer;
+  connection : g.W.Sink.connection l.writer ≡ g.W.Sink.connection l.fn.writer;
 }

@@ -23,6 +23,7 @@ loop-after-init g c = (
     page = refl;
     sure = λ s. s;
     lent = refl;
+    connection = refl;
   },
 )
 
@@ -52,6 +53,7 @@ loop-after-preserved g c =
         page = c.take_line.ensures.page ∙ i.2.page;
         sure = λ s. c.take_line.ensures.writer.1 (i.2.sure s);
         lent = c.take_line.ensures.writer.2 ∙ i.2.lent;
+        connection = c.take_line.ensures.writer.3 ∙ i.2.connection;
       },
     )
 

@@ -18,6 +18,7 @@ invariant-loop-after g l = (done : List Line) × (waiting : List Line) × record
   page : l.self.page ≡ l.fn.self.page;
   sure : g.W.Sink.is_sure l.fn.writer → g.W.Sink.is_sure l.writer;
   lent : g.W.Sink.lent l.writer ≡ g.W.Sink.lent l.fn.writer;
+  connection : g.W.Sink.connection l.writer ≡ g.W.Sink.connection l.fn.writer;
 }
 
 abbrev pub decreases-loop-after : goal.decreases-loop-after

@@ -14,4 +14,4 @@ returns-in-Ok-clause-got g c =
     let size = same_len_mid end k old buf c.read_some.auto.buf in
     let len : length (put_mid end k old buf) ≡ buffer.len = omega (arith, size, c.deref_mut.ensures.len, buffer.ok.0) in
     rw (← c.self.view_is) (gets_behind end k c.in-Ok.n old buf buffer.items _ (omega (arith, c.self.invariant, c.deref_mut.ensures.len, buffer.ok.0)) c.in-Ok.ensures.bound.0
-    c.in-Ok.ensures.bytes.0 c.deref_mut.ensures.value (ap (take (end + c.in-Ok.n)) (with_items_is buffer (put_mid end k old buf) len)))
+    (c.in-Ok.ensures.bytes.0, c.in-Ok.ensures.heard) c.deref_mut.ensures.value (ap (take (end + c.in-Ok.n)) (with_items_is buffer (put_mid end k old buf) len)))
