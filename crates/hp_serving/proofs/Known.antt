@@ -1,5 +1,5 @@
 -- What is known of a connection once it has ended.
-use Rattle.std.proofs.Common.{◌≡◌, ◌∙◌, ℕ, ℤ, List, [], ◌∷◌, ◌++◌, Option, Some, None, Result, Ok, Err, All, IfErr, OnErr, OnOk, ◌⊎◌, ap, arith, inl, inr, length, append-nil, append_assoc, map, refl, subst, sym}
+use Rattle.std.proofs.Common.{◌≡◌, ◌∙◌, ℕ, ℤ, List, [], ◌∷◌, ◌++◌, Option, Some, None, Result, Ok, Err, All, IfErr, OnErr, OnOk, ap, arith, inl, inr, length, append-nil, append_assoc, map, refl, subst, sym}
 use Rattle.std.proofs.lemmas.List.{map-append}
 use Rattle.std.proofs.lemmas.List.Elements.{All-nil, All-push}
 use Rattle.std.specs.Io.KnownBytes.{Appends}

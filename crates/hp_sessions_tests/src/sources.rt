@@ -5,21 +5,50 @@ use crate::over_tcp::serves;
 use crate::same::same;
 use crate::stage::{SMALL, Scene, Stage, both};
 use crate::talking::same_text;
+use hp_order::Rest;
 use hp_serving::{Connections, Endings};
-use hp_wire::ends::Sink;
+use hp_wire::ends::{Sink, Source};
+use hp_wire::written::Written;
 use std::io;
-use std::io::Write;
+use std::io::{Read, Write};
 use std::sync::atomic::{AtomicU64, Ordering};
+
+// A reader of lines that stand in memory.
+#[derive(Drop)]
+struct Lines<'a> {
+    left: &'a [u8],
+    heard: Written,
+}
+
+impl Read for Lines<'_> {
+    fn read(&mut self, buf: &mut [u8]) -> io::Result<usize> {
+        self.left.read(buf)
+    }
+}
+
+impl Source for Lines<'_> {
+    ghost heard = { λ reader. Some reader.heard.bytes };
+
+    fn read_some(&mut self, buf: &mut [u8]) -> io::Result<usize> {
+        let len = self.left.read(buf)?;
+        self.heard = Written::with(&self.heard, &buf[..len]);
+        Ok(len)
+    }
+}
 
 // A writer that counts what it takes.
 #[derive(Drop)]
 struct Counts<'a> {
     bytes: &'a AtomicU64,
+    written: Written,
 }
 
 impl Write for Counts<'_> {
+    ghost contents = { λ writer. Some writer.written.bytes };
+
     fn write(&mut self, buf: &[u8]) -> io::Result<usize> {
         let _before = self.bytes.fetch_add(buf.len() as u64, Ordering::SeqCst);
+        self.written = Written::with(&self.written, buf);
         Ok(buf.len())
     }
 
@@ -43,16 +72,32 @@ struct InMemory<'a> {
 }
 
 impl<'a> Connections for InMemory<'a> {
-    type Reader = &'a [u8];
+    type Reader = Lines<'a>;
 
     type Writer = Counts<'a>;
 
-    fn next(&mut self, _ended: &Endings) -> io::Result<Option<(&'a [u8], Counts<'a>)>> {
+    type Gone = ();
+
+    type Fault = io::Error;
+
+    fn next(
+        &mut self,
+        _rest: &Rest,
+        _ended: &Endings,
+    ) -> io::Result<Result<(Lines<'a>, Counts<'a>), ()>> {
         let Some(input) = self.inputs.get(self.sent) else {
             return Err(io::Error::from(io::ErrorKind::Other));
         };
         self.sent += 1;
-        Ok(Some((*input, Counts { bytes: self.bytes })))
+        let lines = Lines {
+            left: *input,
+            heard: Written::new(),
+        };
+        let counts = Counts {
+            bytes: self.bytes,
+            written: Written::new(),
+        };
+        Ok(Ok((lines, counts)))
     }
 }
 

@@ -1,4 +1,3 @@
-use Rattle.std.proofs.Common.{◌+◌}
 use Rattle.hp_serving.proofs.serving.serve.Given as goal
 
 -- the ledger that was just made

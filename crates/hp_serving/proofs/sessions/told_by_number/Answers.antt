@@ -1,4 +1,4 @@
-use Rattle.std.proofs.Common.{◌≡◌, ◌∙◌, ◌∷◌, ◌++◌, [], ap, append-nil, arith, length, rules, sym}
+use Rattle.std.proofs.Common.{◌≡◌, ◌∙◌, ◌++◌, ap, append-nil, arith, length, rules, sym}
 use Rattle.std.specs.Vec.Iter.{into_iter_items}
 use Rattle.hp_serving.proofs.Known.{all_ended, one_ended}
 use Rattle.hp_serving.proofs.sessions.told_by_number.Goals as goal
