@@ -1,5 +1,6 @@
 -- What is known of a connection once it has ended.
-use Rattle.std.proofs.Common.{◌≡◌, ◌∙◌, ℕ, ℤ, List, [], ◌∷◌, ◌++◌, Option, Some, None, Result, Ok, Err, All, IfErr, OnErr, OnOk, ap, arith, inl, inr, length, append-nil, append_assoc, map, refl, subst, sym}
+use Rattle.std.proofs.Common.{◌≡◌, ◌∙◌, ℕ, ℤ, List, [], ◌∷◌, ◌++◌, Option, Some, None, Result, Ok, Err}
+use Rattle.std.proofs.Common.{All, IfErr, OnErr, OnOk, ap, arith, inl, inr, length, append-nil, append_assoc, map, refl, subst, sym}
 use Rattle.std.proofs.lemmas.List.{map-append}
 use Rattle.std.proofs.lemmas.List.Elements.{All-nil, All-push}
 use Rattle.std.specs.Io.KnownBytes.{Appends}
@@ -11,7 +12,7 @@ use Rattle.hp_model.specs.declared.fault.RunFault.{RunFault}
 use Rattle.hp_wire.specs.Reading.{Reading}
 use Rattle.hp_wire.specs.Sent.{IsWriteCut}
 use Rattle.hp_wire.proofs.Known.{front_whole}
-use Rattle.hp_serving.specs.Connection.{Became, HasEnded, IsClosed, WasRefused, WasServed, no_session, told_of}
+use Rattle.hp_serving.specs.Connection.{Became, HasEnded, IsClosed, WasRefused, WasServed, no_session, told_in}
 use Rattle.hp_serving.specs.Session.{IsServed}
 use Rattle.hp_serving.specs.declared.entry.Outcome.{Outcome}
 use Rattle.hp_serving.specs.declared.entry.Outcome.TheVariants.{Served, Refused, Gone}
@@ -64,10 +65,10 @@ was_closed is_opened was_told may_answer page of heard over failed to said broke
 pub record Ending {E T G : Type 0} (of : E → Outcome T G) (may_end : Outcome T G → Type 0) (all rest : List E) (told : List T) : Type 0 where
   pub done : List E
   pub all_is : done ++ rest ≡ all
-  pub told_is : told ≡ told_of (map of done)
+  pub told_is : told ≡ told_in (map of done)
   pub ended : All may_end (map of done)
 
-told_more : {T G : Type 0} (xs ys : List (Outcome T G)) → told_of (xs ++ ys) ≡ told_of xs ++ told_of ys
+told_more : {T G : Type 0} (xs ys : List (Outcome T G)) → told_in (xs ++ ys) ≡ told_in xs ++ told_in ys
 told_more [] ys = refl
 told_more (Served told ∷ xs) ys = ap (λ ts. told ∷ ts) (told_more xs ys)
 told_more (Refused refused ∷ xs) ys = told_more xs ys
@@ -77,22 +78,22 @@ pub none_ended : {E T G : Type 0} (of : E → Outcome T G) (may_end : Outcome T 
 none_ended of may_end all = record { done = []; all_is = refl; told_is = refl; ended = All-nil may_end }
 
 pub one_ended : {E T G : Type 0} (of : E → Outcome T G) (may_end : Outcome T G → Type 0) (all rest rest' : List E) (told told' : List T) (x : E)
-    → Ending of may_end all rest told → rest ≡ x ∷ rest' → told' ≡ told ++ told_of (of x ∷ []) → may_end (of x) → Ending of may_end all rest' told'
+    → Ending of may_end all rest told → rest ≡ x ∷ rest' → told' ≡ told ++ told_in (of x ∷ []) → may_end (of x) → Ending of may_end all rest' told'
 one_ended of may_end all rest rest' told told' x h next more one =
     let same : map of (h.done ++ x ∷ []) ≡ map of h.done ++ of x ∷ [] = map-append of h.done (x ∷ []) in
     record {
       done = h.done ++ x ∷ [];
       all_is = append_assoc h.done (x ∷ []) rest' ∙ (ap (λ xs. h.done ++ xs) (sym next) ∙ h.all_is);
-      told_is = more ∙ (ap (λ ts. ts ++ told_of (of x ∷ [])) h.told_is ∙ (sym (told_more (map of h.done) (of x ∷ [])) ∙ ap told_of (sym same)));
+      told_is = more ∙ (ap (λ ts. ts ++ told_in (of x ∷ [])) h.told_is ∙ (sym (told_more (map of h.done) (of x ∷ [])) ∙ ap told_in (sym same)));
       ended = subst (λ xs. All may_end xs) (sym same) (All-push may_end (map of h.done) (of x) h.ended one);
     }
 
 pub all_ended : {E T G : Type 0} (of : E → Outcome T G) (may_end : Outcome T G → Type 0) (all rest : List E) (told : List T)
-    → Ending of may_end all rest told → length rest ≡ 0 → (told ≡ told_of (map of all)) × All may_end (map of all)
+    → Ending of may_end all rest told → length rest ≡ 0 → (told ≡ told_in (map of all)) × All may_end (map of all)
 all_ended of may_end all (x ∷ rest) told h none = absurd (omega (arith, none))
 all_ended of may_end all [] told h none =
     let same : h.done ≡ all = sym (append-nil h.done) ∙ h.all_is in (
-      h.told_is ∙ ap (λ xs. told_of (map of xs)) same,
+      h.told_is ∙ ap (λ xs. told_in (map of xs)) same,
       subst (λ xs. All may_end (map of xs)) same h.ended,
     )
 

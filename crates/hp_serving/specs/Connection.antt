@@ -53,8 +53,8 @@ IsClosed is_opened was_told may_answer page of heard over failed to said broken 
     ∥ HasEnded is_opened was_told may_answer page of heard over failed to said broken outcome ∥₁
 
 -- what the sessions were told that served some of these
-abbrev pub told_of : {T G : Type 0} → List (Outcome T G) → List T
-told_of [] = []
-told_of (Served told ∷ outcomes) = told ∷ told_of outcomes
-told_of (Refused refused ∷ outcomes) = told_of outcomes
-told_of (Gone gone ∷ outcomes) = told_of outcomes
+abbrev pub told_in : {T G : Type 0} → List (Outcome T G) → List T
+told_in [] = []
+told_in (Served told ∷ outcomes) = told ∷ told_in outcomes
+told_in (Refused refused ∷ outcomes) = told_in outcomes
+told_in (Gone gone ∷ outcomes) = told_in outcomes

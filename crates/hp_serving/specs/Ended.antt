@@ -5,7 +5,7 @@ use Rattle.std.specs.Io.KnownBytes.{Appends}
 use Rattle.hp_model.specs.text.Writing.{meminfo_text}
 use Rattle.hp_model.specs.Profile.{most_frames_in_all, most_page_bytes}
 use Rattle.hp_model.specs.run.Ran.{AppendsFront}
-use Rattle.hp_serving.specs.Connection.{told_of}
+use Rattle.hp_serving.specs.Connection.{told_in}
 use Rattle.hp_serving.specs.declared.entry.Outcome.{Outcome}
 use Rattle.hp_serving.specs.declared.fault.ServeFault.{ServeFault}
 use Rattle.hp_serving.specs.declared.fault.ServeFault.TheVariants.{Memory, Write, Network}
@@ -49,7 +49,7 @@ status_of (Failed fault) = 1
 abbrev pub Leaves : {T G : Type 0} → ℕ → (Outcome T G → Type 0) → (List T → Closed → Type 0) → Closed → Type 0
 Leaves {T} {G} sessions may_end may_leave closed =
     (outcomes : List (Outcome T G)) × (length outcomes ≡ sessions) × All may_end outcomes
-    × (told : List T) × IsPermutation (told_of outcomes) told × may_leave told closed
+    × (told : List T) × IsPermutation (told_in outcomes) told × may_leave told closed
 
 -- so it was, where it is told what is left of the machine
 abbrev pub LeavesAsked : {T G : Type 0} → ℕ → (Outcome T G → Type 0) → (List T → Closed → Type 0) → Ended → Type 0

@@ -1,6 +1,6 @@
 //! What became of a connection.
 ghost use Rattle.std.specs.Prelude.{◌≡◌, ◌∷◌, [], IfNone, IfSome};
-ghost use Rattle.hp_serving.specs.Connection.{Became, IsClosed, told_of};
+ghost use Rattle.hp_serving.specs.Connection.{Became, IsClosed, told_in};
 
 use crate::host::Machine;
 use crate::session::Refused;
@@ -33,8 +33,8 @@ impl<A: Source, B: Sink, M: Machine, G> Entry<A, B, M, G> {
     pub(crate) fn into_told(self) -> Option<M::Told>
     where
         G: Drop,
-        ensures some { IfSome result (λ told. told_of (self.outcome ∷ []) ≡ told ∷ []) }
-        ensures none { IfNone result (told_of (self.outcome ∷ []) ≡ []) }
+        ensures some { IfSome result (λ told. told_in (self.outcome ∷ []) ≡ told ∷ []) }
+        ensures none { IfNone result (told_in (self.outcome ∷ []) ≡ []) }
     {
         let Entry { outcome, ends: _ } = self;
         match outcome {
@@ -56,11 +56,7 @@ impl<A: Source, B: Sink, M: Machine, G> Entry<A, B, M, G> {
 impl<A: Source + Drop, B: Sink + Drop, M: Machine, G> Entry<A, B, M, G> {
     /// Closes both ends of one.
     #[tactic(auto, using(crate::proofs::Known::was_closed))]
-    pub(crate) fn close(
-        _reader: A,
-        _writer: B,
-        outcome: Outcome<M::Told, G>,
-    ) -> Entry<A, B, M, G>
+    pub(crate) fn close(_reader: A, _writer: B, outcome: Outcome<M::Told, G>) -> Entry<A, B, M, G>
         requires same { A.connection _reader ≡ B.connection _writer }
         requires became { Became M.is_opened M.was_told M.may_answer M.page
             (A.heard _reader) (A.is_over _reader) (A.has_failed _reader)

@@ -77,15 +77,7 @@ pub fn serve<R: Threads + Wait + Sync, M: Machine + Sync, C: Connections>(
     ensures { IfOk result (λ entries. length entries.items ≡ sessions) }
 {
     let blank = Blank::new(u64::from(workers) + 3);
-    serve_named::<R, M, C, Brand, Brand>(
-        rt,
-        alloc,
-        machine,
-        connections,
-        sessions,
-        workers,
-        blank,
-    )
+    serve_named::<R, M, C, Brand, Brand>(rt, alloc, machine, connections, sessions, workers, blank)
 }
 
 fn serve_named<
@@ -129,9 +121,19 @@ fn serve_named<
     let taker = Taker::<L, P>::new(book, share, workers, sessions);
     let accepted = RankedLock::new(accepted);
     let filed = RankedLock::new(filed);
-    let taken = serve_on(rt, alloc, machine, connections, &accepted, &filed, taker)?;
+    let rest = Rest::begin();
+    let (rest, taken) = serve_on(
+        rt,
+        rest,
+        alloc,
+        machine,
+        connections,
+        &accepted,
+        &filed,
+        taker,
+    )?;
     let (accepted, filed) = (accepted.into_inner(), filed.into_inner());
-    match end(rt, alloc, machine, accepted, filed, taken) {
+    match end(rt, rest, alloc, machine, accepted, filed, taken) {
         Ok(entries) => Ok(entries),
         Err(AllocError) => Err(Stopped::Memory),
     }
@@ -146,13 +148,14 @@ fn serve_on<
     P: Plan,
 >(
     rt: &R,
+    rest: Rest,
     alloc: Global,
     machine: &M,
     connections: &mut C,
     accepted: &RankedLock<Accepted<C::Reader, C::Writer, L>>,
     filed: &RankedLock<Filed<C::Reader, C::Writer, M, C::Gone, L>>,
     taker: Taker<L, P>,
-) -> Result<Taken<L, P>, Stopped<C::Fault>> {
+) -> Result<(Rest, Taken<L, P>), Stopped<C::Fault>> {
     let room = (taker.workers as usize).max(1);
     let Ok((rights_to, rights)) = crossbeam_channel::bounded(alloc, room) else {
         return Err(Stopped::Memory);
@@ -173,7 +176,7 @@ fn serve_on<
         accepted,
         filed,
     };
-    run(&hall, connections, rights_to, to, &ended, taker)
+    run(&hall, rest, connections, rights_to, to, &ended, taker)
 }
 
 fn run<
@@ -185,14 +188,15 @@ fn run<
     P: Plan,
 >(
     hall: &'x Hall<'x, R, C::Reader, C::Writer, M, C::Gone, L>,
+    rest: Rest,
     connections: &mut C,
     rights_to: Sender<Right<L>, Global>,
     to: Sender<(), Global>,
     ended: &Endings,
     taker: Taker<L, P>,
-) -> Result<Taken<L, P>, Stopped<C::Fault>> {
+) -> Result<(Rest, Taken<L, P>), Stopped<C::Fault>> {
     thread::scope(thread::scope_env(), hall.rt, |scope| {
-        take_all(scope, hall, connections, rights_to, to, ended, taker)
+        take_all(scope, hall, rest, connections, rights_to, to, ended, taker)
     })
 }
 
@@ -208,12 +212,13 @@ fn take_all<
 >(
     scope: &Scope<'x, E>,
     hall: &'x Hall<'x, R, C::Reader, C::Writer, M, C::Gone, L>,
+    rest: Rest,
     connections: &mut C,
     rights_to: Sender<Right<L>, Global>,
     to: Sender<(), Global>,
     ended: &Endings,
     taker: Taker<L, P>,
-) -> Result<Taken<L, P>, Stopped<C::Fault>> {
+) -> Result<(Rest, Taken<L, P>), Stopped<C::Fault>> {
     let (mut book, share, workers, sessions) = taker.into_parts();
     let Ok((handles, mut share)) = start_workers(scope, hall, workers, &rights_to, share) else {
         return Err(Stopped::Memory);
@@ -225,11 +230,20 @@ fn take_all<
         return Err(Stopped::Write);
     }
     let right = Right::new(share.split_off(1, 0));
-    let right = hand_out(hall, connections, &to, ended, sessions, &mut book, right)?;
+    let (rest, right) = hand_out(
+        hall,
+        rest,
+        connections,
+        &to,
+        ended,
+        sessions,
+        &mut book,
+        right,
+    )?;
     drop(to);
     share.merge(right.into_share());
     match join_all(hall.rt, handles, share) {
-        Ok(share) => Ok(Taken::new(book, share)),
+        Ok(share) => Ok((rest, Taken::new(book, share))),
         Err(AllocError) => Err(Stopped::Memory),
     }
 }
@@ -297,16 +311,17 @@ fn join_all<R: Threads, L: Ledger>(
 // Takes so many connections. Those that can be opened wait for a worker.
 fn hand_out<R: Wait, C: Connections, M: Machine, L: Ledger>(
     hall: &Hall<'_, R, C::Reader, C::Writer, M, C::Gone, L>,
+    rest: Rest,
     connections: &mut C,
     to: &Sender<(), Global>,
     ended: &Endings,
     count: usize,
     book: &mut Book<L>,
     right: Right<L>,
-) -> Result<Right<L>, Stopped<C::Fault>>
+) -> Result<(Rest, Right<L>), Stopped<C::Fault>>
     ensures { OnOk result (book.new.total ≡ book.old.total + count) }
 {
-    let mut rest = Rest::begin();
+    let mut rest = rest;
     let mut right = right;
     for _ in 0..count {
         let now = match connections.next(&rest, ended) {
@@ -324,18 +339,11 @@ fn hand_out<R: Wait, C: Connections, M: Machine, L: Ledger>(
         rest = again;
         right = back;
     }
-    Ok(right)
+    Ok((rest, right))
 }
 
 // Lets a connection wait for a worker. Where there is no memory for it, it is served at once.
-fn put<
-    R: Wait,
-    A: Source + Drop,
-    B: Sink + Drop,
-    M: Machine,
-    G: Drop,
-    L: Ledger,
->(
+fn put<R: Wait, A: Source + Drop, B: Sink + Drop, M: Machine, G: Drop, L: Ledger>(
     hall: &Hall<'_, R, A, B, M, G, L>,
     rest: Rest,
     to: &Sender<(), Global>,
@@ -361,14 +369,7 @@ fn send<R: Wait>(_rest: &Rest, rt: &R, to: &Sender<(), Global>) {
 }
 
 // Serves connections until no more come.
-fn work<
-    R: Wait,
-    A: Source + Drop,
-    B: Sink + Drop,
-    M: Machine,
-    G: Drop,
-    L: Ledger,
->(
+fn work<R: Wait, A: Source + Drop, B: Sink + Drop, M: Machine, G: Drop, L: Ledger>(
     hall: &Hall<'_, R, A, B, M, G, L>,
 ) -> Result<Right<L>, AllocError> {
     let mut rest = Rest::begin();
@@ -386,14 +387,7 @@ fn work<
 }
 
 // Serves the connection that has waited longest, if there is one.
-fn serve_next<
-    R: Wait,
-    A: Source + Drop,
-    B: Sink + Drop,
-    M: Machine,
-    G: Drop,
-    L: Ledger,
->(
+fn serve_next<R: Wait, A: Source + Drop, B: Sink + Drop, M: Machine, G: Drop, L: Ledger>(
     hall: &Hall<'_, R, A, B, M, G, L>,
     rest: Rest,
     right: Right<L>,
@@ -410,14 +404,7 @@ fn serve_next<
 }
 
 // Serves a connection, and files what became of it.
-fn serve_one<
-    R: Wait,
-    A: Source + Drop,
-    B: Sink + Drop,
-    M: Machine,
-    G: Drop,
-    L: Ledger,
->(
+fn serve_one<R: Wait, A: Source + Drop, B: Sink + Drop, M: Machine, G: Drop, L: Ledger>(
     hall: &Hall<'_, R, A, B, M, G, L>,
     rest: Rest,
     connection: Connection<A, B, L>,
@@ -426,14 +413,7 @@ fn serve_one<
     file(hall, rest, spent)
 }
 
-fn file<
-    R: Wait,
-    A: Source + Drop,
-    B: Sink + Drop,
-    M: Machine,
-    G: Drop,
-    L: Ledger,
->(
+fn file<R: Wait, A: Source + Drop, B: Sink + Drop, M: Machine, G: Drop, L: Ledger>(
     hall: &Hall<'_, R, A, B, M, G, L>,
     rest: Rest,
     spent: Spent<A, B, M, G, L>,
@@ -446,16 +426,9 @@ fn file<
 }
 
 // Serves the connections that nobody took, and closes the count: all that came have ended.
-fn end<
-    R: Wait,
-    A: Source + Drop,
-    B: Sink + Drop,
-    M: Machine,
-    G: Drop,
-    L: Ledger,
-    P: Plan,
->(
+fn end<R: Wait, A: Source + Drop, B: Sink + Drop, M: Machine, G: Drop, L: Ledger, P: Plan>(
     rt: &R,
+    rest: Rest,
     alloc: Global,
     machine: &M,
     accepted: Accepted<A, B, L>,
@@ -465,7 +438,7 @@ fn end<
     requires { L.parts ≡ P.rights }
     ensures { IfOk result (λ entries. length entries.items ≡ P.sessions) }
 {
-    let mut rest = Rest::begin();
+    let mut rest = rest;
     let mut accepted = accepted;
     let mut filed = filed;
     let (open, mut right) = taken.with_right();
@@ -483,14 +456,7 @@ fn end<
 }
 
 // All that came have ended, as the rights say that are back.
-fn close<
-    A: Source + Drop,
-    B: Sink + Drop,
-    M: Machine,
-    G: Drop,
-    L: Ledger,
-    P: Plan,
->(
+fn close<A: Source + Drop, B: Sink + Drop, M: Machine, G: Drop, L: Ledger, P: Plan>(
     accepted: Accepted<A, B, L>,
     filed: Filed<A, B, M, G, L>,
     open: Open<L, P>,

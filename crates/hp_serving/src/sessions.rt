@@ -2,12 +2,12 @@
 ghost use Rattle.std.specs.Prelude.{◌≡◌, ◌≤◌, [], ◌++◌, map, vec_capacity, vec_len, All, IfOk, IfErr, IfSome, IsOk, IsPermutation, OnOk};
 ghost use Rattle.hp_wire.specs.Sent.{Writes, WritesFront};
 ghost use Rattle.hp_serving.specs.Ended.{IsOfMachine, LeavesAsked, Prints, Says, SaysEnd, line_of_fault, status_after, status_of, text_of_audit, text_of_close};
-ghost use Rattle.hp_serving.specs.Connection.{IsClosed, told_of};
+ghost use Rattle.hp_serving.specs.Connection.{IsClosed, told_in};
 ghost use Rattle.hp_serving.specs.declared.sessions.Ended.{Ended as TheEnd};
 
 use crate::connections::Connections;
-use crate::fault::ServeFault;
 use crate::entry::Entry;
+use crate::fault::ServeFault;
 use crate::host::{Closed, Machine};
 use crate::serving::serve;
 use hp_text::meminfo::meminfo_text;
@@ -65,7 +65,16 @@ pub fn serve_sessions<
 {
     match rooms::<M>(alloc, sessions) {
         Ok(rooms) => {
-            let ended = run(rt, alloc, machine, connections, sessions, workers, rooms, output);
+            let ended = run(
+                rt,
+                alloc,
+                machine,
+                connections,
+                sessions,
+                workers,
+                rooms,
+                output,
+            );
             report(ended, faults)
         }
         Err(AllocError) => {
@@ -95,7 +104,7 @@ fn told_by_number<A: Source, B: Sink, M: Machine, G: Drop>(
 ) -> Vec<M::Told>
     requires none { told.items ≡ [] }
     requires room { vec_len entries ≤ vec_capacity told }
-    ensures told { IsPermutation (told_of (map (λ e. e.outcome) entries.items)) result.items }
+    ensures told { IsPermutation (told_in (map (λ e. e.outcome) entries.items)) result.items }
     ensures closed { All (IsClosed M.is_opened M.was_told M.may_answer M.page
         A.connection A.heard A.is_over A.has_failed
         B.connection B.contents B.has_failed)
@@ -125,7 +134,8 @@ fn run<R: Threads + Wait + Sync, M: Machine + Sync, C: Connections, W: Sink>(
     requires places { sessions ≤ vec_capacity rooms.0 }
     requires empty { rooms.1.items ≡ [] }
     requires room { 256 ≤ vec_capacity rooms.1 }
-    ensures leaves { LeavesAsked {G = C.Gone} sessions (IsClosed M.is_opened M.was_told M.may_answer M.page
+    ensures leaves { LeavesAsked {G = C.Gone} sessions (IsClosed
+        M.is_opened M.was_told M.may_answer M.page
         C.Reader.connection C.Reader.heard C.Reader.is_over C.Reader.has_failed
         C.Writer.connection C.Writer.contents C.Writer.has_failed)
         (M.may_leave machine) result }

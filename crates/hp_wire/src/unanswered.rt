@@ -48,13 +48,15 @@ impl Unanswered {
     pub fn read<R: Source>(&mut self, reader: &mut R, most: usize) -> Result<usize, RunFault>
         requires { length self.old ≤ 1025 }
         ensures got { IfOk result (Gets self.old self.new
-            (R.remaining reader.old, R.heard reader.old) (R.remaining reader.new, R.heard reader.new)) }
+            (R.remaining reader.old, R.heard reader.old)
+            (R.remaining reader.new, R.heard reader.new)) }
         ensures bound { IfOk result (λ n. n ≤ most) }
         ensures end { IfOk result (λ n. n ≡ 0 → 0 < most
             → IsAtEnd (R.remaining reader.new)) }
         ensures over { IfOk result (λ n. n ≡ 0 → 0 < most → R.is_over reader.new) }
         ensures err { IfErr result (FailsToRead
-            (R.remaining reader.old, R.heard reader.old) (R.remaining reader.new, R.heard reader.new)) }
+            (R.remaining reader.old, R.heard reader.old)
+            (R.remaining reader.new, R.heard reader.new)) }
         ensures failed { OnErr result (R.has_failed reader.new) }
         ensures connection { R.connection reader.new ≡ R.connection reader.old }
         ensures sure { R.is_sure reader.old → IsOk result }

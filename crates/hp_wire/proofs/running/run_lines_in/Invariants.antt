@@ -4,7 +4,8 @@ use Rattle.hp_wire.proofs.running.run_lines_in.Given as goal
 
 abbrev pub invariant-loop : goal.invariant-loop
 invariant-loop g l = record {
-  progress : Progress g.S.Service.may_answer (g.S.Service.page l.fn.service) (g.R.Read.remaining l.fn.reader, g.R.Source.heard l.fn.reader) (g.R.Read.remaining l.reader, g.R.Source.heard l.reader) l.fn.service l.service
+  progress : Progress g.S.Service.may_answer (g.S.Service.page l.fn.service) (g.R.Read.remaining l.fn.reader, g.R.Source.heard l.fn.reader)
+      (g.R.Read.remaining l.reader, g.R.Source.heard l.reader) l.fn.service l.service
       (g.W.Write.contents l.fn.writer) (g.W.Write.contents l.writer) l.unanswered l.total l.count;
   limit : l.total ≤ 1073741824;
   turns : l.counter ≤ l.total;
