@@ -30,7 +30,7 @@ pub(crate) struct Connection<A: Source, B: Sink, L: Ledger> {
 }
 
 /// What became of a connection, which is owed until that is filed. It has no `Drop`.
-pub(crate) struct Spent<A: Source, B: Sink, M: Machine, G, L: Ledger> {
+pub(crate) struct Report<A: Source, B: Sink, M: Machine, G, L: Ledger> {
     entry: Entry<A, B, M, G>,
     share: Share<L>,
     ghost one: { share.parts ≡ 1 },
@@ -49,7 +49,7 @@ impl<A: Source, B: Sink> Ends<A, B> {
 
 impl<A: Source + Drop, B: Sink + Drop, L: Ledger> Connection<A, B, L> {
     /// One that came. It counts from here on.
-    pub(crate) fn came(ends: Ends<A, B>, right: Right<L>, book: &mut Book<L>) -> Connection<A, B, L>
+    pub(crate) fn new(ends: Ends<A, B>, right: Right<L>, book: &mut Book<L>) -> Connection<A, B, L>
         ensures { book.new.total ≡ book.old.total + 1 }
     {
         let mut share = right.into_share();
@@ -58,7 +58,7 @@ impl<A: Source + Drop, B: Sink + Drop, L: Ledger> Connection<A, B, L> {
     }
 
     /// One that waited.
-    pub(crate) fn again(ends: Ends<A, B>, share: Share<L>) -> Connection<A, B, L>
+    pub(crate) fn from_parts(ends: Ends<A, B>, share: Share<L>) -> Connection<A, B, L>
         requires one { share.parts ≡ 1 }
         requires owed { share.amount ≡ 1 }
     {
@@ -81,7 +81,7 @@ impl<A: Source + Drop, B: Sink + Drop, L: Ledger> Connection<A, B, L> {
         rest: Rest,
         alloc: Global,
         machine: &M,
-    ) -> (Spent<A, B, M, G, L>, Rest) {
+    ) -> (Report<A, B, M, G, L>, Rest) {
         let Connection { ends, share } = self;
         let Ends {
             mut reader,
@@ -96,19 +96,19 @@ impl<A: Source + Drop, B: Sink + Drop, L: Ledger> Connection<A, B, L> {
             &mut writer,
         );
         let entry = Entry::close(reader, writer, outcome);
-        (Spent { entry, share }, rest)
+        (Report { entry, share }, rest)
     }
 }
 
-impl<A: Source, B: Sink, M: Machine, G, L: Ledger> Spent<A, B, M, G, L> {
+impl<A: Source, B: Sink, M: Machine, G, L: Ledger> Report<A, B, M, G, L> {
     /// One that could not be opened. It counts as well.
-    pub(crate) fn gone(gone: G, right: Right<L>, book: &mut Book<L>) -> Spent<A, B, M, G, L>
+    pub(crate) fn of_gone(gone: G, right: Right<L>, book: &mut Book<L>) -> Report<A, B, M, G, L>
         ensures { book.new.total ≡ book.old.total + 1 }
     {
         let mut share = right.into_share();
         book.add(&mut share, 1);
-        Spent {
-            entry: Entry::gone(gone),
+        Report {
+            entry: Entry::of_gone(gone),
             share,
         }
     }
@@ -118,7 +118,7 @@ impl<A: Source, B: Sink, M: Machine, G, L: Ledger> Spent<A, B, M, G, L> {
         ensures one { result.1.parts ≡ 1 }
         ensures owed { result.1.amount ≡ 1 }
     {
-        let Spent { entry, share } = self;
+        let Report { entry, share } = self;
         (entry, share)
     }
 }

@@ -45,7 +45,7 @@ impl<A: Source, B: Sink, M: Machine, G> Entry<A, B, M, G> {
     }
 
     /// One that could not be opened.
-    pub(crate) fn gone(gone: G) -> Entry<A, B, M, G> {
+    pub(crate) fn of_gone(gone: G) -> Entry<A, B, M, G> {
         Entry {
             outcome: Outcome::Gone(gone),
             ends: PhantomData,

@@ -1,20 +1,20 @@
 //! Sessions over connections, served by several workers on one machine.
 #![tactic(auto)]
 
-mod accepted;
+mod backlog;
 mod connection;
 mod connections;
 mod endings;
 mod entry;
 mod fault;
-mod filed;
 mod first_line;
 mod host;
+mod register;
 mod right;
 mod serving;
 mod session;
 mod sessions;
-mod taking;
+mod tally;
 mod tcp;
 
 pub use connections::Connections;

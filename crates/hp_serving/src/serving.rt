@@ -1,16 +1,16 @@
-//! Workers that serve accepted connections.
+//! Workers that serve backlog connections.
 ghost use Rattle.std.specs.Prelude.{◌≡◌, ◌+◌, ◌<◌, IfOk, OnOk, length, vec_len};
 
-use crate::accepted::Accepted;
-use crate::connection::{Connection, Ends, Spent};
+use crate::backlog::Backlog;
+use crate::connection::{Connection, Ends, Report};
 use crate::connections::Connections;
 use crate::endings::{Endings, Teller, pair};
 use crate::entry::Entry;
 use crate::fault::ServeFault;
-use crate::filed::Filed;
 use crate::host::Machine;
+use crate::register::Register;
 use crate::right::Right;
-use crate::taking::{Open, Plan, Taken, Taker};
+use crate::tally::{OpenTally, Plan, Taker, Tally};
 use crossbeam_channel::{Receiver, Sender};
 use hp_order::{RankedLock, Rest, hold, let_go, receive};
 use hp_wire::ends::{Sink, Source};
@@ -56,8 +56,8 @@ struct Hall<'x, R, A: Source, B: Sink, M: Machine, G, L: Ledger> {
     rights: &'x Receiver<Right<L>, Global>,
     jobs: &'x Receiver<(), Global>,
     ends: &'x Teller,
-    accepted: &'x RankedLock<Accepted<A, B, L>>,
-    filed: &'x RankedLock<Filed<A, B, M, G, L>>,
+    backlog: &'x RankedLock<Backlog<A, B, L>>,
+    register: &'x RankedLock<Register<A, B, M, G, L>>,
 }
 
 /// Takes so many connections, and serves them by so many workers: each is served, or answered that it has no session, or it could not be
@@ -104,14 +104,14 @@ fn serve_named<
 {
     let (book, mut share) = blank.open::<L>();
     let room = workers as usize;
-    let Ok(accepted) = Accepted::<C::Reader, C::Writer, L>::new(
+    let Ok(backlog) = Backlog::<C::Reader, C::Writer, L>::new(
         alloc,
         2 * room + 1,
         share.split_off(1, 0),
     ) else {
         return Err(Stopped::Memory);
     };
-    let Ok(filed) = Filed::<C::Reader, C::Writer, M, C::Gone, L>::new(
+    let Ok(register) = Register::<C::Reader, C::Writer, M, C::Gone, L>::new(
         alloc,
         sessions,
         share.split_off(1, 0),
@@ -119,21 +119,21 @@ fn serve_named<
         return Err(Stopped::Memory);
     };
     let taker = Taker::<L, P>::new(book, share, workers, sessions);
-    let accepted = RankedLock::new(accepted);
-    let filed = RankedLock::new(filed);
+    let backlog = RankedLock::new(backlog);
+    let register = RankedLock::new(register);
     let rest = Rest::begin();
-    let (rest, taken) = serve_on(
+    let (rest, tally) = serve_on(
         rt,
         rest,
         alloc,
         machine,
         connections,
-        &accepted,
-        &filed,
+        &backlog,
+        &register,
         taker,
     )?;
-    let (accepted, filed) = (accepted.into_inner(), filed.into_inner());
-    match end(rt, rest, alloc, machine, accepted, filed, taken) {
+    let (backlog, register) = (backlog.into_inner(), register.into_inner());
+    match end(rt, rest, alloc, machine, backlog, register, tally) {
         Ok(entries) => Ok(entries),
         Err(AllocError) => Err(Stopped::Memory),
     }
@@ -152,10 +152,10 @@ fn serve_on<
     alloc: Global,
     machine: &M,
     connections: &mut C,
-    accepted: &RankedLock<Accepted<C::Reader, C::Writer, L>>,
-    filed: &RankedLock<Filed<C::Reader, C::Writer, M, C::Gone, L>>,
+    backlog: &RankedLock<Backlog<C::Reader, C::Writer, L>>,
+    register: &RankedLock<Register<C::Reader, C::Writer, M, C::Gone, L>>,
     taker: Taker<L, P>,
-) -> Result<(Rest, Taken<L, P>), Stopped<C::Fault>> {
+) -> Result<(Rest, Tally<L, P>), Stopped<C::Fault>> {
     let room = (taker.workers as usize).max(1);
     let Ok((rights_to, rights)) = crossbeam_channel::bounded(alloc, room) else {
         return Err(Stopped::Memory);
@@ -173,8 +173,8 @@ fn serve_on<
         rights: &rights,
         jobs: &jobs,
         ends: &ends,
-        accepted,
-        filed,
+        backlog,
+        register,
     };
     run(&hall, rest, connections, rights_to, to, &ended, taker)
 }
@@ -194,7 +194,7 @@ fn run<
     to: Sender<(), Global>,
     ended: &Endings,
     taker: Taker<L, P>,
-) -> Result<(Rest, Taken<L, P>), Stopped<C::Fault>> {
+) -> Result<(Rest, Tally<L, P>), Stopped<C::Fault>> {
     thread::scope(thread::scope_env(), hall.rt, |scope| {
         take_all(scope, hall, rest, connections, rights_to, to, ended, taker)
     })
@@ -218,7 +218,7 @@ fn take_all<
     to: Sender<(), Global>,
     ended: &Endings,
     taker: Taker<L, P>,
-) -> Result<(Rest, Taken<L, P>), Stopped<C::Fault>> {
+) -> Result<(Rest, Tally<L, P>), Stopped<C::Fault>> {
     let (mut book, share, workers, sessions) = taker.into_parts();
     let Ok((handles, mut share)) = start_workers(scope, hall, workers, &rights_to, share) else {
         return Err(Stopped::Memory);
@@ -243,7 +243,7 @@ fn take_all<
     drop(to);
     share.merge(right.into_share());
     match join_all(hall.rt, handles, share) {
-        Ok(share) => Ok((rest, Taken::new(book, share))),
+        Ok(share) => Ok((rest, Tally::new(book, share))),
         Err(AllocError) => Err(Stopped::Memory),
     }
 }
@@ -327,10 +327,10 @@ fn hand_out<R: Wait, C: Connections, M: Machine, L: Ledger>(
         let now = match connections.next(&rest, ended) {
             Ok(Ok((reader, writer))) => {
                 let ends = Ends::new(reader, writer);
-                let connection = Connection::came(ends, right, book);
+                let connection = Connection::new(ends, right, book);
                 put(hall, rest, to, connection)
             }
-            Ok(Err(gone)) => file(hall, rest, Spent::gone(gone, right, book)),
+            Ok(Err(gone)) => file(hall, rest, Report::of_gone(gone, right, book)),
             Err(fault) => return Err(Stopped::Failed(fault)),
         };
         let Ok((again, back)) = now else {
@@ -350,9 +350,9 @@ fn put<R: Wait, A: Source + Drop, B: Sink + Drop, M: Machine, G: Drop, L: Ledger
     connection: Connection<A, B, L>,
 ) -> Result<(Rest, Right<L>), AllocError> {
     let mut turn = rest.into_turn();
-    let mut accepted = hold(&mut turn, hall.accepted, hall.rt);
-    let put = accepted.put(connection);
-    let_go(&mut turn, accepted);
+    let mut backlog = hold(&mut turn, hall.backlog, hall.rt);
+    let put = backlog.put(connection);
+    let_go(&mut turn, backlog);
     let rest = Rest::of(turn);
     match put {
         Ok(right) => {
@@ -393,9 +393,9 @@ fn serve_next<R: Wait, A: Source + Drop, B: Sink + Drop, M: Machine, G: Drop, L:
     right: Right<L>,
 ) -> Result<(Rest, Right<L>), AllocError> {
     let mut turn = rest.into_turn();
-    let mut accepted = hold(&mut turn, hall.accepted, hall.rt);
-    let taken = accepted.take(right);
-    let_go(&mut turn, accepted);
+    let mut backlog = hold(&mut turn, hall.backlog, hall.rt);
+    let taken = backlog.take(right);
+    let_go(&mut turn, backlog);
     let rest = Rest::of(turn);
     match taken {
         Ok(connection) => serve_one(hall, rest, connection),
@@ -409,19 +409,19 @@ fn serve_one<R: Wait, A: Source + Drop, B: Sink + Drop, M: Machine, G: Drop, L: 
     rest: Rest,
     connection: Connection<A, B, L>,
 ) -> Result<(Rest, Right<L>), AllocError> {
-    let (spent, rest) = connection.serve(hall.rt, rest, hall.alloc, hall.machine);
-    file(hall, rest, spent)
+    let (report, rest) = connection.serve(hall.rt, rest, hall.alloc, hall.machine);
+    file(hall, rest, report)
 }
 
 fn file<R: Wait, A: Source + Drop, B: Sink + Drop, M: Machine, G: Drop, L: Ledger>(
     hall: &Hall<'_, R, A, B, M, G, L>,
     rest: Rest,
-    spent: Spent<A, B, M, G, L>,
+    report: Report<A, B, M, G, L>,
 ) -> Result<(Rest, Right<L>), AllocError> {
     let mut turn = rest.into_turn();
-    let mut filed = hold(&mut turn, hall.filed, hall.rt);
-    let right = filed.file(spent);
-    let_go(&mut turn, filed);
+    let mut register = hold(&mut turn, hall.register, hall.rt);
+    let right = register.file(report);
+    let_go(&mut turn, register);
     Ok((Rest::of(turn), right?))
 }
 
@@ -431,25 +431,25 @@ fn end<R: Wait, A: Source + Drop, B: Sink + Drop, M: Machine, G: Drop, L: Ledger
     rest: Rest,
     alloc: Global,
     machine: &M,
-    accepted: Accepted<A, B, L>,
-    filed: Filed<A, B, M, G, L>,
-    taken: Taken<L, P>,
+    backlog: Backlog<A, B, L>,
+    register: Register<A, B, M, G, L>,
+    tally: Tally<L, P>,
 ) -> Result<Vec<Entry<A, B, M, G>>, AllocError>
     requires { L.parts ≡ P.rights }
     ensures { IfOk result (λ entries. length entries.items ≡ P.sessions) }
 {
     let mut rest = rest;
-    let mut accepted = accepted;
-    let mut filed = filed;
-    let (open, mut right) = taken.with_right();
+    let mut backlog = backlog;
+    let mut register = register;
+    let (open, mut right) = tally.part_with_right();
     for _ in rt.forever() {
-        match accepted.take(right) {
+        match backlog.take(right) {
             Ok(connection) => {
-                let (spent, again) = connection.serve(rt, rest, alloc, machine);
+                let (report, again) = connection.serve(rt, rest, alloc, machine);
                 rest = again;
-                right = filed.file(spent)?;
+                right = register.file(report)?;
             }
-            Err(back) => return Ok(close(accepted, filed, open, back)),
+            Err(back) => return Ok(close(backlog, register, open, back)),
         }
     }
     unreachable!()
@@ -457,17 +457,17 @@ fn end<R: Wait, A: Source + Drop, B: Sink + Drop, M: Machine, G: Drop, L: Ledger
 
 // All that came have ended, as the rights say that are back.
 fn close<A: Source + Drop, B: Sink + Drop, M: Machine, G: Drop, L: Ledger, P: Plan>(
-    accepted: Accepted<A, B, L>,
-    filed: Filed<A, B, M, G, L>,
-    open: Open<L, P>,
+    backlog: Backlog<A, B, L>,
+    register: Register<A, B, M, G, L>,
+    open: OpenTally<L, P>,
     right: Right<L>,
 ) -> Vec<Entry<A, B, M, G>>
-    requires none { length accepted.waiting.items ≡ 0 }
+    requires none { length backlog.waiting.items ≡ 0 }
     requires rights { L.parts ≡ P.rights }
     ensures { length result.items ≡ P.sessions }
 {
-    let (list, mut share) = filed.into_parts();
-    share.merge(accepted.into_share());
+    let (list, mut share) = register.into_parts();
+    share.merge(backlog.into_share());
     share.merge(right.into_share());
     open.close(share);
     list

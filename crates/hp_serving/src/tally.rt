@@ -1,4 +1,4 @@
-//! Who takes connections.
+//! The count of connections that were taken.
 ghost use Rattle.std.specs.Prelude.{◌≡◌, ◌+◌, ◌<◌};
 
 use crate::right::Right;
@@ -37,7 +37,7 @@ pub(crate) struct Taker<L: Ledger, P: Plan> {
 
 /// All were taken. The rights of all workers are back.
 #[derive(Drop)]
-pub(crate) struct Taken<L: Ledger, P: Plan> {
+pub(crate) struct Tally<L: Ledger, P: Plan> {
     book: Book<L>,
     share: Share<L>,
     plan: PhantomData<P>,
@@ -49,7 +49,7 @@ pub(crate) struct Taken<L: Ledger, P: Plan> {
 
 /// The same, but for a right.
 #[derive(Drop)]
-pub(crate) struct Open<L: Ledger, P: Plan> {
+pub(crate) struct OpenTally<L: Ledger, P: Plan> {
     book: Book<L>,
     share: Share<L>,
     plan: PhantomData<P>,
@@ -94,14 +94,14 @@ impl<L: Ledger, P: Plan> Taker<L, P> {
     }
 }
 
-impl<L: Ledger, P: Plan> Taken<L, P> {
-    pub(crate) fn new(book: Book<L>, share: Share<L>) -> Taken<L, P>
+impl<L: Ledger, P: Plan> Tally<L, P> {
+    pub(crate) fn new(book: Book<L>, share: Share<L>) -> Tally<L, P>
         requires taken { book.total ≡ P.sessions }
         requires all { share.parts + 2 ≡ P.rights }
         requires some { 1 < share.parts }
         requires free { share.amount ≡ 0 }
     {
-        Taken {
+        Tally {
             book,
             share,
             plan: PhantomData,
@@ -109,14 +109,14 @@ impl<L: Ledger, P: Plan> Taken<L, P> {
     }
 
     /// One right, and the rest.
-    pub(crate) fn with_right(self) -> (Open<L, P>, Right<L>) {
-        let Taken {
+    pub(crate) fn part_with_right(self) -> (OpenTally<L, P>, Right<L>) {
+        let Tally {
             book,
             mut share,
             plan: _,
         } = self;
         let right = Right::new(share.split_off(1, 0));
-        let open = Open {
+        let open = OpenTally {
             book,
             share,
             plan: PhantomData,
@@ -125,14 +125,14 @@ impl<L: Ledger, P: Plan> Taken<L, P> {
     }
 }
 
-impl<L: Ledger, P: Plan> Open<L, P> {
+impl<L: Ledger, P: Plan> OpenTally<L, P> {
     /// Closes the count. What these are owed by are all that were taken.
     pub(crate) fn close(self, others: Share<L>)
         requires three { others.parts ≡ 3 }
         requires all { L.parts ≡ P.rights }
         ensures { others.amount ≡ P.sessions }
     {
-        let Open {
+        let OpenTally {
             mut book,
             mut share,
             plan: _,

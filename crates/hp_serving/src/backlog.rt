@@ -11,14 +11,14 @@ use std::sync::ledger::{Ledger, Share};
 
 /// Connections that came and that nobody has taken yet, in the order in which they came. Each is owed.
 #[derive(Drop)]
-pub(crate) struct Accepted<A: Source, B: Sink, L: Ledger> {
+pub(crate) struct Backlog<A: Source, B: Sink, L: Ledger> {
     waiting: VecDeque<Ends<A, B>, Global>,
     share: Share<L>,
     ghost one: { share.parts ≡ 1 },
     ghost counted: { share.amount ≡ length waiting.items },
 }
 
-impl<A: Source, B: Sink, L: Ledger> Ordered for Accepted<A, B, L> {
+impl<A: Source, B: Sink, L: Ledger> Ordered for Backlog<A, B, L> {
     ghost rank = { 1 };
 
     #[inline(always)]
@@ -27,18 +27,18 @@ impl<A: Source, B: Sink, L: Ledger> Ordered for Accepted<A, B, L> {
     }
 }
 
-impl<A: Source + Drop, B: Sink + Drop, L: Ledger> Accepted<A, B, L> {
+impl<A: Source + Drop, B: Sink + Drop, L: Ledger> Backlog<A, B, L> {
     /// None waits. There is room for so many.
     pub(crate) fn new(
         alloc: Global,
         room: usize,
         share: Share<L>,
-    ) -> Result<Accepted<A, B, L>, AllocError>
+    ) -> Result<Backlog<A, B, L>, AllocError>
         requires one { share.parts ≡ 1 }
         requires none { share.amount ≡ 0 }
     {
         let waiting = VecDeque::with_capacity(alloc, room)?;
-        Ok(Accepted { waiting, share })
+        Ok(Backlog { waiting, share })
     }
 
     /// Lets it wait, behind all others. It comes back where memory is refused.
@@ -46,14 +46,14 @@ impl<A: Source + Drop, B: Sink + Drop, L: Ledger> Accepted<A, B, L> {
         &mut self,
         connection: Connection<A, B, L>,
     ) -> Result<Right<L>, Connection<A, B, L>> {
-        let Accepted { waiting, share } = self;
+        let Backlog { waiting, share } = self;
         let (ends, mut theirs) = connection.into_parts();
         match waiting.push_back(ends) {
             Ok(()) => {
                 theirs.transfer(share, 1);
                 Ok(Right::new(theirs))
             }
-            Err(refused) => Err(Connection::again(refused.value, theirs)),
+            Err(refused) => Err(Connection::from_parts(refused.value, theirs)),
         }
     }
 
@@ -61,13 +61,13 @@ impl<A: Source + Drop, B: Sink + Drop, L: Ledger> Accepted<A, B, L> {
     pub(crate) fn take(&mut self, right: Right<L>) -> Result<Connection<A, B, L>, Right<L>>
         ensures none { OnErr result (length self.new.waiting.items ≡ 0) }
     {
-        let Accepted { waiting, share } = self;
+        let Backlog { waiting, share } = self;
         let Some(ends) = waiting.pop_front() else {
             return Err(right);
         };
         let mut theirs = right.into_share();
         share.transfer(&mut theirs, 1);
-        Ok(Connection::again(ends, theirs))
+        Ok(Connection::from_parts(ends, theirs))
     }
 
     /// Its share. None waits any more.
@@ -76,7 +76,7 @@ impl<A: Source + Drop, B: Sink + Drop, L: Ledger> Accepted<A, B, L> {
         ensures one { result.parts ≡ 1 }
         ensures none { result.amount ≡ 0 }
     {
-        let Accepted { waiting: _, share } = self;
+        let Backlog { waiting: _, share } = self;
         share
     }
 }

@@ -1,7 +1,7 @@
 //! What became of connections, kept until the machine is closed.
 ghost use Rattle.std.specs.Prelude.{◌≡◌, length};
 
-use crate::connection::Spent;
+use crate::connection::Report;
 use crate::entry::Entry;
 use crate::host::Machine;
 use crate::right::Right;
@@ -12,14 +12,14 @@ use std::sync::ledger::{Ledger, Share};
 
 /// How connections ended, in the order in which they did. All of these were owed.
 #[derive(Drop)]
-pub(crate) struct Filed<A: Source, B: Sink, M: Machine, G, L: Ledger> {
+pub(crate) struct Register<A: Source, B: Sink, M: Machine, G, L: Ledger> {
     list: Vec<Entry<A, B, M, G>>,
     share: Share<L>,
     ghost one: { share.parts ≡ 1 },
     ghost counted: { share.amount ≡ length list.items },
 }
 
-impl<A: Source, B: Sink, M: Machine, G, L: Ledger> Ordered for Filed<A, B, M, G, L> {
+impl<A: Source, B: Sink, M: Machine, G, L: Ledger> Ordered for Register<A, B, M, G, L> {
     ghost rank = { 1 };
 
     #[inline(always)]
@@ -28,24 +28,24 @@ impl<A: Source, B: Sink, M: Machine, G, L: Ledger> Ordered for Filed<A, B, M, G,
     }
 }
 
-impl<A: Source, B: Sink, M: Machine, G: Drop, L: Ledger> Filed<A, B, M, G, L> {
+impl<A: Source, B: Sink, M: Machine, G: Drop, L: Ledger> Register<A, B, M, G, L> {
     /// None has ended. There is room for so many.
     pub(crate) fn new(
         alloc: Global,
         room: usize,
         share: Share<L>,
-    ) -> Result<Filed<A, B, M, G, L>, AllocError>
+    ) -> Result<Register<A, B, M, G, L>, AllocError>
         requires one { share.parts ≡ 1 }
         requires none { share.amount ≡ 0 }
     {
         let list = Vec::with_capacity(alloc, room)?;
-        Ok(Filed { list, share })
+        Ok(Register { list, share })
     }
 
     /// Files what became of a connection, and gives the right back that it was taken by.
-    pub(crate) fn file(&mut self, spent: Spent<A, B, M, G, L>) -> Result<Right<L>, AllocError> {
-        let Filed { list, share } = self;
-        let (entry, mut theirs) = spent.into_parts();
+    pub(crate) fn file(&mut self, report: Report<A, B, M, G, L>) -> Result<Right<L>, AllocError> {
+        let Register { list, share } = self;
+        let (entry, mut theirs) = report.into_parts();
         list.push(entry)?;
         theirs.transfer(share, 1);
         Ok(Right::new(theirs))
@@ -55,7 +55,7 @@ impl<A: Source, B: Sink, M: Machine, G: Drop, L: Ledger> Filed<A, B, M, G, L> {
         ensures one { result.1.parts ≡ 1 }
         ensures counted { result.1.amount ≡ length result.0.items }
     {
-        let Filed { list, share } = self;
+        let Register { list, share } = self;
         (list, share)
     }
 }
