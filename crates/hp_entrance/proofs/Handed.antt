@@ -22,6 +22,18 @@ work_place : (k : ℕ) (e : SlotEvent) (reply : Reply) → (is_exit e ≡ true �
 work_place k (ExitMaps task) reply exit full = absurd (false≢true (sym (ap is_trace_full (exit refl)) ∙ full))
 work_place k other reply exit full = refl
 
+match_false : (b : Bool) (C D : Type 0) → b ≡ false → D → MatchBool b C D
+match_false true C D is d = absurd (false≢true (sym is))
+match_false false C D is d = d
+
+-- what a slot did
+told_done : (kept : Bool) (size : ℕ) (old new : SeatedView) (e : SlotEvent) (reply : Reply) (v w : List Held) (receipt : Option Receipt) →
+    IsSeatedDone kept size old new e reply v w receipt → CanAnswer size (OnSlot old.slot.number e) reply × IsToldOf (OnSlot old.slot.number e) reply (receipts_in v) (receipts_in w)
+told_done kept size old new e reply v w receipt h = (
+  (old.slot.mount, h.asked, new.slot.mount, h.changes),
+  (_, ap receipts_in h.told, refl),
+)
+
 -- what is asked of a slot
 pub work_handed : (kept : Bool) (full : Type 0) (size : ℕ) (old new : SeatedView) (e : SlotEvent) (reply : Reply) (v w : List Held) (receipt : Option Receipt) →
     IsSeatedEvent full kept size old new e reply v w receipt → (is_trace_full reply ≡ true → kept ≡ true) → (is_exit e ≡ true → reply ≡ Ok Done) →
@@ -29,14 +41,12 @@ pub work_handed : (kept : Bool) (full : Type 0) (size : ℕ) (old new : SeatedVi
 work_handed kept full size old new e reply v w receipt event keeps exit =
     map_match (is_trace_full reply) _ _ _ _
     (λ is h. (keeps is, work_place old.slot.number e reply exit is, ap receipts_in h.1))
-    (λ is h. done old new e h) event
-  where
-    done : (old new : SeatedView) (e : _) → IsSeatedDone kept size old new e reply v w receipt →
-        CanAnswer size (OnSlot old.slot.number e) reply × IsToldOf (OnSlot old.slot.number e) reply (receipts_in v) (receipts_in w)
-    done old new e h = (
-      (old.slot.mount, h.asked, new.slot.mount, h.changes),
-      (_, ap receipts_in h.told, refl),
-    )
+    (λ is h. told_done kept size old new e reply v w receipt h) event
+
+-- the same where no entries are kept
+pub unnoted_handed : (kept : Bool) (size : ℕ) (old new : SeatedView) (e : SlotEvent) (reply : Reply) (v w : List Held) (receipt : Option Receipt) →
+    IsSeatedDone kept size old new e reply v w receipt → is_trace_full reply ≡ false → IsHanded kept size (OnSlot old.slot.number e) reply (receipts_in v) (receipts_in w)
+unnoted_handed kept size old new e reply v w receipt h is = match_false (is_trace_full reply) _ _ is (told_done kept size old new e reply v w receipt h)
 
 when_there : (b : Bool) (task home : ℕ) → b ≡ true → option_map (λ (e : ℕ × ℕ). e.1) (if b then Some (task, home) else None) ≡ Some home
 when_there true task home is = refl

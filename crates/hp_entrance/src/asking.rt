@@ -1,9 +1,17 @@
 //! What is asked of a part, under its lock.
-ghost use Rattle.std.specs.Prelude.{ℕ, ◌≡◌, ◌∷◌, [], ◌==◌, ◌<◌, None, true, false, IfNone, IfSome};
+ghost use Rattle.std.specs.Prelude.{ℕ, ◌≡◌, ◌∷◌, [], ◌==◌, ◌<◌, ◌≤◌, None, Ok, true, false, length, IfNone, IfSome};
 ghost use Rattle.std.specs.Sync.Mutex.{mutex_guard_value};
-ghost use Rattle.hp_model.specs.declared.event.Event.TheVariants.{Tasks as OnTasks};
-ghost use Rattle.hp_events.specs.Answered.{IsHanded};
+ghost use Rattle.hp_model.specs.beside.Told.{told_reply};
+ghost use Rattle.hp_model.specs.declared.answer.Answer.TheVariants.{Done};
+ghost use Rattle.hp_model.specs.declared.event.Event.TheVariants.{Slot as OnSlot, Tasks as OnTasks};
+ghost use Rattle.hp_model.specs.machine.Event.{has_maps_of};
+ghost use Rattle.hp_model.specs.machine.Plan.{Slot};
+ghost use Rattle.hp_model.specs.Profile.{most_bytes};
+ghost use Rattle.hp_events.specs.Answered.{HasPlace, IsHanded};
+ghost use Rattle.hp_events.specs.Copies.{AreCopiesFor};
+ghost use Rattle.hp_events.specs.Event.{IsAnother, has_maps_for, is_exit, shows_bytes};
 ghost use Rattle.hp_events.specs.Replies.{table_reply};
+ghost use Rattle.hp_laws.specs.Answers.{lists_names};
 
 use crate::entrance::Entrance;
 use crate::holding::held_accesses;
@@ -114,6 +122,57 @@ fn seen<N: Naming + Places, const K: usize>(
     }
 }
 
+impl<'a, N: Naming + Places, R: Wait, G: Gate, const K: usize> Entrance<'a, N, R, G, K> {
+    // An event of a task's maps, where it has some on the slot of this number: what it is answered.
+    #[inline(always)]
+    fn of_maps<'b>(
+        &mut self,
+        at: usize,
+        task: u64,
+        event: LentEvent<'_>,
+        room: &'b mut [u8],
+    ) -> Option<Result<Told<'b>, Refusal>>
+        requires within { at < self.old.slots }
+        requires place { HasPlace (K == 1) self.old.receipts self.old.room }
+        requires room { shows_bytes event ≡ true → most_bytes ≤ length room.old }
+        requires apart { lists_names event ≡ false }
+        requires another { IsAnother event }
+        requires maps { (slot : Slot) → has_maps_for event slot ≡ has_maps_of task slot }
+        requires copies { (K == 1) ≡ true → AreCopiesFor event None }
+        ensures handed { IfSome result (λ told. IsHanded (K == 1) N.page_bytes
+            (OnSlot at event.entry) (told_reply told) self.old.receipts self.new.receipts) }
+        ensures exit { IfSome result (λ told. is_exit event.entry ≡ true
+            → told_reply told ≡ Ok Done) }
+        ensures none { IfNone result (self.new.receipts ≡ self.old.receipts) }
+        ensures slots { self.new.slots ≡ self.old.slots }
+        ensures room { self.new.room ≡ self.old.room }
+        ensures clock { self.new.clock ≡ self.old.clock }
+    {
+        let shared = self.shared;
+        let mut value = hold_slot(&mut self.turn, shared, self.rt, at);
+        self.gate.enter(at as u64);
+        let slot: &mut SeatedSlot<N, Trace<SlotEntry, K>> = &mut value;
+        if !slot.has_maps(task) {
+            let_go(&mut self.turn, value);
+            return None;
+        }
+        let ways = shared.ways(self.rt, self.gate);
+        let (alloc, page_bytes) = (shared.alloc(), shared.page_bytes());
+        let told = self.member.slot(
+            &ways,
+            &mut self.turn,
+            slot,
+            alloc,
+            page_bytes,
+            event,
+            None,
+            room,
+        );
+        let_go(&mut self.turn, value);
+        Some(told)
+    }
+}
+
 impl<'a, N: Naming + Places, R: Wait, G: Gate, const K: usize> Parts for Entrance<'a, N, R, G, K> {
     type Past = Clock<N>;
 
@@ -220,55 +279,19 @@ impl<'a, N: Naming + Places, R: Wait, G: Gate, const K: usize> Parts for Entranc
     }
 
     fn fork_maps(&mut self, at: usize, parent: u64, child: u64) -> Option<Result<(), Refusal>> {
-        let shared = self.shared;
-        let mut value = hold_slot(&mut self.turn, shared, self.rt, at);
-        self.gate.enter(at as u64);
-        let slot: &mut SeatedSlot<N, Trace<SlotEntry, K>> = &mut value;
-        if !slot.has_maps(parent) {
-            let_go(&mut self.turn, value);
-            return None;
-        }
-        let ways = shared.ways(self.rt, self.gate);
-        let (alloc, page_bytes) = (shared.alloc(), shared.page_bytes());
         let event = SlotEvent::ForkMaps { parent, child };
-        let told = self.member.slot(
-            &ways,
-            &mut self.turn,
-            slot,
-            alloc,
-            page_bytes,
-            event,
-            None,
-            &mut [],
-        );
-        let_go(&mut self.turn, value);
-        Some(into_done(told))
+        match self.of_maps(at, parent, event, &mut []) {
+            Some(told) => Some(into_done(told)),
+            None => None,
+        }
     }
 
     fn exit_maps(&mut self, at: usize, task: u64) -> bool {
-        let shared = self.shared;
-        let mut value = hold_slot(&mut self.turn, shared, self.rt, at);
-        self.gate.enter(at as u64);
-        let slot: &mut SeatedSlot<N, Trace<SlotEntry, K>> = &mut value;
-        if !slot.has_maps(task) {
-            let_go(&mut self.turn, value);
-            return false;
-        }
-        let ways = shared.ways(self.rt, self.gate);
-        let (alloc, page_bytes) = (shared.alloc(), shared.page_bytes());
         let event = SlotEvent::ExitMaps { task };
-        let _done = self.member.slot(
-            &ways,
-            &mut self.turn,
-            slot,
-            alloc,
-            page_bytes,
-            event,
-            None,
-            &mut [],
-        );
-        let_go(&mut self.turn, value);
-        true
+        match self.of_maps(at, task, event, &mut []) {
+            Some(_done) => true,
+            None => false,
+        }
     }
 
     fn accesses(&mut self, at: usize, queue: &mut [Queued], room: &mut [u8]) -> usize {
