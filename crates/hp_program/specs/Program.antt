@@ -1,5 +1,5 @@
 -- A run of the program.
-use Rattle.std.specs.Prelude.{◌≡◌, ◌≢◌, ◌≤◌, ◌++◌, ℕ, nat_lt, List, [], Option, Some, None, is_some, false, true, Result, Ok, Err, IfErr, IfSome, IsSomeAnd, MatchOption, codes}
+use Rattle.std.specs.Prelude.{◌≡◌, ◌≢◌, ◌≤◌, ◌++◌, ℕ, ℤ, nat_lt, List, [], Option, Some, None, is_some, false, true, Result, Ok, Err, IfErr, IfSome, IsSomeAnd, MatchOption, codes}
 use Rattle.std.specs.Io.KnownBytes.{Appends, Consumes}
 use Rattle.clap.specs.Faults.{fault_of}
 use Rattle.clap.specs.Kinds.{IsAmong}
@@ -15,7 +15,8 @@ use Rattle.hp_model.specs.declared.fault.RunFault.{RunFault}
 use Rattle.hp_model.specs.declared.fault.RunFault.TheVariants as fault
 use Rattle.hp_serving.specs.Ended as serving
 use Rattle.hp_serving.specs.Ended.{Says}
-use Rattle.hp_serving.specs.Tcp.{IsOverTcp}
+use Rattle.hp_serving.specs.Connection.{IsClosed}
+use Rattle.hp_serving.specs.Tcp.{CannotRead, CannotWrite, IsOver, all_heard, all_said, reads_of, writes_to}
 use Rattle.hp_serving.specs.declared.entry.Outcome.{Outcome}
 use Rattle.hp_serving.specs.declared.tcp.NotOpened.{NotOpened}
 use Rattle.hp_sessions.specs.Calls.{IsCallAnswered, SessionView}
@@ -119,11 +120,17 @@ pub record Refuses {W : Type 0} (contents : W → Option (List ℕ)) (is_sure : 
 
 -- ---- a server
 
--- How a connection ended, as both its ends tell it, which were of one descriptor: a session that had no receipts yet was asked all that
--- was read, answered it by its calls, and left this; or its client was answered that it has no session; or it could not be opened
+-- How a connection ended, as both its ends tell it: a session that had no receipts yet was asked all that was read, answered it by its
+-- calls, and left this; or its client was answered that it has no session; or it could not be opened
+abbrev pub EndedBy : {A B G : Type 0} → MachineChoice → Serving → (A → Option ℤ) → (A → Option (List ℕ)) → (A → Type 0) → (A → Type 0)
+    → (B → Option ℤ) → (B → Option (List ℕ)) → (B → Type 0) → Outcome FinishedView G → Type 0
+EndedBy c s of heard over failed to said broken outcome =
+    IsClosed {S = SessionView} (λ session. session.receipts ≡ []) HasLeft (IsCallAnswered (nat_lt 0 s.room) c.page) (λ session. c.page)
+    of heard over failed to said broken outcome
+
+-- over TCP: its ends were of one descriptor
 abbrev pub EndedOn : MachineChoice → Serving → Outcome FinishedView NotOpened → Type 0
-EndedOn c s outcome =
-    IsOverTcp {S = SessionView} (λ session. session.receipts ≡ []) HasLeft (IsCallAnswered (nat_lt 0 s.room) c.page) (λ session. c.page) outcome
+EndedOn c s outcome = EndedBy c s reads_of all_heard IsOver CannotRead writes_to all_said CannotWrite outcome
 
 -- What may be left of the machine that was asked for, once it is closed with what its sessions left. Unless sessions were found
 -- to be missing, their events were one run of it, with the replies that they were told, at whose end all its pages are free. Just
@@ -135,10 +142,14 @@ pub record MayBeLeft (c : MachineChoice) (s : Serving) (left : List FinishedView
   pub joined : closed.audit ≡ Some true → WasJoined (chosen c) (all_told left) closed.counts
 
 -- how the serving of all sessions ended, how each of so many connections did, what is left then, what was printed and said, and the status
-pub record IsServingEnded (c : MachineChoice) (s : Serving) (before after : Option (List ℕ)) (sure : Type 0) (unsaid said : Option (List ℕ))
+pub record IsServingEndedBy {G : Type 0} (c : MachineChoice) (s : Serving) (may_end : Outcome FinishedView G → Type 0) (before after : Option (List ℕ)) (sure : Type 0) (unsaid said : Option (List ℕ))
     (status : ℕ) : Type 0 where
   pub ended : Ended
-  pub leaves : serving.LeavesAsked s.sessions (EndedOn c s) (MayBeLeft c s) ended
+  pub leaves : serving.LeavesAsked s.sessions may_end (MayBeLeft c s) ended
   pub ends : status ≡ serving.status_of ended
   pub prints : serving.Prints before after ended
   pub says : serving.SaysEnd sure unsaid said ended
+
+-- so it was over TCP
+abbrev pub IsServingEnded : MachineChoice → Serving → Option (List ℕ) → Option (List ℕ) → Type 0 → Option (List ℕ) → Option (List ℕ) → ℕ → Type 0
+IsServingEnded c s before after sure unsaid said status = IsServingEndedBy c s (EndedOn c s) before after sure unsaid said status

@@ -1,11 +1,10 @@
 -- What is left of a machine that was served.
-use Rattle.std.proofs.Common.{◌≡◌, ◌==◌, ◌∙◌, ℕ, Bool, List, [], nat_lt, ap, subst, sym}
+use Rattle.std.proofs.Common.{◌≡◌, ◌==◌, ◌∙◌, ℕ, ℤ, Bool, List, [], Option, nat_lt, ap, subst, sym}
 use Rattle.hp_model.proofs.Words.{State}
 use Rattle.hp_server.specs.Left as left
 use Rattle.hp_serving.specs.Ended.{LeavesAsked}
-use Rattle.hp_serving.specs.Tcp.{IsOverTcp}
+use Rattle.hp_serving.specs.Connection.{IsClosed}
 use Rattle.hp_serving.specs.declared.entry.Outcome.{Outcome}
-use Rattle.hp_serving.specs.declared.tcp.NotOpened.{NotOpened}
 use Rattle.hp_serving.specs.declared.host.Closed.{Closed}
 use Rattle.hp_serving.specs.declared.sessions.Ended.{Ended}
 use Rattle.hp_serving.specs.declared.sessions.Ended.TheVariants.{Printed, Unprinted, Failed}
@@ -15,7 +14,7 @@ use Rattle.hp_closing.specs.Left.{HasLeft}
 use Rattle.hp_closing.specs.OneRun.{WasOneRun, all_told}
 use Rattle.hp_shared.specs.Ended.{FinishedView}
 use Rattle.hp_words.specs.Config.{MachineChoice, chosen}
-use Rattle.hp_program.specs.Program.{EndedOn, MayBeLeft}
+use Rattle.hp_program.specs.Program.{EndedBy, MayBeLeft}
 use Rattle.hp_words.specs.declared.settings.Serving.{Serving}
 
 -- what sessions left and what is left of the machine, seen otherwise
@@ -36,7 +35,8 @@ as_asked c s keeps machine same kept ended x h = record {
 }
 
 -- a connection to it
-pub ended_on : (c : MachineChoice) (s : Serving) (kept : Bool) (size : ℕ) → kept ≡ nat_lt 0 s.room → size ≡ c.page → (one : Outcome FinishedView NotOpened)
-    → IsOverTcp {S = SessionView} (λ session. session.receipts ≡ []) HasLeft (IsCallAnswered kept size) (λ session. size) one
-    → EndedOn c s one
-ended_on c s kept size keeps bytes one h = (let kept_is = keeps in let size_is = bytes in rw (sym kept_is, sym size_is) h)
+pub ended_by : {A B G : Type 0} (c : MachineChoice) (s : Serving) (of : A → Option ℤ) (heard : A → Option (List ℕ)) (over failed : A → Type 0)
+    (to : B → Option ℤ) (said : B → Option (List ℕ)) (broken : B → Type 0) (kept : Bool) (size : ℕ) → kept ≡ nat_lt 0 s.room → size ≡ c.page → (one : Outcome FinishedView G)
+    → IsClosed {S = SessionView} (λ session. session.receipts ≡ []) HasLeft (IsCallAnswered kept size) (λ session. size) of heard over failed to said broken one
+    → EndedBy c s of heard over failed to said broken one
+ended_by c s of heard over failed to said broken kept size keeps bytes one h = (let kept_is = keeps in let size_is = bytes in rw (sym kept_is, sym size_is) h)

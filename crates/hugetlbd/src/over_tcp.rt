@@ -4,14 +4,14 @@ ghost use Rattle.std.specs.Thread.{IsSync};
 ghost use Rattle.hp_nodes.specs.Ledgers.{AreFrames};
 ghost use Rattle.hp_pool.specs.Ledgers.{AreLedgers};
 ghost use Rattle.hp_words.specs.Config.{IsMachineWithin, IsServing, choice_of};
-ghost use Rattle.hp_program.specs.Program.{IsServingEnded};
+ghost use Rattle.hp_program.specs.Program.{EndedBy, IsServingEndedBy};
 
 use hp_history::{Opened, Places, Shape};
 use hp_model::naming::Naming;
 use hp_pool::Blanks;
 use hp_program::Server;
 use hp_server::{Open, Served};
-use hp_serving::{Ended, Listening, ServeFault, report, serve_sessions};
+use hp_serving::{Connections, Ended, Listening, ServeFault, report, serve_sessions};
 use hp_shared::Shared;
 use hp_wire::ends::Sink;
 use hp_words::settings::{Machine, Serving};
@@ -66,20 +66,23 @@ impl<
 }
 
 /// Serves the sessions of these connections on a new machine, and closes it, as `Server::serve` does.
-pub fn serve_over<R: Threads + Wait + Clock + Sync, P: Sink, W: Sink, E: Sink>(
+pub fn serve_over<R: Threads + Wait + Sync, C: Connections, W: Sink, E: Sink>(
     rt: &R,
     alloc: Global,
     machine: &Machine,
     serving: Serving,
-    connections: &mut Listening<'_, R, P>,
+    connections: &mut C,
     output: &mut W,
     faults: &mut E,
 ) -> u8
     requires limits { IsMachineWithin (choice_of machine.now) }
     requires serving { IsServing serving }
-    ensures { IsServingEnded (choice_of machine.now) serving (W.contents output.old)
-        (W.contents output.new) (E.is_sure faults.old) (E.contents faults.old)
-        (E.contents faults.new) result }
+    ensures { IsServingEndedBy {G = C.Gone} (choice_of machine.now) serving
+        (EndedBy (choice_of machine.now) serving
+        C.Reader.connection C.Reader.heard C.Reader.is_over C.Reader.has_failed
+        C.Writer.connection C.Writer.contents C.Writer.has_failed)
+        (W.contents output.old) (W.contents output.new)
+        (E.is_sure faults.old) (E.contents faults.old) (E.contents faults.new) result }
 {
     if machine.ask_whole(alloc).is_err() {
         return report(Ended::Failed(ServeFault::Memory), faults);
@@ -95,7 +98,7 @@ pub fn serve_over<R: Threads + Wait + Clock + Sync, P: Sink, W: Sink, E: Sink>(
     let Ok(opened) = Opened::new(alloc, shape) else {
         return report(Ended::Failed(ServeFault::Memory), faults);
     };
-    serve_kept::<Brand, R, P, W, E>(
+    serve_kept::<Brand, R, C, W, E>(
         rt,
         alloc,
         machine,
@@ -111,8 +114,8 @@ pub fn serve_over<R: Threads + Wait + Clock + Sync, P: Sink, W: Sink, E: Sink>(
 // Keeps trails where there is room for entries.
 fn serve_kept<
     N: Naming + Places + Send + Sync,
-    R: Threads + Wait + Clock + Sync,
-    P: Sink,
+    R: Threads + Wait + Sync,
+    C: Connections,
     W: Sink,
     E: Sink,
 >(
@@ -122,7 +125,7 @@ fn serve_kept<
     serving: Serving,
     blanks: Blanks,
     opened: Opened,
-    connections: &mut Listening<'_, R, P>,
+    connections: &mut C,
     output: &mut W,
     faults: &mut E,
 ) -> u8
@@ -138,12 +141,15 @@ fn serve_kept<
       nodes = length machine.now.frames.items;
       looks = serving.room == 0;
     } }
-    ensures { IsServingEnded (choice_of machine.now) serving (W.contents output.old)
-        (W.contents output.new) (E.is_sure faults.old) (E.contents faults.old)
-        (E.contents faults.new) result }
+    ensures { IsServingEndedBy {G = C.Gone} (choice_of machine.now) serving
+        (EndedBy (choice_of machine.now) serving
+        C.Reader.connection C.Reader.heard C.Reader.is_over C.Reader.has_failed
+        C.Writer.connection C.Writer.contents C.Writer.has_failed)
+        (W.contents output.old) (W.contents output.new)
+        (E.is_sure faults.old) (E.contents faults.old) (E.contents faults.new) result }
 {
     if serving.room == 0 {
-        serve_on::<N, R, P, W, E, 0>(
+        serve_on::<N, R, C, W, E, 0>(
             rt,
             alloc,
             machine,
@@ -155,7 +161,7 @@ fn serve_kept<
             faults,
         )
     } else {
-        serve_on::<N, R, P, W, E, 1>(
+        serve_on::<N, R, C, W, E, 1>(
             rt,
             alloc,
             machine,
@@ -172,8 +178,8 @@ fn serve_kept<
 // Makes the machine, serves on it and closes it. Its trails are kept where K is 1.
 fn serve_on<
     N: Naming + Places + Send + Sync,
-    R: Threads + Wait + Clock + Sync,
-    P: Sink,
+    R: Threads + Wait + Sync,
+    C: Connections,
     W: Sink,
     E: Sink,
     const K: usize,
@@ -184,7 +190,7 @@ fn serve_on<
     serving: Serving,
     blanks: Blanks,
     opened: Opened,
-    connections: &mut Listening<'_, R, P>,
+    connections: &mut C,
     output: &mut W,
     faults: &mut E,
 ) -> u8
@@ -201,9 +207,12 @@ fn serve_on<
       nodes = length machine.now.frames.items;
       looks = not (K == 1);
     } }
-    ensures { IsServingEnded (choice_of machine.now) serving (W.contents output.old)
-        (W.contents output.new) (E.is_sure faults.old) (E.contents faults.old)
-        (E.contents faults.new) result }
+    ensures { IsServingEndedBy {G = C.Gone} (choice_of machine.now) serving
+        (EndedBy (choice_of machine.now) serving
+        C.Reader.connection C.Reader.heard C.Reader.is_over C.Reader.has_failed
+        C.Writer.connection C.Writer.contents C.Writer.has_failed)
+        (W.contents output.old) (W.contents output.new)
+        (E.is_sure faults.old) (E.contents faults.old) (E.contents faults.new) result }
 {
     let Ok(shared) = Shared::<N, K>::new(
         alloc,

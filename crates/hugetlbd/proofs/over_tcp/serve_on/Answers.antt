@@ -5,7 +5,7 @@ use Rattle.hp_model.proofs.Words.{start}
 use Rattle.hp_shared.proofs.Crossing.{shared_sync}
 use Rattle.hp_shared.proofs.Opened.{frames_named}
 use Rattle.hp_shared.specs.Sharing.{SharedView}
-use Rattle.hugetlbd.proofs.Serving.{as_asked, ended_on, leaves}
+use Rattle.hugetlbd.proofs.Serving.{as_asked, ended_by, leaves}
 use Rattle.hp_words.specs.Config.{choice_of, chosen}
 use Rattle.hugetlbd.proofs.over_tcp.serve_on.Goals as goal
 
@@ -21,7 +21,7 @@ returns g c =
     record {
       ended = e.0;
       leaves = leaves _ _ _ _ _ e.0
-          (ended_on (choice_of c.args.machine.now) c.args.serving _ _ c.requires.keeps c.requires.bytes)
+          (ended_by (choice_of c.args.machine.now) c.args.serving _ _ _ _ _ _ _ _ _ c.requires.keeps c.requires.bytes)
           (as_asked (choice_of c.args.machine.now) c.args.serving _ _ same c.requires.keeps) e.1;
       ends = e.2;
       prints = e.3;
