@@ -1,5 +1,6 @@
 -- A run of the program.
-use Rattle.std.specs.Prelude.{◌≡◌, ◌≢◌, ◌≤◌, ◌++◌, ℕ, ℤ, nat_lt, List, [], Option, Some, None, is_some, false, true, Result, Ok, Err, IfErr, IfSome, IsSomeAnd, MatchOption, codes}
+use Rattle.std.specs.Prelude.{◌≡◌, ◌≢◌, ◌≤◌, ◌++◌, ℕ, ℤ, nat_lt, List, [], Option, Some}
+use Rattle.std.specs.Prelude.{None, is_some, false, true, Result, Ok, Err, IfErr, IfSome, IsSomeAnd, MatchOption, codes}
 use Rattle.std.specs.Io.KnownBytes.{Appends, Consumes}
 use Rattle.clap.specs.Faults.{fault_of}
 use Rattle.clap.specs.Kinds.{IsAmong}
@@ -142,7 +143,8 @@ pub record MayBeLeft (c : MachineChoice) (s : Serving) (left : List FinishedView
   pub joined : closed.audit ≡ Some true → WasJoined (chosen c) (all_told left) closed.counts
 
 -- how the serving of all sessions ended, how each of so many connections did, what is left then, what was printed and said, and the status
-pub record IsServingEndedBy {G : Type 0} (c : MachineChoice) (s : Serving) (may_end : Outcome FinishedView G → Type 0) (before after : Option (List ℕ)) (sure : Type 0) (unsaid said : Option (List ℕ))
+pub record IsServingEndedBy {G : Type 0} (c : MachineChoice) (s : Serving) (may_end : Outcome FinishedView G → Type 0)
+    (before after : Option (List ℕ)) (sure : Type 0) (unsaid said : Option (List ℕ))
     (status : ℕ) : Type 0 where
   pub ended : Ended
   pub leaves : serving.LeavesAsked s.sessions may_end (MayBeLeft c s) ended

@@ -1,4 +1,5 @@
 //! A source of connections that fails.
+ghost use Rattle.std.specs.Prelude.{Some};
 
 use crate::machine::{Runs, Tested};
 use crate::over_tcp::serves;
