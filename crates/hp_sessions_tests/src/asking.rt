@@ -2,22 +2,11 @@
 
 use crate::same::assert_same;
 use hp_events::Parts;
-use hp_model::answer::Answer;
+use hp_model::answer::{Answer, Reply};
 use hp_model::lent::Lent;
 use hp_model::step::{Reserving, Sharing, Step};
 use hp_sessions::Session;
 use std::process::Abort;
-
-/// What a reply says: of a whole answer a comparison would cost the check far more.
-#[derive(Clone, Copy, Debug, Drop, PartialEq, Eq)]
-pub enum Said {
-    Done,
-    Home(u64),
-    MapNo(u64),
-    Number(u64),
-    /// A refusal, or an answer that no test wants.
-    Other,
-}
 
 /// Asks a session for a step, and compares its reply with what is wanted; with none named it is to be done. Nothing of it is carried
 /// through a test. A failure names the step in place of its line.
@@ -37,23 +26,13 @@ pub fn answers<R: Abort, P: Parts>(
     session: &mut Session<P>,
     name: &str,
     step: &Step<'_>,
-    wanted: Said,
+    wanted: Reply,
 ) {
-    assert_same(rt, name, says(session, step), wanted);
-}
-
-fn says<P: Parts>(session: &mut Session<P>, step: &Step<'_>) -> Said {
-    match session.call(step) {
-        Ok(Answer::Done) => Said::Done,
-        Ok(Answer::Home(node)) => Said::Home(node),
-        Ok(Answer::MapNo(map)) => Said::MapNo(map),
-        Ok(Answer::Number(pages)) => Said::Number(pages),
-        _ => Said::Other,
-    }
+    assert_same(rt, name, session.call(step), wanted);
 }
 
 pub fn done<R: Abort, P: Parts>(rt: &R, session: &mut Session<P>, name: &str, step: &Step<'_>) {
-    answers(rt, session, name, step, Said::Done);
+    answers(rt, session, name, step, Ok(Answer::Done));
 }
 
 /// Total, Free, Rsvd and Surp.
@@ -68,7 +47,7 @@ pub fn counts<P: Parts>(session: &mut Session<P>) -> Option<[u64; 4]> {
 
 /// So many pages in the pool.
 pub fn nr<R: Abort, P: Parts>(rt: &R, session: &mut Session<P>, pages: u64) {
-    ask!(rt, session; Step::Nr { pages }, Said::Number(pages));
+    ask!(rt, session; Step::Nr { pages }, Ok(Answer::Number(pages)));
 }
 
 pub fn connect(task: u64, home: u64) -> Step<'static> {

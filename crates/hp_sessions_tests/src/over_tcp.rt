@@ -72,33 +72,16 @@ fn asks<R: Abort>(rt: &R, stream: &TcpStream, lines: &[u8], replies: &str) {
     tells(rt, stream, replies);
 }
 
-// What clients do, while a machine is served.
-trait Clients {
-    fn run<R: Net<Stream = TcpStream> + Abort>(&self, rt: &R, at: SocketAddr);
-}
-
 // One session makes two maps. Then a second's store is held until a third's is answered.
-#[derive(Drop)]
-struct HoldsOne<'a, W> {
-    gate: &'a Watcher<'a, W>,
-    holding: Holding<'a>,
-}
-
-impl<W: Clock + Abort> Clients for HoldsOne<'_, W> {
-    fn run<R: Net<Stream = TcpStream> + Abort>(&self, rt: &R, at: SocketAddr) {
-        let first = connects(rt, at);
-        asks(rt, &first, BEGIN, BEGUN);
-        ends(rt, &first);
-        holds_one(rt, at, self.gate, &self.holding);
-    }
-}
-
-fn holds_one<R: Net<Stream = TcpStream> + Abort, W: Clock + Abort>(
+fn holds_one<R: Net<Stream = TcpStream> + Abort + Clock>(
     rt: &R,
     at: SocketAddr,
-    gate: &Watcher<'_, W>,
-    holding: &Holding<'_>,
+    gate: &Watcher<'_, R>,
+    holding: Holding<'_>,
 ) {
+    let first = connects(rt, at);
+    asks(rt, &first, BEGIN, BEGUN);
+    ends(rt, &first);
     gate.shut(holding.place);
     let held = connects(rt, at);
     sends(rt, &held, b"store 1 1 1 0 0 11\n");
@@ -158,19 +141,6 @@ fn listens<'a, R: Runs + Net<Stream = TcpStream, Listener = TcpListener>>(
     (Listening::new(rt, alloc, listener, Vec::new(alloc)), at)
 }
 
-// Serves so many sessions of these clients.
-fn served<
-    R: Runs + Net<Stream = TcpStream, Listener = TcpListener>,
-    M: Machine + Sync,
-    C: Clients + Sync,
->(rt: &R, alloc: Global, machine: M, clients: &C, sessions: usize) -> End {
-    let (mut connections, at) = listens(rt, alloc);
-    let mut machine = Some(machine);
-    let serving = || serves(rt, alloc, &mut machine, &mut connections, sessions);
-    let (_told, end) = thread::join(rt, || clients.run(rt, at), serving);
-    ended(rt, machine, end)
-}
-
 // How serving ended.
 fn ended<R: Abort, M: Machine>(rt: &R, machine: Option<M>, end: Option<End>) -> End {
     if let Some(machine) = machine {
@@ -198,11 +168,11 @@ impl Holding<'_> {
             draws: gate,
             audit,
         } = stage;
-        let clients = HoldsOne {
-            gate,
-            holding: self,
-        };
-        let end = served(rt, alloc, machine, &clients, 3);
+        let (mut connections, at) = listens(rt, alloc);
+        let mut machine = Some(machine);
+        let serving = || serves(rt, alloc, &mut machine, &mut connections, 3);
+        let (_told, end) = thread::join(rt, || holds_one(rt, at, gate, self), serving);
+        let end = ended(rt, machine, end);
         same!(rt; end.status, 0);
         assert!(rt; gate.left() > 0, "the other session was held too");
         same_text(
@@ -214,20 +184,15 @@ impl Holding<'_> {
 }
 
 // Two sessions, of which the first to open ends once the other has.
-#[derive(Drop)]
-struct Outlasts;
-
-impl Clients for Outlasts {
-    fn run<R: Net<Stream = TcpStream> + Abort>(&self, rt: &R, at: SocketAddr) {
-        let first = connects(rt, at);
-        asks(rt, &first, b"nr 4\n", "ok 4\n");
-        let second = connects(rt, at);
-        asks(rt, &second, b"nr 4\n", "ok 4\n");
-        ends(rt, &second);
-        let mut stream = &second;
-        let _none = stream.read(&mut [0u8; 1]);
-        ends(rt, &first);
-    }
+fn outlasts<R: Net<Stream = TcpStream> + Abort>(rt: &R, at: SocketAddr) {
+    let first = connects(rt, at);
+    asks(rt, &first, b"nr 4\n", "ok 4\n");
+    let second = connects(rt, at);
+    asks(rt, &second, b"nr 4\n", "ok 4\n");
+    ends(rt, &second);
+    let mut stream = &second;
+    let _none = stream.read(&mut [0u8; 1]);
+    ends(rt, &first);
 }
 
 pub fn outlasted<R: Runs + Net<Stream = TcpStream, Listener = TcpListener>, M: Tested + Sync>(
@@ -240,7 +205,11 @@ pub fn outlasted<R: Runs + Net<Stream = TcpStream, Listener = TcpListener>, M: T
         draws: _,
         audit: _,
     } = stage;
-    let end = served(rt, alloc, machine, &Outlasts, 2);
+    let (mut connections, at) = listens(rt, alloc);
+    let mut machine = Some(machine);
+    let serving = || serves(rt, alloc, &mut machine, &mut connections, 2);
+    let (_told, end) = thread::join(rt, || outlasts(rt, at), serving);
+    let end = ended(rt, machine, end);
     same!(rt; end.status, 0);
 }
 

@@ -2,10 +2,12 @@
 
 use crate::gates::{Flag, Place, Watcher};
 use crate::machine::{Locks, Runs, Tested};
-use crate::same::{assert_same, same};
-use crate::stage::{Scene, Sizes, Stage, all_three, both, closed};
+use crate::same::same;
+use crate::stage::{Scene, Sizes, Stage, both, closed};
 use crate::talking::{Beside, Client, goes_well};
-use crate::works::{BEGIN, COPIES, FILES, PAGES, Pool, ROWS, Row, Slots, Table, USED};
+use crate::works::{
+    BEGIN, COPIES, FILES, PAGES, Pool, Row, Slots, Table, USED, of_files, of_maps, of_others,
+};
 use hp_serving::Machine;
 use std::alloc::Global;
 use std::process::Abort;
@@ -27,7 +29,7 @@ const PLACES: [Place; 9] = [
 ];
 
 /// An act on a slot, and a place that is held.
-#[derive(Clone, Copy, Debug, Drop)]
+#[derive(Clone, Copy, Debug, Drop, PartialEq, Eq)]
 struct Cell {
     act: &'static str,
     slot: u64,
@@ -52,27 +54,19 @@ impl Row {
                 Slots::Its | Slots::Only(_) => at == cell.slot,
                 Slots::Each => true,
             },
-            Place::Table => match self.table {
-                Table::Never => false,
-                Table::Traced => cell.traced,
-                Table::Always => true,
-            },
-            Place::Pool => match self.pool {
-                Pool::Never => false,
-                Pool::Alone | Pool::AndNode => true,
-            },
-            Place::Node(at) => match self.pool {
-                Pool::Never | Pool::Alone => false,
-                Pool::AndNode => at == 0,
-            },
+            Place::Table => {
+                self.table == Table::Always || self.table == Table::Traced && cell.traced
+            }
+            Place::Pool => self.pool != Pool::Never,
+            Place::Node(at) => at == 0 && self.pool == Pool::AndNode,
         }
     }
 
     // What the act holds while it is at this cell's place: at the pool or at a node its slot, or the first of each.
     fn holds(&self, cell: &Cell, other: Place) -> bool {
-        let behind = match (cell.place, self.slots) {
-            (Place::Slot(_) | Place::Table, _) | (_, Slots::None) => false,
-            (Place::Pool | Place::Node(_), _) => true,
+        let behind = match cell.place {
+            Place::Slot(_) | Place::Table => false,
+            Place::Pool | Place::Node(_) => self.slots != Slots::None,
         };
         other == cell.place || behind && other == Place::Slot(cell.slot)
     }
@@ -150,7 +144,7 @@ const MOST_TURNS: u64 = 10_000;
 #[derive(Drop)]
 pub struct Watch<'a> {
     signs: &'a Signs,
-    row: &'a Row,
+    row: Row,
     cell: Cell,
 }
 
@@ -184,9 +178,9 @@ impl Watch<'_> {
         if self.signs.done.is_set() {
             return Seen::GoesOn;
         }
-        for other in &PLACES {
-            if !self.row.holds(&self.cell, *other) && !becomes_free(rt, locks, *other) {
-                return Seen::Holds(*other);
+        for other in PLACES {
+            if !self.row.holds(&self.cell, other) && !becomes_free(rt, locks, other) {
+                return Seen::Holds(other);
             }
         }
         Seen::Waits
@@ -236,7 +230,7 @@ fn play<R: Runs, M: Tested + Sync>(
     alloc: Global,
     machine: &M,
     gate: &Watcher<'_, R>,
-    row: &Row,
+    row: Row,
     cell: Cell,
 ) -> M::Told {
     let signs = new_signs(cell.slot);
@@ -258,79 +252,65 @@ fn play<R: Runs, M: Tested + Sync>(
     } else {
         Seen::GoesOn
     };
-    assert_same(rt, cell, seen, wanted);
+    same!(rt; (cell, seen), (cell, wanted));
     told
-}
-
-// A row at a place, on a slot: what it wants before it, and then its act.
-fn at_place<R: Runs, M: Tested + Sync>(
-    rt: &R,
-    stage: &Stage<'_, M, R>,
-    row: &Row,
-    slot: u64,
-    place: Place,
-) -> (M::Told, M::Told) {
-    let cell = Cell {
-        act: row.act,
-        slot,
-        place,
-        traced: stage.audit.is_some(),
-    };
-    let signs = new_signs(slot);
-    let before = does(
-        rt,
-        stage.alloc,
-        &stage.machine,
-        &signs,
-        row.before,
-        "",
-        Some(cell),
-    );
-    let told = play(rt, stage.alloc, &stage.machine, stage.draws, row, cell);
-    (before, told)
 }
 
 // A row at each place, on each of its slots.
 fn each_place<R: Runs, M: Tested + Sync>(
     rt: &R,
     stage: &Stage<'_, M, R>,
-    row: &Row,
+    row: Row,
     all: &mut Vec<M::Told>,
 ) {
     for slot in row.tried() {
-        for place in &PLACES {
-            let (before, told) = at_place(rt, stage, row, *slot, *place);
+        for place in PLACES {
+            let cell = Cell {
+                act: row.act,
+                slot: *slot,
+                place,
+                traced: stage.audit.is_some(),
+            };
+            let before = does(
+                rt,
+                stage.alloc,
+                &stage.machine,
+                &new_signs(*slot),
+                row.before,
+                "",
+                Some(cell),
+            );
             all.push(before).expect(rt, "memory");
-            all.push(told).expect(rt, "memory");
+            all.push(play(rt, stage.alloc, &stage.machine, stage.draws, row, cell))
+                .expect(rt, "memory");
         }
     }
 }
 
-// A session of these lines on a slot, before any act.
-fn begun<R: Runs, M: Tested>(
-    rt: &R,
-    stage: &Stage<'_, M, R>,
-    slot: u64,
-    lines: &str,
-    more: &str,
-) -> M::Told {
-    let signs = new_signs(slot);
-    does(rt, stage.alloc, &stage.machine, &signs, lines, more, None)
-}
-
 // Each act on each of its slots, at each place.
-fn each_row<R: Runs, M: Tested + Sync>(rt: &R, stage: &Stage<'_, M, R>, all: &mut Vec<M::Told>) {
-    for row in &ROWS {
-        each_place(rt, stage, row, all);
-    }
-}
-
 pub fn each_held<R: Runs, M: Tested + Sync>(rt: &R, stage: Stage<'_, M, R>) {
-    let one = begun(rt, &stage, 0, BEGIN, FILES);
-    let two = begun(rt, &stage, 2, FILES, "");
-    let three = begun(rt, &stage, 4, FILES, COPIES);
-    let mut all = all_three(rt, stage.alloc, one, two, three);
-    each_row(rt, &stage, &mut all);
+    let mut all = Vec::new(stage.alloc);
+    for (slot, lines, more) in [(0, BEGIN, FILES), (2, FILES, ""), (4, FILES, COPIES)] {
+        let first = does(
+            rt,
+            stage.alloc,
+            &stage.machine,
+            &new_signs(slot),
+            lines,
+            more,
+            None,
+        );
+        all.push(first).expect(rt, "memory");
+    }
+    for row in of_maps() {
+        each_place(rt, &stage, row, &mut all);
+    }
+    for row in of_files() {
+        each_place(rt, &stage, row, &mut all);
+    }
+    for row in of_others() {
+        each_place(rt, &stage, row, &mut all);
+    }
     let counts = closed(rt, stage, all).counts;
     same!(rt; (counts.total, counts.free, counts.rsvd), (PAGES, PAGES, 0));
 }

@@ -1,11 +1,12 @@
 //! Two sessions, of which one is held under a lock while the other goes on, with a trace and without one.
 
-use crate::asking::{Said, ask, connect, counts, create, map_shared, mount, nr, store};
+use crate::asking::{ask, connect, counts, create, map_shared, mount, nr, store};
 use crate::gates::Place;
 use crate::machine::{Runs, Script, Tested};
 use crate::same::same;
 use crate::stage::{SMALL, Scene, Stage, all_three, both, pages_left};
 use hp_events::Parts;
+use hp_model::answer::Answer;
 use hp_model::step::Step;
 use hp_sessions::Session;
 use std::process::Abort;
@@ -26,14 +27,14 @@ fn begins<R: Abort, P: Parts>(rt: &R, session: &mut Session<P>) {
         ask!(rt, session; connect(task, task - 1));
         ask!(rt, session; mount(task, b"-"));
         ask!(rt, session; create(task, b"a"));
-        ask!(rt, session; map_shared(task, task, 1), Said::MapNo(1));
+        ask!(rt, session; map_shared(task, task, 1), Ok(Answer::MapNo(1)));
     }
 }
 
 fn goes_on<R: Abort, P: Parts>(rt: &R, session: &mut Session<P>) {
     ask!(rt, session; store(2, 2, &[0x22]));
     ask!(rt, session; connect(3, 1));
-    ask!(rt, session; Step::Attach { task: 3 }, Said::Home(1));
+    ask!(rt, session; Step::Attach { task: 3 }, Ok(Answer::Home(1)));
     nr(rt, session, 4);
     ask!(rt, session; create(2, b"z"));
 }

@@ -3,7 +3,7 @@ use std::fmt::Debug;
 use std::process::Abort;
 
 /// Like `assert_eq!`, but by a call that promises nothing: what is compared is not carried through the rest of a test's proof.
-/// A failure names the call in place of its line, or who was answered.
+/// A failure names the call in place of its line.
 macro_rules! same {
     ($rt:expr; $answered:expr, $wanted:expr $(,)?) => {
         $crate::same::assert_same(&$rt, stringify!($answered), $answered, $wanted)
@@ -12,11 +12,11 @@ macro_rules! same {
 
 pub(crate) use same;
 
-pub fn assert_same<R: Abort, D: Debug + Drop, T: PartialEq + Debug + Drop>(
+pub fn assert_same<R: Abort, T: PartialEq + Debug + Drop>(
     rt: &R,
-    who: D,
+    call: &str,
     answered: T,
     wanted: T,
 ) {
-    assert_eq!(rt; answered, wanted, "{who:?}");
+    assert_eq!(rt; answered, wanted, "{call}");
 }

@@ -1,6 +1,6 @@
 //! Sessions over lines that stand in memory.
 
-use crate::same::{assert_same, same};
+use crate::same::same;
 use hp_order::Rest;
 use hp_serving::Machine;
 use hp_wire::ends::Source;
@@ -45,8 +45,8 @@ pub struct Client<'a, B> {
 }
 
 fn changed<B: Beside>(by: &B, bytes: &mut [u8]) {
-    for at in 0..bytes.len() {
-        bytes[at] = by.byte(bytes[at]);
+    for byte in bytes {
+        *byte = by.byte(*byte);
     }
 }
 
@@ -108,7 +108,7 @@ pub fn asks<R: Wait + Abort, M: Machine, B: Beside>(
 }
 
 /// A session of a client, none of whose lines is refused.
-pub fn goes_well<R: Wait + Abort, M: Machine, B: Beside, D: Debug + Drop>(
+pub fn goes_well<R: Wait + Abort, M: Machine, B: Beside, D: Debug + PartialEq + Copy + Drop>(
     rt: &R,
     alloc: Global,
     machine: &M,
@@ -116,7 +116,7 @@ pub fn goes_well<R: Wait + Abort, M: Machine, B: Beside, D: Debug + Drop>(
     who: D,
 ) -> M::Told {
     let (told, text) = replies(rt, alloc, machine, client);
-    assert_same(rt, who, refusal(&text), "");
+    same!(rt; (who, refusal(&text)), (who, ""));
     told
 }
 

@@ -21,10 +21,8 @@ map 2 4 p 0 1 private\nfault 2 4 1 0 write\n";
 
 const RESERVED: &str = "punch S a 0 2\nunmap 1 S 2 0 2\nmap 1 S a 0 2 shared\n";
 
-const PAGE: &str = "create S p\npreallocate S p 0 1\n";
-
 /// Which slots an act takes, one at a time.
-#[derive(Clone, Copy, Drop)]
+#[derive(Clone, Copy, Drop, PartialEq, Eq)]
 pub enum Slots {
     None,
     /// The one that it is of, which has files.
@@ -34,7 +32,7 @@ pub enum Slots {
 }
 
 /// When an act takes the task table: with no trace, what looks a task up reads a word.
-#[derive(Clone, Copy, Drop)]
+#[derive(Clone, Copy, Drop, PartialEq, Eq)]
 pub enum Table {
     Never,
     Traced,
@@ -42,7 +40,7 @@ pub enum Table {
 }
 
 /// Whether an act takes the pool, and whether then a node.
-#[derive(Clone, Copy, Drop)]
+#[derive(Clone, Copy, Drop, PartialEq, Eq)]
 pub enum Pool {
     Never,
     Alone,
@@ -61,213 +59,183 @@ pub struct Row {
     pub after: &'static str,
 }
 
-// A row of the table, its parts in their order.
-macro_rules! row {
-    ($act:expr, $slots:expr, $table:expr, $pool:expr, $before:expr, $after:expr) => {
-        Row {
-            act: $act,
-            slots: $slots,
-            table: $table,
-            pool: $pool,
-            before: $before,
-            after: $after,
-        }
-    };
+fn takes(
+    act: &'static str,
+    slots: Slots,
+    table: Table,
+    pool: Pool,
+    before: &'static str,
+    after: &'static str,
+) -> Row {
+    Row {
+        act,
+        slots,
+        table,
+        pool,
+        before,
+        after,
+    }
 }
 
-/// What each act takes.
-pub const ROWS: [Row; 28] = [
-    // The works of a task at its maps: of a page that is there, of reserved indices by one line or by two, of a hole, and of slot 0
-    // with no file's name.
-    row!(
-        "load 1 S 1 0 0 1\n",
-        Slots::Its,
-        Table::Traced,
-        Pool::Never,
-        "",
-        ""
-    ),
-    row!(
-        "store 1 S 2 0 0 78\n",
-        Slots::Its,
-        Table::Traced,
-        Pool::AndNode,
-        "",
-        RESERVED
-    ),
-    row!(
-        "store 1 S 2 0 0 11\nfault 1 S 2 0 write\n",
-        Slots::Its,
-        Table::Traced,
-        Pool::AndNode,
-        "",
-        RESERVED
-    ),
-    row!(
-        "fault 1 S 2 0 write\nfault 1 S 2 1 write\n",
-        Slots::Its,
-        Table::Traced,
-        Pool::AndNode,
-        "",
-        RESERVED
-    ),
-    row!(
-        "fault 1 S 3 0 write\n",
-        Slots::Its,
-        Table::Traced,
-        Pool::AndNode,
-        "",
-        "punch S h 0 1\n"
-    ),
-    row!(
-        "map 1 S p 0 1 private\n",
-        Slots::Its,
-        Table::Traced,
-        Pool::Alone,
-        "",
-        "unmap 1 S 4 0 1\n"
-    ),
-    row!(
-        "unmap 1 S 2 0 2\n",
-        Slots::Its,
-        Table::Traced,
-        Pool::Alone,
-        "",
-        "map 1 S a 0 2 shared\n"
-    ),
-    row!(
-        "anon 1 1 shared\n",
-        Slots::Only(0),
-        Table::Traced,
-        Pool::Alone,
-        "",
-        "unmap 1 S 4 0 1\n"
-    ),
-    // Those of files.
-    row!(
-        "preallocate S h 0 1\n",
-        Slots::Its,
-        Table::Never,
-        Pool::AndNode,
-        "",
-        "punch S h 0 1\n"
-    ),
-    row!(
-        "punch S p 0 1\n",
-        Slots::Its,
-        Table::Never,
-        Pool::AndNode,
-        "",
-        "preallocate S p 0 1\n"
-    ),
-    row!(
-        "truncate S p 0\n",
-        Slots::Its,
-        Table::Never,
-        Pool::AndNode,
-        "",
-        "preallocate S p 0 1\n"
-    ),
-    row!(
-        "read S p 0 0 1\n",
-        Slots::Its,
-        Table::Never,
-        Pool::Never,
-        "",
-        ""
-    ),
-    row!(
-        "create S n\n",
-        Slots::Its,
-        Table::Never,
-        Pool::Never,
-        "",
-        "unlink S n\n"
-    ),
-    row!(
-        "unlink S n\n",
-        Slots::Its,
-        Table::Never,
-        Pool::Alone,
-        "create S n\n",
-        ""
-    ),
-    row!("stat S p\n", Slots::Its, Table::Never, Pool::Never, "", ""),
-    row!("ls S\n", Slots::Its, Table::Never, Pool::Never, "", ""),
-    row!("df S\n", Slots::Its, Table::Never, Pool::Never, "", ""),
-    // Those of mounts, of slots 3 and 1, of tasks and of the pool. Task 1 has a child, and task 2 exits.
-    row!(
-        "mount S min_size=1K\n",
-        Slots::Only(3),
-        Table::Never,
-        Pool::Alone,
-        "",
-        "umount S\n"
-    ),
-    row!(
-        "remount S min_size=1K\n",
-        Slots::Only(1),
-        Table::Never,
-        Pool::Alone,
-        "",
-        "remount S min_size=0\n"
-    ),
-    row!(
-        "umount S\n",
-        Slots::Only(1),
-        Table::Never,
-        Pool::AndNode,
-        PAGE,
-        "mount S -\n"
-    ),
-    row!(
-        "fork 1 9\n",
-        Slots::Each,
-        Table::Always,
-        Pool::Alone,
-        "",
-        "exit 9\n"
-    ),
-    row!(
-        "exit 2\n",
-        Slots::Each,
-        Table::Always,
-        Pool::AndNode,
-        "",
-        COPIES
-    ),
-    row!(
-        "connect 9 1\n",
-        Slots::None,
-        Table::Always,
-        Pool::Never,
-        "",
-        "exit 9\n"
-    ),
-    row!(
-        "attach 1\n",
-        Slots::None,
-        Table::Traced,
-        Pool::Never,
-        "",
-        ""
-    ),
-    row!(
-        "nr 47\n",
-        Slots::None,
-        Table::Never,
-        Pool::Alone,
-        "",
-        "nr 48\n"
-    ),
-    row!(
-        "overcommit 1\n",
-        Slots::None,
-        Table::Never,
-        Pool::Alone,
-        "",
-        "overcommit 0\n"
-    ),
-    row!("meminfo\n", Slots::None, Table::Never, Pool::Alone, "", ""),
-    row!("nodes\n", Slots::None, Table::Never, Pool::Alone, "", ""),
-];
+/// The works of a task at its maps: of a page that is there, of reserved indices by one line or by two, of a hole, and of slot 0
+/// with no file's name.
+pub fn of_maps() -> [Row; 8] {
+    let (its, looks) = (Slots::Its, Table::Traced);
+    [
+        takes("load 1 S 1 0 0 1\n", its, looks, Pool::Never, "", ""),
+        takes(
+            "store 1 S 2 0 0 78\n",
+            its,
+            looks,
+            Pool::AndNode,
+            "",
+            RESERVED,
+        ),
+        takes(
+            "store 1 S 2 0 0 11\nfault 1 S 2 0 write\n",
+            its,
+            looks,
+            Pool::AndNode,
+            "",
+            RESERVED,
+        ),
+        takes(
+            "fault 1 S 2 0 write\nfault 1 S 2 1 write\n",
+            its,
+            looks,
+            Pool::AndNode,
+            "",
+            RESERVED,
+        ),
+        takes(
+            "fault 1 S 3 0 write\n",
+            its,
+            looks,
+            Pool::AndNode,
+            "",
+            "punch S h 0 1\n",
+        ),
+        takes(
+            "map 1 S p 0 1 private\n",
+            its,
+            looks,
+            Pool::Alone,
+            "",
+            "unmap 1 S 4 0 1\n",
+        ),
+        takes(
+            "unmap 1 S 2 0 2\n",
+            its,
+            looks,
+            Pool::Alone,
+            "",
+            "map 1 S a 0 2 shared\n",
+        ),
+        takes(
+            "anon 1 1 shared\n",
+            Slots::Only(0),
+            looks,
+            Pool::Alone,
+            "",
+            "unmap 1 S 4 0 1\n",
+        ),
+    ]
+}
+
+/// Those of files.
+pub fn of_files() -> [Row; 9] {
+    let (its, never) = (Slots::Its, Table::Never);
+    [
+        takes(
+            "preallocate S h 0 1\n",
+            its,
+            never,
+            Pool::AndNode,
+            "",
+            "punch S h 0 1\n",
+        ),
+        takes(
+            "punch S p 0 1\n",
+            its,
+            never,
+            Pool::AndNode,
+            "",
+            "preallocate S p 0 1\n",
+        ),
+        takes(
+            "truncate S p 0\n",
+            its,
+            never,
+            Pool::AndNode,
+            "",
+            "preallocate S p 0 1\n",
+        ),
+        takes("read S p 0 0 1\n", its, never, Pool::Never, "", ""),
+        takes("create S n\n", its, never, Pool::Never, "", "unlink S n\n"),
+        takes("unlink S n\n", its, never, Pool::Alone, "create S n\n", ""),
+        takes("stat S p\n", its, never, Pool::Never, "", ""),
+        takes("ls S\n", its, never, Pool::Never, "", ""),
+        takes("df S\n", its, never, Pool::Never, "", ""),
+    ]
+}
+
+/// Those of mounts, of slots 3 and 1, of tasks and of the pool. Task 1 has a child, and task 2 exits.
+pub fn of_others() -> [Row; 11] {
+    let (one, none, never) = (Slots::Only(1), Slots::None, Table::Never);
+    let page = "create S p\npreallocate S p 0 1\n";
+    [
+        takes(
+            "mount S min_size=1K\n",
+            Slots::Only(3),
+            never,
+            Pool::Alone,
+            "",
+            "umount S\n",
+        ),
+        takes(
+            "remount S min_size=1K\n",
+            one,
+            never,
+            Pool::Alone,
+            "",
+            "remount S min_size=0\n",
+        ),
+        takes("umount S\n", one, never, Pool::AndNode, page, "mount S -\n"),
+        takes(
+            "fork 1 9\n",
+            Slots::Each,
+            Table::Always,
+            Pool::Alone,
+            "",
+            "exit 9\n",
+        ),
+        takes(
+            "exit 2\n",
+            Slots::Each,
+            Table::Always,
+            Pool::AndNode,
+            "",
+            COPIES,
+        ),
+        takes(
+            "connect 9 1\n",
+            none,
+            Table::Always,
+            Pool::Never,
+            "",
+            "exit 9\n",
+        ),
+        takes("attach 1\n", none, Table::Traced, Pool::Never, "", ""),
+        takes("nr 47\n", none, never, Pool::Alone, "", "nr 48\n"),
+        takes(
+            "overcommit 1\n",
+            none,
+            never,
+            Pool::Alone,
+            "",
+            "overcommit 0\n",
+        ),
+        takes("meminfo\n", none, never, Pool::Alone, "", ""),
+        takes("nodes\n", none, never, Pool::Alone, "", ""),
+    ]
+}
