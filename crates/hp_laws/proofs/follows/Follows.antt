@@ -11,8 +11,6 @@ use Rattle.hp_laws.specs.Laws.{WhatFollows}
 use Rattle.hp_laws.proofs.follows.CutOff.{stopped}
 use Rattle.hp_laws.proofs.follows.Gone.{step_gone}
 use Rattle.hp_laws.proofs.follows.Others.{step_whole}
-use Rattle.hp_laws.proofs.follows.Set.{step_set}
-use Rattle.hp_laws.proofs.follows.Stays.{all_stay}
 use Rattle.hp_laws.proofs.follows.Touched.{touched}
 use Rattle.hp_laws.proofs.footprint.Footprint.{step_footprint}
 use Rattle.hp_laws.proofs.promises.TestsDecide.{step_meets}
@@ -40,22 +38,20 @@ still_mapped s t x reply size k p q i kept = record {
 
 pub follows : WhatFollows
 follows s step reply t st is =
-    let stay = all_stay s t step reply (step_footprint s st step reply t is) in
-    let kept = all_kept s t step reply (step_meets s reply t step is) (step_footprint s st step reply t is) in
-    let left = step_set s t step reply (step_meets s reply t step is) (step_footprint s st step reply t is) in
+    let all = all_kept s t step reply (step_meets s reply t step is) (step_footprint s st step reply t is) in
     record {
-      elsewhere = λ slot. (stay slot).2;
-      settings = left.0;
-      mounts = λ slot. (stay slot).0;
+      elsewhere = λ slot. (all.0 slot).2;
+      settings = all.2.0;
+      mounts = λ slot. (all.0 slot).0;
       files = λ slot name i f goes_on named.
-          subst (λ n. StillNamed n (slot_at t slot) name i (stored_over s step reply slot f.0 i (shown s.page_size (cell_at f.1 i)))) (sym left.1) ((kept slot).names name i f goes_on named);
+          subst (λ n. StillNamed n (slot_at t slot) name i (stored_over s step reply slot f.0 i (shown s.page_size (cell_at f.1 i)))) (sym all.2.1) ((all.1 slot).names name i f goes_on named);
       maps = λ slot task number i p goes_on found.
-          (let q = (kept slot).numbers task number i p goes_on found in (q.0, q.1, still_mapped s t step reply left.1 slot p q.0 i q.2));
-      together = λ slot a b p o first second. (kept slot).together a b p o first.0 second.0 first.1 second.1;
+          (let q = (all.1 slot).numbers task number i p goes_on found in (q.0, q.1, still_mapped s t step reply all.2.1 slot p q.0 i q.2));
+      together = λ slot a b p o first second. (all.1 slot).together a b p o first.0 second.0 first.1 second.1;
       whole = step_whole s t step reply (step_footprint s st step reply t is);
       touched = all_touched s t step reply (step_footprint s st step reply t is) (step_meets s reply t step is);
       cut_off = stopped s step reply (step_meets s reply t step is);
       gone = all_gone s t st step reply (step_footprint s st step reply t is);
-      held = λ slot. (stay slot).1;
+      held = λ slot. (all.0 slot).1;
       once = once t (step_settled s step reply t st is);
     }

@@ -53,10 +53,6 @@ module _ (R : ℕ → Slot → Slot → Type 0) (same : (k : ℕ) (x : Slot) →
   pub leaves_to : (k : ℕ) (x : Slot) → IsButNodes (with_slot s k x) t → R k (slot_at s k) x → All
   leaves_to k x is here = set_to k x (ap (λ u. u.slots) is.0) here
 
-  -- on an open slot
-  pub leaves_on : (k : ℕ) (m : Mount) (x : Slot) → slot_at s k ≡ Some m → IsButNodes (with_slot s k x) t → R k (Some m) x → All
-  leaves_on k m x at is here = leaves_to k x is (subst (λ o. R k o x) (sym at) here)
-
   -- on each slot on which the task has maps
   pub task_to : (task : ℕ) (g : Mount → Mount) → t.slots ≡ where_mapped task g s.slots → ((k : ℕ) (m : Mount) → slot_at s k ≡ Some m → R k (Some m) (Some (g m))) → All
   task_to task g e here j =
