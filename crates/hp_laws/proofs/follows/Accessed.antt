@@ -5,7 +5,7 @@ use Rattle.std.proofs.lemmas.Bool.{cond_both, eq-eqb, eqb-false, eqb-true}
 use Rattle.std.proofs.lemmas.List.{get_or-set_other, get_or-set_same, length-map, length-set}
 use Rattle.hp_laws.proofs.Variants.{Cell, Gone, Hole, Live, Place, Present}
 use Rattle.hp_model.proofs.Words.{Copy, File, Map, Mount, Page, Spot, copy_of, file_in, holds, is_live, is_map, is_shared, map_in, new_file, no_map, place_at, shown, spot, value, with_cell}
-use Rattle.hp_model.proofs.Words.{with_file, without_copy}
+use Rattle.hp_model.proofs.Words.{with_file, without_copy, with_map}
 use Rattle.hp_model.specs.machine.Footprint.{IsFileAccess, is_spent, losing, with_bytes, with_copy_there, with_own, with_places}
 use Rattle.hp_laws.proofs.accesses.Shown.{by_place, look, marked, place_other, place_put, seen}
 use Rattle.hp_laws.proofs.counts.MountMoves.{IsSpot, spot_is}
@@ -66,12 +66,58 @@ loses size stamp i y x v = by_holds (holds stamp (place_at y i)) refl (x == i) r
           refl,
         )
 
+-- ---- the file of a private map that has a copy there
+
+module _ (m : Mount) (p : Spot) (at : IsSpot m p) (i : ℕ) where
+  place_shape : (c : Copy) → shape_of (with_copy_there p i c) ≡ shape_of p.map
+  place_shape c = pages_same p.map p.map.unmapped _ (length-set p.map.places (i - p.map.start) _)
+
+  pub own_key : (c : Copy) → file_key (with_map p.file p.map_no (with_copy_there p i c)) ≡ file_key p.file
+  own_key c = ap (λ ks. (p.file.name, ks)) (key_set shape_of p.file.maps p.map_no (with_copy_there p i c) (place_shape c ∙ sym (ap shape_of (at.map.is (with_copy_there p i c)))))
+
+  -- taken back from all others
+  module _ (w : List ℕ → List ℕ) (c : Copy) where
+    abbrev pub y : Map
+    y = with_copy_there p i (with_bytes w c)
+
+    abbrev pub robbed : List Map
+    robbed = map (losing c.stamp i) p.file.maps
+
+    abbrev pub back : File
+    back = record p.file { maps = slice_set robbed p.map_no y }
+
+    losing_shape : (z : Map) → shape_of (losing c.stamp i z) ≡ shape_of z
+    losing_shape z = grind (arith, length-each)
+
+    pub still_marked : (z : Map) → z.unmapped ≡ true → (losing c.stamp i z).unmapped ≡ true
+    still_marked z on = grind arith
+
+    none_lost : losing c.stamp i no_map ≡ no_map
+    none_lost = grind arith
+
+    within : p.map_no < length robbed
+    within = subst (λ n. p.map_no < n) (sym (length-map p.file.maps (losing c.stamp i))) at.map.within
+
+    robbed_own : get_or robbed p.map_no y ≡ losing c.stamp i p.map
+    robbed_own = get_mapped (losing c.stamp i) p.file.maps p.map_no y at.map.within ∙ ap (losing c.stamp i) (at.map.is y)
+
+    pub back_key : file_key back ≡ file_key p.file
+    back_key =
+        ap (λ ks. (p.file.name, ks))
+        (key_set shape_of robbed p.map_no y (place_shape (with_bytes w c) ∙ sym (losing_shape p.map) ∙ sym (ap shape_of robbed_own)) ∙ key_map shape_of (losing c.stamp i) losing_shape p.file.maps)
+
+    pub own_back : map_in back p.map_no ≡ y
+    own_back = get_or-set_same robbed p.map_no y no_map within
+
+    pub beside : (l : ℕ) → (l ≡ p.map_no → ⊥) → map_in back l ≡ losing c.stamp i (map_in p.file l)
+    beside l other = get_or-set_other robbed p.map_no l y no_map other ∙ get_map (losing c.stamp i) no_map none_lost p.file.maps l
+
 -- ---- on a mount
 
 module _ (size : ℕ) (k task number i : ℕ) (w : List ℕ → List ℕ) (m : Mount) (p : Spot) (found : spot m (is_map task number) ≡ Some p) (e : Effect) (Lost : Losses)
     (stores : (j x : ℕ) (old : List ℕ) → (if (i == x) && is_shared_of (Some p) j then w old else old) ≡ e.stored j x old)
     (sees : (j l x : ℕ) (old : List ℕ) → (if (i == x) && reaches (Some p) (map_on (Some m) j l) j l x then w old else old) ≡ e.seen j l x old) where
-  at : IsSpot m p
+  pub at : IsSpot m p
   at = spot_is m (is_map task number) p found
 
   file_was : file_in m p.file_no ≡ p.file
@@ -232,71 +278,37 @@ module _ (size : ℕ) (k task number i : ℕ) (w : List ℕ → List ℕ) (m : M
               (λ on. ap (λ y. y.unmapped) here ∙ ap (λ y. y.unmapped) (sym (at.map.is no_map)) ∙ on) on
           marks l false apart on = others l (λ same. eqb-false p.map_no l apart (sym same)) on
 
-    place_shape : (c : Copy) → shape_of (with_copy_there p i c) ≡ shape_of p.map
-    place_shape c = pages_same p.map p.map.unmapped _ (length-set p.map.places (i - p.map.start) _)
-
     pub own_keeps : is_shared p.map.sharing ≡ false → (c : Copy) → c.page.bytes ≡ w (value size p.file p.map i) → SlotKeeps size (Some m) e (Some (with_own m p i c)) Lost
     own_keeps kind c bytes =
         copied_keeps kind c bytes (slice_set p.file.maps p.map_no (with_copy_there p i c)) false
         (get_or-set_same p.file.maps p.map_no (with_copy_there p i c) no_map at.map.within)
-        (ap (λ ks. (p.file.name, ks)) (key_set shape_of p.file.maps p.map_no (with_copy_there p i c) (place_shape c ∙ sym (ap shape_of (at.map.is (with_copy_there p i c))))))
+        (own_key m p at i c)
         (λ l x other. inl (ap (λ y. value size p.file y x) (get_or-set_other p.file.maps p.map_no l (with_copy_there p i c) no_map other)))
         (λ l other on. ap (λ y. y.unmapped) (get_or-set_other p.file.maps p.map_no l (with_copy_there p i c) no_map other) ∙ on) (λ e. cc)
 
-    -- taken back from all others
     module _ (c : Copy) where
-      abbrev y : Map
-      y = with_copy_there p i (with_bytes w c)
-
-      abbrev robbed : List Map
-      robbed = map (losing c.stamp i) p.file.maps
-
-      abbrev pub back : File
-      back = record p.file { maps = slice_set robbed p.map_no y }
-
-      losing_shape : (z : Map) → shape_of (losing c.stamp i z) ≡ shape_of z
-      losing_shape z = grind (arith, length-each)
-
-      still_marked : (z : Map) → z.unmapped ≡ true → (losing c.stamp i z).unmapped ≡ true
-      still_marked z on = grind arith
-
-      none_lost : losing c.stamp i no_map ≡ no_map
-      none_lost = grind arith
-
-      within : p.map_no < length robbed
-      within = subst (λ n. p.map_no < n) (sym (length-map p.file.maps (losing c.stamp i))) at.map.within
-
-      robbed_own : get_or robbed p.map_no y ≡ losing c.stamp i p.map
-      robbed_own = get_mapped (losing c.stamp i) p.file.maps p.map_no y at.map.within ∙ ap (losing c.stamp i) (at.map.is y)
-
-      pub back_key : file_key back ≡ file_key p.file
-      back_key =
-          ap (λ ks. (p.file.name, ks))
-          (key_set shape_of robbed p.map_no y (place_shape (with_bytes w c) ∙ sym (losing_shape p.map) ∙ sym (ap shape_of robbed_own)) ∙ key_map shape_of (losing c.stamp i) losing_shape p.file.maps)
-
-      pub own_back : map_in back p.map_no ≡ y
-      own_back = get_or-set_same robbed p.map_no y no_map within
-
-      beside : (l : ℕ) → (l ≡ p.map_no → ⊥) → map_in back l ≡ losing c.stamp i (map_in p.file l)
-      beside l other = get_or-set_other robbed p.map_no l y no_map other ∙ get_map (losing c.stamp i) no_map none_lost p.file.maps l
+      abbrev pub left : File
+      left = back m p at i w c
 
       pub back_keeps : is_shared p.map.sharing ≡ false → copy_of (place_at p.map i) ≡ Some c → p.map.owner ≡ true
-          → ((r q : Spot) (x : ℕ) → IsLostTo (Some p) (spot (with_file m p.file_no back) (is_map task number)) i r q x → Lost r q x)
-          → SlotKeeps size (Some m) e (Some (with_file m p.file_no back)) Lost
+          → ((r q : Spot) (x : ℕ) → IsLostTo (Some p) (spot (with_file m p.file_no left) (is_map task number)) i r q x → Lost r q x)
+          → SlotKeeps size (Some m) e (Some (with_file m p.file_no left)) Lost
       back_keeps kind held owner lost =
-          copied_keeps kind (with_bytes w c) (ap (λ (o : Option Copy). w (elim o [ None ↦ look size i p.file | Some copy ↦ copy.page.bytes ])) (sym held)) (slice_set robbed p.map_no y) true own_back
-          back_key (λ l x other. rest l x other (loses size c.stamp i (map_in p.file l) x (look size x p.file)))
-          (λ l other on. ap (λ z. z.unmapped) (beside l other) ∙ still_marked (map_in p.file l) on) (λ e. lost)
+          copied_keeps kind (with_bytes w c) (ap (λ (o : Option Copy). w (elim o [ None ↦ look size i p.file | Some copy ↦ copy.page.bytes ])) (sym held))
+          (slice_set (robbed m p at i w c) p.map_no (y m p at i w c)) true (own_back m p at i w c)
+          (back_key m p at i w c) (λ l x other. rest l x other (loses size c.stamp i (map_in p.file l) x (look size x p.file)))
+          (λ l other on. ap (λ z. z.unmapped) (beside m p at i w c l other) ∙ still_marked m p at i w c (map_in p.file l) on) (λ e. lost)
         where
-          kept : is_same_copy (place_at p.map i) (place_at (map_in back p.map_no) i) ≡ true
+          kept : is_same_copy (place_at p.map i) (place_at (map_in left p.map_no) i) ≡ true
           kept =
               let was = live_is (place_at p.map i) live in
-              ap (λ (o : Option Copy). elim o [ None ↦ false | Some copy ↦ holds copy.stamp (place_at (map_in back p.map_no) i) ]) held
-              ∙ ap (λ z. holds c.stamp (place_at z i)) own_back ∙ ap (holds c.stamp) (place_put p.map i was.0 was.1 was.2 _) ∙ eq-eqb c.stamp c.stamp refl
+              ap (λ (o : Option Copy). elim o [ None ↦ false | Some copy ↦ holds copy.stamp (place_at (map_in left p.map_no) i) ]) held
+              ∙ ap (λ z. holds c.stamp (place_at z i)) (own_back m p at i w c) ∙ ap (holds c.stamp) (place_put p.map i was.0 was.1 was.2 _) ∙ eq-eqb c.stamp c.stamp refl
 
           rest : (l x : ℕ) → (l ≡ p.map_no → ⊥) → Loses size c.stamp i (map_in p.file l) (losing c.stamp i (map_in p.file l)) x (look size x p.file)
-              → (by_place size (place_at (map_in back l) x) (look size x p.file) ≡ seen size l x p.file) ⊎ ((true ≡ true) × IsLost p.map (map_in back p.map_no) i (map_in p.file l) (map_in back l) x)
-          rest l x other (inl shows) = inl (ap (λ z. by_place size (place_at z x) (look size x p.file)) (beside l other) ∙ shows)
+              → (by_place size (place_at (map_in left l) x) (look size x p.file) ≡ seen size l x p.file)
+              ⊎ ((true ≡ true) × IsLost p.map (map_in left p.map_no) i (map_in p.file l) (map_in left l) x)
+          rest l x other (inl shows) = inl (ap (λ z. by_place size (place_at z x) (look size x p.file)) (beside m p at i w c l other) ∙ shows)
           rest l x other (inr gone) =
               inr (
                 refl,
@@ -306,7 +318,7 @@ module _ (size : ℕ) (k task number i : ℕ) (w : List ℕ → List ℕ) (m : M
                   owner = owner;
                   held = ap (λ (o : Option Copy). elim o [ None ↦ false | Some copy ↦ holds copy.stamp (place_at (map_in p.file l) x) ]) held ∙ gone.1;
                   kept = kept;
-                  lost = ap (λ z. copy_of (place_at z x)) (beside l other) ∙ gone.2;
-                  marked = ap (λ z. z.unmapped) (beside l other) ∙ gone.3;
+                  lost = ap (λ z. copy_of (place_at z x)) (beside m p at i w c l other) ∙ gone.2;
+                  marked = ap (λ z. z.unmapped) (beside m p at i w c l other) ∙ gone.3;
                 },
               )

@@ -1,35 +1,29 @@
 -- An access that is answered leaves its page there: by the footprint and the tests.
 use Rattle.std.proofs.lemmas.Grind.{common_steps}
-use Rattle.std.proofs.Common.{◌≡◌, subst, ℕ, ◌<◌, ◌==◌, Bool, true, false, None, Some, is_some, Ok, List, length, map, refl, sym, ap, ◌∙◌}
-use Rattle.std.proofs.Common.{arith, get_or, slice_set, if◌then◌else◌, inl, inr}
-use Rattle.std.proofs.lemmas.List.{get_or-set_same, length-map}
-use Rattle.hp_laws.proofs.Variants.{Answer, Cell, Hole, Intent, Live, Place, Present, Read, Write}
+use Rattle.std.proofs.Common.{◌≡◌, subst, ℕ, ◌<◌, Bool, true, false, None, Some, is_some, Ok, List, length, refl, sym, ap, ◌∙◌}
+use Rattle.std.proofs.Common.{arith, get_or, slice_set, inl, inr}
+use Rattle.std.proofs.lemmas.List.{get_or-set_same}
+use Rattle.hp_laws.proofs.Variants.{Answer, Cell, Hole, Intent, Live, Present, Read, Write}
 use Rattle.hp_model.specs.declared.step.Step.{Step}
 use Rattle.hp_model.specs.declared.step.Step.TheVariants as step
 use Rattle.hp_model.proofs.Words.{Copy, File, Map, MeetsTests, Mount, Page, Slot, Spot, State, byte_tests, cell_at, copy_of, fault_tests, has_page, home_of}
 use Rattle.hp_model.proofs.Words.{is_live, is_map, is_shared, map_named, new_file, no_map, place_at, slot_at, spot, spot_on, with_cell, with_file, with_map}
 use Rattle.hp_model.proofs.Words.{with_place}
-use Rattle.hp_laws.proofs.follows.Accessed.{back}
+use Rattle.hp_laws.proofs.follows.Accessed.{back, back_key, own_back, own_key}
 use Rattle.hp_laws.proofs.follows.Ways.{Ways, access_all}
-use Rattle.hp_laws.specs.Follows.{Touches, has_its_page, shape_of}
-use Rattle.hp_model.specs.machine.Footprint.{Changes, IsSharedAccess, TakesBack, There, at_each, is_spent, losing, over, with_bytes, with_copy_there, with_own}
+use Rattle.hp_laws.specs.Follows.{Touches, has_its_page}
+use Rattle.hp_model.specs.machine.Footprint.{Changes, IsSharedAccess, TakesBack, There, is_spent, losing, over, with_bytes, with_copy_there, with_own}
 use Rattle.hp_laws.proofs.counts.MountMoves.{IsSpot, spot_is}
 use Rattle.hp_laws.proofs.follows.Gone.{in_range}
-use Rattle.hp_laws.proofs.footprint.Ranges.{put_all, length-each}
-use Rattle.hp_laws.proofs.names.Accessed.{file_put, key_map, key_set}
+use Rattle.hp_laws.proofs.footprint.Ranges.{put_all}
+use Rattle.hp_laws.proofs.names.Accessed.{file_put}
 use Rattle.hp_laws.proofs.names.Keys.{Where, file_key, keys}
 use Rattle.hp_laws.proofs.names.Meanings.{placed_same}
 
 -- ---- places
 
-losing_shape : (stamp i : ℕ) (m : Map) → shape_of (losing stamp i m) ≡ shape_of m
-losing_shape stamp i m = grind (arith, length-each)
-
 copied : (m : Map) (i : ℕ) (b : Bool) (c : Copy) → is_live (place_at m i) ≡ true → is_some (copy_of (place_at (with_place m i (Live b (Some c))) i)) ≡ true
 copied m i b c live = grind (arith, common_steps)
-
-placed_shape : (m : Map) (i : ℕ) (p : Place Copy) → shape_of (with_place m i p) ≡ shape_of m
-placed_shape m i p = grind (arith, common_steps)
 
 paged : (f : File) (i : ℕ) (page : Page) → i < length f.cells → has_page (cell_at (with_cell f i (Present page)) i) ≡ true
 paged f i page low = ap (λ (c : Cell Page). has_page c) (get_or-set_same f.cells i (Present page) Hole low)
@@ -85,26 +79,14 @@ module _ (s t : State) (k task number i : ℕ) (m : Mount) (p : Spot) (is : slot
     own_has intent c apart e =
         let y : Map = with_copy_there p i c in
         let f : File = with_map p.file p.map_no y in
-        put_there intent f y
-        (ap (λ ks. (p.file.name, ks)) (key_set shape_of p.file.maps p.map_no y (placed_shape p.map i _ ∙ sym (ap shape_of (at.map.is y)))))
-        (get_or-set_same p.file.maps p.map_no y no_map at.map.within) (copy_is intent f y apart (copied p.map i (is_spent p.map (place_at p.map i)) c live)) e
+        put_there intent f y (own_key m p at i c) (get_or-set_same p.file.maps p.map_no y no_map at.map.within) (copy_is intent f y apart (copied p.map i (is_spent p.map (place_at p.map i)) c live)) e
 
     back_has : (intent : Intent) (w : List ℕ → List ℕ) (c : Copy) → is_shared p.map.sharing ≡ false → TakesBack s k m p i w c t → Has intent
     back_has intent w c apart it =
-        let y : Map = with_copy_there p i (with_bytes w c) in
-        let others : List Map = map (losing c.stamp i) p.file.maps in
-        let maps : slice_set others p.map_no y ≡ at_each (λ j x. if j == p.map_no then y else losing c.stamp i x) 0 p.file.maps = put_all (losing c.stamp i) y p.map_no p.file.maps in
-        let f : File = record p.file { maps = slice_set others p.map_no y } in
-        let shapes : map shape_of others ≡ map shape_of p.file.maps = key_map shape_of (losing c.stamp i) (losing_shape c.stamp i) p.file.maps in
-        let within : p.map_no < length others = subst (λ n. p.map_no < n) (sym (length-map p.file.maps (losing c.stamp i))) at.map.within in
-        let there : shape_of y ≡ shape_of (get_or others p.map_no y) =
-        placed_shape p.map i _ ∙ sym (losing_shape c.stamp i p.map) ∙ sym (ap shape_of (mapped_place (losing c.stamp i) p.file.maps p.map_no y p.map at.map.within (at.map.is p.map))) in
-        put_there intent f y (ap (λ ks. (p.file.name, ks)) (key_set shape_of others p.map_no y there ∙ shapes)) (get_or-set_same others p.map_no y no_map within)
-        (copy_is intent f y apart (copied p.map i (is_spent p.map (place_at p.map i)) (with_bytes w c) live))
-        (ap (λ u. u.slots) it.2 ∙ ap (λ ms. slice_set s.slots k (Some (with_file m p.file_no (record p.file { maps = ms })))) (sym maps))
-      where
-        mapped_place : {X : Type 0} (h : X → X) (xs : List X) (j : ℕ) (d x : X) → j < length xs → get_or xs j x ≡ x → get_or (map h xs) j d ≡ h x
-        mapped_place h xs j d x l e = grind (arith, common_steps)
+        put_there intent (back m p at i w c) (with_copy_there p i (with_bytes w c)) (back_key m p at i w c) (own_back m p at i w c)
+        (copy_is intent (back m p at i w c) (with_copy_there p i (with_bytes w c)) apart (copied p.map i (is_spent p.map (place_at p.map i)) (with_bytes w c) live))
+        (ap (λ u. u.slots) it.2
+        ∙ ap (λ ms. slice_set s.slots k (Some (with_file m p.file_no (record p.file { maps = ms })))) (sym (put_all (losing c.stamp i) (with_copy_there p i (with_bytes w c)) p.map_no p.file.maps)))
 
     pub spot_has : (intent : Intent) (w : List ℕ → List ℕ) → Ways s k m p i intent w t → Has intent
     spot_has intent w (inl same) = subst Has (sym same.1) (as_was Read same.3 same.0)
