@@ -1,9 +1,7 @@
 -- What files and maps show after loads, stores and faults.
 pub mod Reserved
 pub mod Shown
-pub mod StoredFiles
 pub mod SlotShows
 pub mod Backed
-pub mod StoredMaps
 pub mod CopiesSound
 pub mod EndsDone

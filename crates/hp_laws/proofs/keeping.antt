@@ -1,5 +1,3 @@
 -- What names and numbers keep after a step, and what sections leave of nr.
 pub mod Homes
 pub mod SettingsKept
-pub mod Meant
-pub mod SlotKept

@@ -1,22 +1,22 @@
 -- What files and maps show after a range of a file or of a map is gone.
 use Rattle.std.proofs.lemmas.Grind.{common_steps}
-use Rattle.std.proofs.Common.{◌≡◌, inl, inr, ◌⊎◌, subst, ℕ, ◌+◌, ◌-◌, ◌<◌, ◌≤◌, ◌&&◌, ◌==◌, Bool, true, false, Option, None, Some, List, length, map, get_or, option_map, refl, sym}
-use Rattle.std.proofs.Common.{ap, ◌∙◌, arith, if◌then◌else◌, nat_le, nat_lt}
+use Rattle.std.proofs.Common.{◌≡◌, inl, inr, ◌⊎◌, subst, ℕ, ◌-◌, ◌<◌, ◌≤◌, ◌&&◌, ◌==◌, Bool, true, false, Option, None, Some, List, length, map, get_or, option_map, refl, sym}
+use Rattle.std.proofs.Common.{ap, ◌∙◌, arith, if◌then◌else◌, nat_le}
 use Rattle.std.specs.List.{list_any}
 use Rattle.std.specs.Str.{bytes_eq}
 use Rattle.std.proofs.lemmas.Slice.Eq.{bytes_eq-Decides}
-use Rattle.std.proofs.lemmas.Bool.{cases_eq, cases_lt, eq-eqb, eqb-true, false_from_ne_true, leb-false, leb-true, ltb-false, ltb-true}
+use Rattle.std.proofs.lemmas.Bool.{cases_eq, cases_lt, eq-eqb, eqb-true, false_from_ne_true, leb-false, leb-true, ltb-false, ltb-true, cond_both}
 use Rattle.std.proofs.lemmas.List.{get_or-set_other, get_or-set_same, get_or_past}
-use Rattle.std.proofs.lemmas.List.Elements.{All-get_or}
-use Rattle.hp_laws.proofs.Variants.{Cell, Gone, Place, SlotEvent}
-use Rattle.hp_model.specs.declared.event.SlotEvent.TheVariants as slot
-use Rattle.hp_model.proofs.Words.{Copy, File, IsSoundFile, IsSoundMap, IsSoundMount, Map, Mount, Page, Spot, cell_punched, edit_range, file_in, file_named, found, has_name, is_in, is_map}
-use Rattle.hp_model.proofs.Words.{map_in, map_punched, new_file, no_map, place_at, punched, shown, spot, spot_in, truncated, unlinked, value, with_file, without_copy, zeros}
+use Rattle.hp_laws.proofs.Variants.{Cell, Gone, Place, Hole}
+use Rattle.hp_model.proofs.Words.{Copy, File, Map, Mount, Page, Spot, cell_punched, edit_range, file_in, file_named, found, has_name, is_in, is_map}
+use Rattle.hp_model.proofs.Words.{map_in, new_file, no_map, place_at, shown, spot, spot_in, unlinked, value, with_file, without_copy, zeros, cell_at, cell_in, cells_to}
+use Rattle.hp_model.specs.machine.Footprint.{cut_from, cut_out, with_places}
+use Rattle.hp_laws.proofs.footprint.Ranges.{each_of, length-each, placed_each}
+use Rattle.hp_laws.proofs.names.Changes.{Effect, IsIdle, Never}
 use Rattle.hp_laws.specs.Follows.{means_file, shape_of}
 use Rattle.hp_model.proofs.Editing.{get_or-edit_below, get_or-edit_in, get_or-edit_past, length-edit_range}
 use Rattle.hp_laws.proofs.names.Accessed.{file_put, get_mapped, key_map, pages_same}
 use Rattle.hp_laws.proofs.names.ByPlace.{PlaceKeeps}
-use Rattle.hp_laws.proofs.names.Changes.{seen_by, stored_by}
 use Rattle.hp_laws.proofs.names.Follows.{some_file}
 use Rattle.hp_laws.proofs.names.Keys.{keys, places}
 use Rattle.hp_laws.proofs.lists.Looks.{same_put}
@@ -48,54 +48,49 @@ place_ranged g none a b y i = grind (arith, leb-true, ltb-true, ranged_in, ltb-f
 
 -- ---- a file of which indices are cut off
 
--- it shows zeros there, and so do its maps
-pub record IsCut (size : ℕ) (f g : File) (h : Map → Map) (cut : ℕ → Bool) : Type 0 where
-  pub maps : g.maps ≡ map h f.maps
+abbrev pub cut_map : (ℕ → Bool) → Map → Map
+cut_map cut y = with_places (λ i p. if cut i then without_copy p else p) y
+
+-- it shows zeros there
+pub record IsCut (size : ℕ) (f g : File) (cut : ℕ → Bool) : Type 0 where
+  pub maps : g.maps ≡ map (cut_map cut) f.maps
   pub name : g.name ≡ f.name
-  pub shape : (y : Map) → shape_of (h y) ≡ shape_of y
-  pub marks : (y : Map) → (h y).unmapped ≡ y.unmapped
   pub cells : (x : ℕ) → look size x g ≡ (if cut x then zeros size else look size x f)
-  pub seen : (y : Map) → IsSoundMap (length f.cells) y → (x : ℕ) → value size g (h y) x ≡ (if cut x then zeros size else value size f y x)
 
-no_copy : (size : ℕ) (p : Place Copy) (v : List ℕ) → by_place size (without_copy p) v ≡ v
-no_copy size p v = grind arith
+module _ (size : ℕ) (cut : ℕ → Bool) where
+  cell_shows : (b : Bool) (c : Cell Page) → shown size (if b then cell_punched c else c) ≡ (if b then zeros size else shown size c)
+  cell_shows b c = grind arith
 
-punched_shows : (size : ℕ) (c : Cell Page) → shown size (cell_punched c) ≡ zeros size
-punched_shows size c = grind arith
+  hole_shows : (b : Bool) → shown size (if b then cell_punched Hole else Hole) ≡ zeros size
+  hole_shows b = grind arith
 
-module _ (size a b : ℕ) (f : File) where
-  punch_cells : (x : ℕ) → look size x (punched a b f) ≡ (if is_in a b x then zeros size else look size x f)
-  punch_cells x = grind (arith, ranged, look, punched_shows)
+  out_cells : (f : File) (x : ℕ) → look size x (cut_out cut f) ≡ (if cut x then zeros size else look size x f)
+  out_cells f x =
+      each_of (shown size) (λ i c. if cut i then cell_punched c else c) Hole (λ n. hole_shows (cut n)) 0 f.cells x x (omega arith)
+      ∙ cell_shows (cut x) (cell_at f x)
 
-  pub punch_cut : IsCut size f (punched a b f) (map_punched a b) (is_in a b)
-  punch_cut = grind (arith, pages_same, places, length-edit_range, punch_cells, seen, look, place_ranged, no_copy)
+  pub out_cut : (f : File) → IsCut size f (cut_out cut f) cut
+  out_cut f = record { maps = refl; name = refl; cells = out_cells f }
 
-module _ (size n : ℕ) (f : File) where
-  cut_cells : (x : ℕ) (c : Bool) → nat_le n x ≡ c → look size x (truncated n f) ≡ (if c then zeros size else look size x f)
-  cut_cells x c past = grind (arith, common_steps)
+  place_cut : (b : Bool) (p : Place Copy) (v w : List ℕ) → v ≡ (if b then zeros size else w) → by_place size (if b then without_copy p else p) v ≡ (if b then zeros size else by_place size p w)
+  place_cut b p v w e = grind arith
 
-  none_beyond : (y : Map) → IsSoundMap (length f.cells) y → (x : ℕ) → length f.cells ≤ x → (v : List ℕ) → by_place size (place_at y x) v ≡ v
-  none_beyond y sound x past v = grind arith
+  -- and so do its maps
+  pub map_cut : (f g : File) → IsCut size f g cut → (y : Map) (x : ℕ) → value size g (cut_map cut y) x ≡ (if cut x then zeros size else value size f y x)
+  map_cut f g is y x =
+      ap (λ p. by_place size p (look size x g)) (placed_each (λ i p. if cut i then without_copy p else p) (λ n. cond_both (cut n) Gone Gone (λ p. p ≡ Gone) (λ e. refl) (λ e. refl)) y x)
+      ∙ place_cut (cut x) (place_at y x) (look size x g) (look size x f) (is.cells x)
 
-  cut_seen : (y : Map) → IsSoundMap (length f.cells) y → (x : ℕ) (c : Bool) → nat_le n x ≡ c →
-      value size (truncated n f) (map_punched n (n + length f.cells) y) x ≡ (if c then zeros size else value size f y x)
-  cut_seen y sound x c e =
-      ap (λ p. by_place size p (look size x (truncated n f))) (place_ranged without_copy refl n (n + length f.cells) y x)
-      ∙ ap (by_place size (if is_in n (n + length f.cells) x then without_copy (place_at y x) else place_at y x)) (cut_cells x c e)
-      ∙ by_tests c (nat_lt x (n + length f.cells)) e refl
-    where
-      by_tests : (c d : Bool) → nat_le n x ≡ c → nat_lt x (n + length f.cells) ≡ d
-          → by_place size (if nat_le n x && d then without_copy (place_at y x) else place_at y x) (if c then zeros size else look size x f) ≡ (if c then zeros size else value size f y x)
-      by_tests true true from to = ap (λ z. by_place size (if z && true then without_copy (place_at y x) else place_at y x) (zeros size)) from ∙ no_copy size (place_at y x) (zeros size)
-      by_tests c d from to = grind (arith, ltb-false, none_beyond, look)
-
-  pub truncate_cut : IsCut size f (truncated n f) (map_punched n (n + length f.cells)) (nat_le n)
-  truncate_cut = grind (arith, pages_same, places, length-edit_range, cut_cells, seen, cut_seen)
+-- from n on
+pub from_cut : (size n : ℕ) (f : File) → IsCut size f (cut_from n f) (nat_le n)
+from_cut size n f = record { maps = refl; name = refl; cells = λ x. out_cells size (nat_le n) (record f { cells = cells_to n f.cells }) x ∙ before x (nat_le n x) refl }
+  where
+    before : (x : ℕ) (c : Bool) → nat_le n x ≡ c → (if c then zeros size else shown size (cell_in (cells_to n f.cells) x)) ≡ (if c then zeros size else look size x f)
+    before x c past = grind (arith, common_steps)
 
 -- ---- its mount
 
-module _ (size : ℕ) (m : Mount) (sound : IsSoundMount m) (name : List ℕ) (q : ℕ × File) (named : file_named m name ≡ Some q) (g : File)
-    (h : Map → Map) (cut : ℕ → Bool) (is : IsCut size q.1 g h cut) where
+module _ (size : ℕ) (m : Mount) (name : List ℕ) (q : ℕ × File) (named : file_named m name ≡ Some q) (g : File) (cut : ℕ → Bool) (is : IsCut size q.1 g cut) where
   abbrev after : Mount
   after = with_file m q.0 g
 
@@ -126,18 +121,12 @@ module _ (size : ℕ) (m : Mount) (sound : IsSoundMount m) (name : List ℕ) (q 
 
   -- the map at a place of the file
   module _ (l : ℕ) (within : l < length q.1.maps) where
-    map_now : map_in (file_in after q.0) l ≡ h (map_in q.1 l)
-    map_now = ap (λ f. map_in f l) file_now ∙ ap (λ ms. get_or ms l no_map) is.maps ∙ get_mapped h q.1.maps l no_map within
-
-    map_sound : IsSoundMap (length q.1.cells) (map_in q.1 l)
-    map_sound =
-        let at = file_at m (has_name name) q named in
-        let whole = subst IsSoundFile file_was (All-get_or IsSoundFile m.files q.0 (new_file None) at.within sound.files) in
-        All-get_or (IsSoundMap (length q.1.cells)) q.1.maps l no_map within whole.maps
+    map_now : map_in (file_in after q.0) l ≡ cut_map cut (map_in q.1 l)
+    map_now = ap (λ f. map_in f l) file_now ∙ ap (λ ms. get_or ms l no_map) is.maps ∙ get_mapped (cut_map cut) q.1.maps l no_map within
 
     seen_cut : (x : ℕ) → seen size l x (file_in after q.0) ≡ cut_off (means_file (Some m) name q.0 && cut x) (seen size l x (file_in m q.0))
     seen_cut x =
-        ap (λ y. value size (file_in after q.0) y x) map_now ∙ ap (λ f. value size f (h (map_in q.1 l)) x) file_now ∙ is.seen (map_in q.1 l) map_sound x
+        ap (λ y. value size (file_in after q.0) y x) map_now ∙ ap (λ f. value size f (cut_map cut (map_in q.1 l)) x) file_now ∙ map_cut size cut q.1 g is (map_in q.1 l) x
         ∙ ap (λ f. cut_off (cut x) (seen size l x f)) (sym file_was) ∙ cut_here x (seen size l x (file_in m q.0))
 
   within_file : (p : Spot) (test : Map → Bool) → spot m test ≡ Some p → p.file_no ≡ q.0 → p.map_no < length q.1.maps
@@ -162,19 +151,18 @@ module _ (size : ℕ) (m : Mount) (sound : IsSoundMount m) (name : List ℕ) (q 
   pub same_keys : keys after ≡ keys m
   same_keys =
       file_put m q.0 q.1 g (file_at m (has_name name) q named).is
-      (ap (λ n. (n, map shape_of g.maps)) is.name ∙ ap (λ ks. (q.1.name, ks)) (ap (map shape_of) is.maps ∙ key_map shape_of h is.shape q.1.maps))
+      (ap (λ n. (n, map shape_of g.maps)) is.name
+      ∙ ap (λ ks. (q.1.name, ks)) (ap (map shape_of) is.maps ∙ key_map shape_of (cut_map cut) (λ y. pages_same y y.unmapped _ (length-each _ y.start y.places)) q.1.maps))
 
-  pub cut_keeps : (e : SlotEvent)
-      → ((j x : ℕ) (old : List ℕ) → cut_off (means_file (Some m) name j && cut x) old ≡ stored_by size (Some m) e j x old)
-      → ((j l x : ℕ) (old : List ℕ) → cut_off (means_file (Some m) name j && cut x) old ≡ seen_by size (Some m) e j l x old)
-      → PlaceKeeps size m e after
+  pub cut_keeps : (e : Effect) → ((j x : ℕ) (old : List ℕ) → cut_off (means_file (Some m) name j && cut x) old ≡ e.stored j x old)
+      → ((j l x : ℕ) (old : List ℕ) → cut_off (means_file (Some m) name j && cut x) old ≡ e.seen j l x old) → PlaceKeeps size m e after Never
   cut_keeps e stores sees =
       let stays = placed m after (lead_same (keys m) (keys after) same_keys) in
       record {
         names = λ name f goes_on e. stays.names name f e;
         numbers = λ task number p goes_on e. stays.numbers task number p e;
         cells = λ j x. cells_cut j x ∙ stores j x (look size x (file_in m j));
-        maps = λ task number x p found. inl (maps_cut (is_map task number) x p found ∙ sees p.file_no p.map_no x (seen size p.map_no x (file_in m p.file_no)));
+        maps = λ task number x p r found there same. inl (maps_cut (is_map task number) x p found ∙ sees p.file_no p.map_no x (seen size p.map_no x (file_in m p.file_no)));
         marks = λ task number p found marked. marks_cut (is_map task number) p found marked;
       }
 
@@ -219,16 +207,16 @@ module _ (size : ℕ) (m : Mount) (name : List ℕ) (q : ℕ × File) (named : f
         ap places there.2.2,
       )
 
-  pub unlink_keeps : PlaceKeeps size m (slot.Unlink name) left
-  unlink_keeps = record {
+  pub unlink_keeps : (e : Effect) → IsIdle e → ((other : List ℕ) → e.ends_name other ≡ false → bytes_eq name other ≡ false) → PlaceKeeps size m e left Never
+  unlink_keeps e idle ends = record {
     names = λ other f goes_on e. (
       (f.0, if f.0 == q.0 then unlinked q.1 else f.1),
-      found_set (has_name other) m.files q.0 (unlinked q.1) (sym (ap (has_name other) ((file_at m (has_name name) q named).is (unlinked q.1)) ∙ not_named other goes_on))
+      found_set (has_name other) m.files q.0 (unlinked q.1) (sym (ap (has_name other) ((file_at m (has_name name) q named).is (unlinked q.1)) ∙ not_named other (ends other goes_on)))
           ∙ ap (option_map (put_at q.0 (unlinked q.1))) e,
       refl,
     );
     numbers = λ task number p goes_on e. number_stays (is_map task number) p e;
-    cells = λ j x. same_look (look size x) refl j;
-    maps = λ task number x p found. inl (same_look (seen size p.map_no x) refl p.file_no);
+    cells = λ j x. same_look (look size x) refl j ∙ idle.stored j x (look size x (file_in m j));
+    maps = λ task number x p r found there same. inl (same_look (seen size p.map_no x) refl p.file_no ∙ idle.seen p.file_no p.map_no x (seen size p.map_no x (file_in m p.file_no)));
     marks = λ task number p found marked. same_look (λ f. (map_in f p.map_no).unmapped) refl p.file_no ∙ marked;
   }

@@ -2,16 +2,15 @@
 use Rattle.std.proofs.Common.{arith, ◌≡◌, inl, subst, ℕ, ◌&&◌, ◌==◌, Bool, true, false, not, Option, None, Some, List, [], ◌∷◌, map, refl, sym, ap, ◌∙◌, if◌then◌else◌}
 use Rattle.std.proofs.lemmas.Grind.{common_steps}
 use Rattle.std.proofs.lemmas.Bool.{and_parts, eq-eqb, eqb-false, eqb-true, false_from_ne_true, or_left, or_right}
-use Rattle.hp_laws.proofs.Variants.{Gone, SlotEvent}
-use Rattle.hp_model.specs.declared.event.SlotEvent.TheVariants as slot
-use Rattle.hp_model.proofs.Words.{File, Map, Mount, Spot, file_forked, file_in, file_unmapped, file_without, forked, found, is_in, is_left, is_map, is_mapped, map_in, map_unmapped}
-use Rattle.hp_model.proofs.Words.{new_file, no_map, place_at, spot, swept, unmapped_from, value, without_range, without_task}
-use Rattle.hp_laws.specs.Follows.{is_at, map_on, seen_on, shape_of, shown_on, stays_mapped}
+use Rattle.hp_laws.proofs.Variants.{Gone}
+use Rattle.hp_model.proofs.Words.{File, Map, Mount, Spot, file_in, file_unmapped, found, is_in, is_left, is_map, is_mapped, map_in, map_unmapped}
+use Rattle.hp_model.proofs.Words.{new_file, no_map, place_at, spot, swept, unmapped_from, value, without_range, Slot, cell_at, shown, spot_on}
+use Rattle.hp_laws.specs.Follows.{is_at, map_on, seen_on, shape_of, shown_on, stays_mapped, SameFiles}
 use Rattle.hp_laws.proofs.names.Accessed.{get_mapped, key_map}
 use Rattle.hp_laws.proofs.names.ByPlace.{PlaceKeeps, by_place}
-use Rattle.hp_laws.proofs.names.Changes.{LosesBy, SlotKeeps, ends_number, seen_by, stored_by}
+use Rattle.hp_laws.proofs.names.Changes.{SlotKeeps, Effect, IsIdle, Losses, Never}
 use Rattle.hp_laws.proofs.ending.Cuts.{place_ranged}
-use Rattle.hp_laws.proofs.names.Follows.{FilesFollow, edit_follows, follow, fork_follows, is_not_of, some_file, sweep_follows, thin, thin_follows}
+use Rattle.hp_laws.proofs.names.Follows.{FilesFollow, edit_follows, follow, is_not_of, some_file, sweep_follows, thin, thin_follows}
 use Rattle.hp_laws.proofs.names.Keys.{Where, file_key, keys}
 use Rattle.hp_laws.proofs.lists.Looks.{get_map}
 use Rattle.hp_laws.proofs.making.FilesMade.{spot_in_file}
@@ -28,11 +27,18 @@ spot_passes m test s e = grind (arith, some_file, spot_in_file, found_place)
 not_not : (c : Bool) → not c ≡ false → c ≡ true
 not_not c e = grind arith
 
+-- files without a name and without maps go, which nothing means
+pub swept_keeps : (size : ℕ) (x : Slot) (e : Effect) (n : Mount) → SlotKeeps size x e (Some n) Never → SlotKeeps size x e (Some (swept n)) Never
+swept_keeps size x e n keeps = follow size x e n (swept n) (λ y. true) (sweep_follows n) keeps (λ t u q goes_on found. refl)
+
 twice : {X : Type 0} (f g : X → X) (xs : List X) → map g (map f xs) ≡ map (λ x. g (f x)) xs
 twice f g [] = refl
 twice f g (x ∷ xs) = ap (λ ys. g (f x) ∷ ys) (twice f g xs)
 
-module _ (size : ℕ) (m : Mount) (task number a b : ℕ) where
+module _ (size : ℕ) (m : Mount) (task number a b : ℕ) (e : Effect)
+    (ends : (t u : ℕ) → e.ends_number t u ≡ ((task == t) && ((number == u) && not (stays_mapped (spot m (is_map t u)) a b))))
+    (stores : (j x : ℕ) (old : List ℕ) → old ≡ e.stored j x old)
+    (sees : (j l x : ℕ) (old : List ℕ) → (if is_at (spot m (is_map task number)) j l && is_in a b x then shown_on size (Some m) j x else old) ≡ e.seen j l x old) where
   abbrev test : Map → Bool
   test y = is_map task number y
 
@@ -56,10 +62,10 @@ module _ (size : ℕ) (m : Mount) (task number a b : ℕ) where
   file_now j = get_map cut_file (new_file None) refl m.files j
 
   -- of a map that is found
-  module _ (t u : ℕ) (p : Spot) (e : spot m (is_map t u) ≡ Some p) where
+  module _ (t u : ℕ) (p : Spot) (found : spot m (is_map t u) ≡ Some p) where
     map_now : map_on (Some middle) p.file_no p.map_no ≡ cut p.map
     map_now =
-        let at = spot_is m (is_map t u) p e in
+        let at = spot_is m (is_map t u) p found in
         ap (λ f. map_in f p.map_no) (file_now p.file_no ∙ ap cut_file (at.file.is (new_file None))) ∙ get_mapped cut p.file.maps p.map_no no_map at.map.within ∙ ap cut (at.map.is no_map)
 
     -- it is the one of the event's number where it passes the event's test
@@ -76,7 +82,7 @@ module _ (size : ℕ) (m : Mount) (task number a b : ℕ) where
             (λ both. (let parts = and_parts (s.file_no == p.file_no) (s.map_no == p.map_no) both in
             let same : s.map ≡ p.map =
             sym (map_shown (Some m) task number s w) ∙ ap (λ j. map_on (Some m) j s.map_no) (eqb-true s.file_no p.file_no parts.0)
-            ∙ ap (map_on (Some m) p.file_no) (eqb-true s.map_no p.map_no parts.1) ∙ map_shown (Some m) t u p e in
+            ∙ ap (map_on (Some m) p.file_no) (eqb-true s.map_no p.map_no parts.1) ∙ map_shown (Some m) t u p found in
             let on : test p.map ≡ true = ap (λ y. is_map task number y) (sym same) ∙ spot_passes m (is_map task number) s w in
             cc))
 
@@ -88,8 +94,8 @@ module _ (size : ℕ) (m : Mount) (task number a b : ℕ) where
     seen_now : (x : ℕ) → seen_on size (Some middle) p.file_no p.map_no x
         ≡ (if is_at (spot m (is_map task number)) p.file_no p.map_no && is_in a b x then shown_on size (Some m) p.file_no x else seen_on size (Some m) p.file_no p.map_no x)
     seen_now x =
-        let at = spot_is m (is_map t u) p e in
-        let old : seen_on size (Some m) p.file_no p.map_no x ≡ value size (file_in m p.file_no) p.map x = ap (λ y. value size (file_in m p.file_no) y x) (map_shown (Some m) t u p e) in
+        let at = spot_is m (is_map t u) p found in
+        let old : seen_on size (Some m) p.file_no p.map_no x ≡ value size (file_in m p.file_no) p.map x = ap (λ y. value size (file_in m p.file_no) y x) (map_shown (Some m) t u p found) in
         ap (λ y. value size (file_in middle p.file_no) y x) map_now
         ∙ ap (λ f. value size f (cut p.map) x) (file_now p.file_no)
         ∙ by_test (test p.map) refl
@@ -106,14 +112,14 @@ module _ (size : ℕ) (m : Mount) (task number a b : ℕ) where
         by_test true on = ap (λ q. shows.by_place size q (shown_on size (Some m) p.file_no x)) (place_ranged (λ q. Gone) refl a b p.map x) ∙ gone (is_in a b x)
         by_test false off = refl
 
-  cut_keeps : PlaceKeeps size m (slot.Unmap task number a b) middle
+  cut_keeps : PlaceKeeps size m e middle Never
   cut_keeps =
       let stays = placed m middle (lead_same (keys m) (keys middle) same_keys) in
       record {
         names = λ name f goes_on e. stays.names name f e;
         numbers = λ t u p goes_on e. stays.numbers t u p e;
-        cells = λ j x. ap (shows.look size x) (file_now j);
-        maps = λ t u x p e. inl (seen_now t u p e x);
+        cells = λ j x. ap (shows.look size x) (file_now j) ∙ stores j x (shown_on size (Some m) j x);
+        maps = λ t u x p q e there same. inl (seen_now t u p e x ∙ sees p.file_no p.map_no x (seen_on size (Some m) p.file_no p.map_no x));
         marks = λ t u p e marked.
             ap (λ (y : Map). y.unmapped) (map_now t u p e) ∙ still_marked (test p.map) p.map ∙ ap (λ (y : Map). y.unmapped) (sym (map_shown (Some m) t u p e)) ∙ marked;
       }
@@ -123,11 +129,11 @@ module _ (size : ℕ) (m : Mount) (task number a b : ℕ) where
       still_marked false y = refl
 
   -- a number that does not end has a map that stays
-  number_left : (t u : ℕ) (q : Spot) → ends_number (Some m) (slot.Unmap task number a b) t u ≡ false → spot middle (is_map t u) ≡ Some q → is_left (is_map task number) q.map ≡ true
-  number_left t u q goes_on e =
-      let back = (placed middle m (lead_same (keys middle) (keys m) (sym same_keys))).numbers t u q e in
+  number_left : (t u : ℕ) (q : Spot) → e.ends_number t u ≡ false → spot middle (is_map t u) ≡ Some q → is_left (is_map task number) q.map ≡ true
+  number_left t u q goes_on there =
+      let back = (placed middle m (lead_same (keys middle) (keys m) (sym same_keys))).numbers t u q there in
       let p = back.0 in
-      let now : cut p.map ≡ q.map = sym (map_now t u p back.1) ∙ ap (λ (x : Where). map_on (Some middle) x.0 x.1) back.2 ∙ map_shown (Some middle) t u q e in
+      let now : cut p.map ≡ q.map = sym (map_now t u p back.1) ∙ ap (λ (x : Where). map_on (Some middle) x.0 x.1) back.2 ∙ map_shown (Some middle) t u q there in
       subst (λ y. is_left (is_map task number) y ≡ true) now (by_test p back.1 (test p.map) refl)
     where
       by_test : (p : Spot) → spot m (is_map t u) ≡ Some p → (c : Bool) → test p.map ≡ c → is_left (is_map task number) (if c then without_range a b p.map else p.map) ≡ true
@@ -139,49 +145,38 @@ module _ (size : ℕ) (m : Mount) (task number a b : ℕ) where
           let numbers : (number == u) ≡ true = eq-eqb number u (sym (eqb-true p.map.number number here.1) ∙ eqb-true p.map.number u mine.1) in
           let stays : not (stays_mapped (spot m (is_map t u)) a b) ≡ false =
           ap (λ c. c && not (stays_mapped (spot m (is_map t u)) a b)) (sym numbers)
-          ∙ ap (λ c. c && ((number == u) && not (stays_mapped (spot m (is_map t u)) a b))) (sym tasks) ∙ goes_on in
+          ∙ ap (λ c. c && ((number == u) && not (stays_mapped (spot m (is_map t u)) a b))) (sym tasks) ∙ sym (ends t u) ∙ goes_on in
           or_left (is_mapped (without_range a b p.map)) (not (test (without_range a b p.map)))
           (ap (λ o. stays_mapped o a b) (sym found) ∙ not_not (stays_mapped (spot m (is_map t u)) a b) stays)
 
-  pub unmap_keeps : SlotKeeps size (Some m) (slot.Unmap task number a b) (Some (unmapped_from task number a b m))
+  pub unmap_keeps : SlotKeeps size (Some m) e (Some (unmapped_from task number a b m)) Never
   unmap_keeps =
-      let e : SlotEvent = slot.Unmap task number a b in
       let keep : Map → Bool = is_left (is_map task number) in
       let thinned : Mount = record middle { files = map (thin keep) middle.files } in
-      let first : SlotKeeps size (Some m) e (Some middle) = by_place size m middle e cut_keeps in
-      let second : SlotKeeps size (Some m) e (Some thinned) =
-      follow size (Some m) e middle thinned keep (edit_follows middle (thin keep) keep (thin_follows keep)) first number_left (λ p q i lost. lost) in
-      let same : thinned.files ≡ map (file_unmapped (is_map task number) a b) m.files = twice cut_file (thin keep) m.files in
-      follow size (Some m) e (record m { files = map (file_unmapped (is_map task number) a b) m.files }) (unmapped_from task number a b m) (λ y. true)
-      (sweep_follows (record m { files = map (file_unmapped (is_map task number) a b) m.files })) (subst (λ fs. SlotKeeps size (Some m) e (Some (record m { files = fs }))) same second)
-      (λ t u q goes_on found. refl) (λ p q i lost. lost)
+      let first : SlotKeeps size (Some m) e (Some middle) Never = by_place size m middle e Never cut_keeps in
+      let second : SlotKeeps size (Some m) e (Some thinned) Never = follow size (Some m) e middle thinned keep (edit_follows middle (thin keep) keep (thin_follows keep)) first number_left in
+      let left : Mount = record m { files = map (file_unmapped (is_map task number) a b) m.files } in
+      let same : thinned.files ≡ left.files = twice cut_file (thin keep) m.files in
+      swept_keeps size (Some m) e left (subst (λ fs. SlotKeeps size (Some m) e (Some (record m { files = fs })) Never) same second)
 
--- ---- an event that changes nothing that is seen
+-- ---- where nothing changes that is seen
 
-module _ (size : ℕ) (m : Mount) (e : SlotEvent) (stores : (j x : ℕ) (old : List ℕ) → old ≡ stored_by size (Some m) e j x old)
-    (sees : (j l x : ℕ) (old : List ℕ) → old ≡ seen_by size (Some m) e j l x old) where
-  pub same_keeps : SlotKeeps size (Some m) e (Some m)
-  same_keeps = grind arith
+module _ (size : ℕ) (x : Slot) (e : Effect) (idle : IsIdle e) (Lost : Losses) where
+  pub same_keeps : SlotKeeps size x e x Lost
+  same_keeps = record {
+    names = λ name i f goes_on named. (f, named, idle.stored f.0 i (shown size (cell_at f.1 i)));
+    numbers = λ task number i p goes_on found.
+        (p, found, record { shape = refl; file = λ name kept named. named; marked = λ marked. marked; shows = inl (idle.seen p.file_no p.map_no i (value size p.file p.map i)) });
+    together = λ a b p o first second found_a found_b.
+        subst (λ y. SameFiles (p.file_no == o.file_no) y (spot_on x b.0 b.1)) (sym found_a) (subst (λ y. SameFiles (p.file_no == o.file_no) (Some p) y) (sym found_b) refl);
+  }
 
-  -- but for the maps of a task, of which the numbers end
-  module _ (gone : ℕ) (h : File → File) (each : FilesFollow h (is_not_of gone)) (ends : (t u : ℕ) → ends_number (Some m) e t u ≡ (gone == t))
-      (none : (n : Mount) (p q : Spot) (i : ℕ) → LosesBy (Some m) e (Some n) p q i → ⊥) where
-    abbrev others : Mount
-    others = record m { files = map h m.files }
-
-    not_gone : (t u : ℕ) (q : Spot) → ends_number (Some m) e t u ≡ false → spot m (is_map t u) ≡ Some q → is_not_of gone q.map ≡ true
-    not_gone t u q goes_on found = grind (arith, eqb-true, and_parts, spot_passes, false_from_ne_true, eqb-false)
-
-    pub task_keeps : SlotKeeps size (Some m) e (Some (swept others))
-    task_keeps =
-        follow size (Some m) e others (swept others) (λ y. true) (sweep_follows others)
-        (follow size (Some m) e m others (is_not_of gone) (edit_follows m h (is_not_of gone) each) same_keeps not_gone (none m))
-        (λ t u q goes_on found. refl) (none others)
-
-pub exit_keeps : (size : ℕ) (m : Mount) (task : ℕ) → SlotKeeps size (Some m) (slot.ExitMaps task) (Some (without_task task m))
-exit_keeps size m task =
-    task_keeps size m (slot.ExitMaps task) (λ j x old. refl) (λ j l x old. refl) task (file_without task) (thin_follows (is_not_of task)) (λ t u. refl) (λ n p q i lost. lost)
-
-pub fork_keeps : (size : ℕ) (m : Mount) (parent child : ℕ) → SlotKeeps size (Some m) (slot.ForkMaps parent child) (Some (forked parent child m))
-fork_keeps size m parent child =
-    task_keeps size m (slot.ForkMaps parent child) (λ j x old. refl) (λ j l x old. refl) child (file_forked parent child) (fork_follows parent child) (λ t u. refl) (λ n p q i lost. lost)
+-- but for the maps of a task, of which the numbers end
+pub task_keeps : (size : ℕ) (m : Mount) (e : Effect) → IsIdle e → (gone : ℕ) → ((t u : ℕ) → e.ends_number t u ≡ (gone == t)) → (h : File → File) → FilesFollow h (is_not_of gone)
+    → SlotKeeps size (Some m) e (Some (swept (record m { files = map h m.files }))) Never
+task_keeps size m e idle gone ends h each =
+    swept_keeps size (Some m) e (record m { files = map h m.files })
+    (follow size (Some m) e m (record m { files = map h m.files }) (is_not_of gone) (edit_follows m h (is_not_of gone) each) (same_keeps size (Some m) e idle Never) not_gone)
+  where
+    not_gone : (t u : ℕ) (q : Spot) → e.ends_number t u ≡ false → spot m (is_map t u) ≡ Some q → is_not_of gone q.map ≡ true
+    not_gone t u q goes_on found = grind (arith, eqb-true, and_parts, spot_passes, false_from_ne_true, eqb-false, ends)

@@ -1,13 +1,13 @@
 -- A fork and an exit leave the maps of all other tasks as they were: by the footprint.
-use Rattle.std.proofs.Common.{◌≡◌, ◌∙◌, subst, ℕ, ◌==◌, Bool, true, false, None, Option, Some, option_map, Ok, Err, map, refl, sym, ap, arith, MatchBool, get_or, if◌then◌else◌}
+use Rattle.std.proofs.Common.{◌≡◌, ◌∙◌, subst, ℕ, ◌==◌, true, false, Option, Some, Ok, Err, map, refl, sym, ap, arith}
 use Rattle.std.proofs.lemmas.Bool.{and_parts, eqb-false, eqb-true, false_from_ne_true}
 use Rattle.hp_model.specs.declared.step.Step.{Step}
 use Rattle.hp_model.specs.declared.step.Step.TheVariants as step
-use Rattle.hp_model.proofs.Words.{File, Mount, Reply, Slot, Spot, State, file_forked, file_without, home_of, is_known, is_map, slot_at, spot, spot_on, swept}
+use Rattle.hp_model.proofs.Words.{File, Mount, Reply, Slot, Spot, State, file_forked, file_without, is_map, spot, spot_on, swept}
 use Rattle.hp_laws.specs.Follows.{IsSame, LeavesWhole}
-use Rattle.hp_model.specs.machine.Footprint.{HasFootprint, IsButNodes, There, at_each, of_others, with_childs, with_maps}
+use Rattle.hp_model.specs.machine.Footprint.{HasFootprint, There, of_others, with_childs, with_maps}
 use Rattle.hp_laws.proofs.ending.Unmaps.{spot_passes}
-use Rattle.hp_laws.proofs.follows.Slots.{at_rest, each_at, task_to, there_all}
+use Rattle.hp_laws.proofs.follows.Slots.{at_rest, exit_to, fork_back, fork_to}
 use Rattle.hp_laws.proofs.names.Follows.{FilesFollow, edit_follows, fork_follows, is_not_of, sweep_follows, thin_follows}
 
 there_is : {X : Type 0} (P : X → Type 0) (o : Option X) (x : X) → o ≡ Some x → P x → There o P
@@ -39,32 +39,9 @@ module _ (gone : ℕ) where
 
 module _ (s t : State) where
   pub step_whole : (x : Step) (reply : Reply) → HasFootprint s x reply t → LeavesWhole s x t
-  step_whole (step.Exit gone) (Ok a) is =
-      task_to (λ j old new. Whole gone old new) (λ j x. same_whole gone x) s t gone (with_maps (of_others gone)) (ap (λ u. u.slots) is.0.0) (λ k m e. without_stays gone m)
+  step_whole (step.Exit gone) (Ok a) is = exit_to (λ j old new. Whole gone old new) (λ j x. same_whole gone x) s t gone (λ j m. without_stays gone m) a is.0
   step_whole (step.Exit gone) (Err r) e = at_rest (λ j old new. Whole gone old new) (λ j x. same_whole gone x) s t (ap (λ u. u.slots) e)
   step_whole (step.Fork parent child) (Ok a) is =
-      there_all _ (home_of s.table parent) is.0
-      (λ home known left. task_to (λ j old new. Whole child old new) (λ j x. same_whole child x) s t parent (with_maps (with_childs parent child)) (ap (λ u. u.slots) left.0)
-      (λ k m e. forked_stays child parent m))
-  step_whole (step.Fork parent child) (Err r) is = by_known (is_known s.table child) is
-    where
-      clears : Slot → Slot
-      clears slot = option_map (with_maps (of_others child)) slot
-
-      by_known : (b : Bool)
-          → MatchBool b (t ≡ s) ((done : ℕ → Bool) × IsButNodes (record s { slots = at_each (λ k slot. if done k then clears slot else slot) 0 s.slots }) t) → LeavesWhole s (step.Fork parent child) t
-      by_known true e = at_rest (λ j old new. Whole child old new) (λ j x. same_whole child x) s t (ap (λ u. u.slots) e)
-      by_known false is = λ j.
-          subst (λ xs. Whole child (slot_at s j) (get_or xs j None)) (sym (ap (λ u. u.slots) is.1.0))
-          (each_at (λ y. Whole child (slot_at s j) y) (λ k slot. if is.0 k then clears slot else slot) None (λ i. none (is.0 i)) 0 s.slots j (λ i. by_slot (slot_at s j) (is.0 i)))
-        where
-          none : (b : Bool) → (if b then clears None else None) ≡ None
-          none true = refl
-          none false = refl
-
-          by_slot : (o : Slot) (b : Bool) → Whole child o (if b then clears o else o)
-          by_slot None true = same_whole child None
-          by_slot None false = same_whole child None
-          by_slot (Some m) true = without_stays child m
-          by_slot (Some m) false = same_whole child (Some m)
+      fork_to (λ j old new. Whole child old new) (λ j x. same_whole child x) s t child (λ j m. without_stays child m) parent (λ j m. forked_stays child parent m) a is.0
+  step_whole (step.Fork parent child) (Err r) is = fork_back (λ j old new. Whole child old new) (λ j x. same_whole child x) s t child (λ j m. without_stays child m) parent r is
   step_whole x reply is = grind arith

@@ -1,39 +1,29 @@
 -- An access that is answered leaves its page there: by the footprint and the tests.
 use Rattle.std.proofs.lemmas.Grind.{common_steps}
-use Rattle.std.proofs.Common.{◌≡◌, ◌⊎◌, not, ⊎_elim, subst, ℕ, suc, ◌+◌, ◌<◌, ◌==◌, ◌++◌, Bool, true, false, None, Option, Some, is_some, Ok, Err, List, [], ◌∷◌, length, map, refl, sym, ap, ◌∙◌}
-use Rattle.std.proofs.Common.{arith, get_or, slice_set, MatchBool, if◌then◌else◌}
-use Rattle.std.proofs.lemmas.Bool.{leb-false, or_right}
-use Rattle.std.proofs.lemmas.List.{get_or-set_same, length-map}
-use Rattle.hp_laws.proofs.Variants.{Answer, Cell, Hole, Intent, Live, NoSuchMap, NoSuchSlot, NoSuchTask, Place, Present, Read, Refusal, Write}
+use Rattle.std.proofs.Common.{◌≡◌, subst, ℕ, ◌<◌, Bool, true, false, None, Some, is_some, Ok, List, length, refl, sym, ap, ◌∙◌}
+use Rattle.std.proofs.Common.{arith, get_or, slice_set, inl, inr}
+use Rattle.std.proofs.lemmas.List.{get_or-set_same}
+use Rattle.hp_laws.proofs.Variants.{Answer, Cell, Hole, Intent, Live, Present, Read, Write}
 use Rattle.hp_model.specs.declared.step.Step.{Step}
 use Rattle.hp_model.specs.declared.step.Step.TheVariants as step
-use Rattle.hp_model.proofs.Words.{Copy, File, IsRefusedBy, Map, MeetsTests, Mount, Page, Slot, Spot, State, byte_tests, cell_at, copy_of, cut_off_test, fault_tests, first_failed, has_page, home_of}
-use Rattle.hp_model.proofs.Words.{if_there}
-use Rattle.hp_model.proofs.Words.{is_beyond, is_held_once, is_live, is_map, is_shared, is_unmapped, map_named, new_file, no_map, place_at, slot_at, spot, spot_on, with_cell, with_file, with_map}
+use Rattle.hp_model.proofs.Words.{Copy, File, Map, MeetsTests, Mount, Page, Slot, Spot, State, byte_tests, cell_at, copy_of, fault_tests, has_page, home_of}
+use Rattle.hp_model.proofs.Words.{is_live, is_map, is_shared, map_named, new_file, no_map, place_at, slot_at, spot, spot_on, with_cell, with_file, with_map}
 use Rattle.hp_model.proofs.Words.{with_place}
-use Rattle.hp_laws.specs.Follows.{Touches, has_its_page, shape_of}
-use Rattle.hp_model.specs.machine.Footprint.{Changes, HasNewCopy, HasOwnCopy, IsCopyAccess, IsSharedAccess, TakesBack, There, at_each, is_spent, losing, over, with_bytes, with_copy_there, with_own}
+use Rattle.hp_laws.proofs.follows.Accessed.{back, back_key, own_back, own_key}
+use Rattle.hp_laws.proofs.follows.Ways.{Ways, access_all}
+use Rattle.hp_laws.specs.Follows.{Touches, has_its_page}
+use Rattle.hp_model.specs.machine.Footprint.{Changes, IsSharedAccess, TakesBack, There, is_spent, losing, over, with_bytes, with_copy_there, with_own}
 use Rattle.hp_laws.proofs.counts.MountMoves.{IsSpot, spot_is}
 use Rattle.hp_laws.proofs.follows.Gone.{in_range}
 use Rattle.hp_laws.proofs.footprint.Ranges.{put_all}
-use Rattle.hp_laws.proofs.names.Accessed.{file_put, key_map, key_set}
+use Rattle.hp_laws.proofs.names.Accessed.{file_put}
 use Rattle.hp_laws.proofs.names.Keys.{Where, file_key, keys}
 use Rattle.hp_laws.proofs.names.Meanings.{placed_same}
 
 -- ---- places
 
-length-each : {X : Type 0} (f : ℕ → X → X) (n : ℕ) (xs : List X) → length (at_each f n xs) ≡ length xs
-length-each f n [] = refl
-length-each f n (x ∷ xs) = ap suc (length-each f (n + 1) xs)
-
-losing_shape : (stamp i : ℕ) (m : Map) → shape_of (losing stamp i m) ≡ shape_of m
-losing_shape stamp i m = grind (arith, length-each)
-
 copied : (m : Map) (i : ℕ) (b : Bool) (c : Copy) → is_live (place_at m i) ≡ true → is_some (copy_of (place_at (with_place m i (Live b (Some c))) i)) ≡ true
 copied m i b c live = grind (arith, common_steps)
-
-placed_shape : (m : Map) (i : ℕ) (p : Place Copy) → shape_of (with_place m i p) ≡ shape_of m
-placed_shape m i p = grind (arith, common_steps)
 
 paged : (f : File) (i : ℕ) (page : Page) → i < length f.cells → has_page (cell_at (with_cell f i (Present page)) i) ≡ true
 paged f i page low = ap (λ (c : Cell Page). has_page c) (get_or-set_same f.cells i (Present page) Hole low)
@@ -89,83 +79,31 @@ module _ (s t : State) (k task number i : ℕ) (m : Mount) (p : Spot) (is : slot
     own_has intent c apart e =
         let y : Map = with_copy_there p i c in
         let f : File = with_map p.file p.map_no y in
-        put_there intent f y
-        (ap (λ ks. (p.file.name, ks)) (key_set shape_of p.file.maps p.map_no y (placed_shape p.map i _ ∙ sym (ap shape_of (at.map.is y)))))
-        (get_or-set_same p.file.maps p.map_no y no_map at.map.within) (copy_is intent f y apart (copied p.map i (is_spent p.map (place_at p.map i)) c live)) e
+        put_there intent f y (own_key m p at i c) (get_or-set_same p.file.maps p.map_no y no_map at.map.within) (copy_is intent f y apart (copied p.map i (is_spent p.map (place_at p.map i)) c live)) e
 
     back_has : (intent : Intent) (w : List ℕ → List ℕ) (c : Copy) → is_shared p.map.sharing ≡ false → TakesBack s k m p i w c t → Has intent
     back_has intent w c apart it =
-        let y : Map = with_copy_there p i (with_bytes w c) in
-        let others : List Map = map (losing c.stamp i) p.file.maps in
-        let maps : slice_set others p.map_no y ≡ at_each (λ j x. if j == p.map_no then y else losing c.stamp i x) 0 p.file.maps = put_all (losing c.stamp i) y p.map_no p.file.maps in
-        let f : File = record p.file { maps = slice_set others p.map_no y } in
-        let shapes : map shape_of others ≡ map shape_of p.file.maps = key_map shape_of (losing c.stamp i) (losing_shape c.stamp i) p.file.maps in
-        let within : p.map_no < length others = subst (λ n. p.map_no < n) (sym (length-map p.file.maps (losing c.stamp i))) at.map.within in
-        let there : shape_of y ≡ shape_of (get_or others p.map_no y) =
-        placed_shape p.map i _ ∙ sym (losing_shape c.stamp i p.map) ∙ sym (ap shape_of (mapped_place (losing c.stamp i) p.file.maps p.map_no y p.map at.map.within (at.map.is p.map))) in
-        put_there intent f y (ap (λ ks. (p.file.name, ks)) (key_set shape_of others p.map_no y there ∙ shapes)) (get_or-set_same others p.map_no y no_map within)
-        (copy_is intent f y apart (copied p.map i (is_spent p.map (place_at p.map i)) (with_bytes w c) live))
-        (ap (λ u. u.slots) it.2 ∙ ap (λ ms. slice_set s.slots k (Some (with_file m p.file_no (record p.file { maps = ms })))) (sym maps))
-      where
-        mapped_place : {X : Type 0} (h : X → X) (xs : List X) (j : ℕ) (d x : X) → j < length xs → get_or xs j x ≡ x → get_or (map h xs) j d ≡ h x
-        mapped_place h xs j d x l e = grind (arith, common_steps)
+        put_there intent (back m p at i w c) (with_copy_there p i (with_bytes w c)) (back_key m p at i w c) (own_back m p at i w c)
+        (copy_is intent (back m p at i w c) (with_copy_there p i (with_bytes w c)) apart (copied p.map i (is_spent p.map (place_at p.map i)) (with_bytes w c) live))
+        (ap (λ u. u.slots) it.2
+        ∙ ap (λ ms. slice_set s.slots k (Some (with_file m p.file_no (record p.file { maps = ms })))) (sym (put_all (losing c.stamp i) (with_copy_there p i (with_bytes w c)) p.map_no p.file.maps)))
 
-    copy_has : (intent : Intent) (w : List ℕ → List ℕ) → is_shared p.map.sharing ≡ false → (o : Option Copy) → copy_of (place_at p.map i) ≡ o → IsCopyAccess s k m p i intent w o t → Has intent
-    copy_has Read w apart (Some c) e it = as_was Read (copy_is Read p.file p.map apart (ap is_some e)) it
-    copy_has Read w apart None e it = by_page (has_page (cell_at p.file i)) refl it
-      where
-        by_page : (b : Bool) → has_page (cell_at p.file i) ≡ b → MatchBool b (t ≡ s) (HasNewCopy s k m p i w t) → Has Read
-        by_page true has same = as_was Read (or_right (is_some (copy_of (place_at p.map i))) (has_page (cell_at p.file i)) has) same
-        by_page false has new = own_has Read new.0 apart (ap (λ u. u.slots) new.3.0)
-    copy_has Write w apart None e new = own_has Write new.0 apart (ap (λ u. u.slots) new.3.0)
-    copy_has Write w apart (Some c) e it = by_once (is_held_once p.file c.stamp) it
-      where
-        by_once : (b : Bool) → MatchBool b (HasOwnCopy s k m p i w c t) (HasNewCopy s k m p i w t ⊎ TakesBack s k m p i w c t) → Has Write
-        by_once true own = own_has Write (with_bytes w c) apart (ap (λ u. u.slots) own)
-        by_once false both = ⊎_elim (λ new. own_has Write new.0 apart (ap (λ u. u.slots) new.3.0)) (λ back. back_has Write w c apart back) both
-
-    pub spot_has : (intent : Intent) (w : List ℕ → List ℕ) → MatchBool (is_shared p.map.sharing) (IsSharedAccess s k m p i w t) (IsCopyAccess s k m p i intent w (copy_of (place_at p.map i)) t)
-        → Has intent
-    spot_has intent w it = by_sharing (is_shared p.map.sharing) refl it
-      where
-        by_sharing : (b : Bool) → is_shared p.map.sharing ≡ b → MatchBool b (IsSharedAccess s k m p i w t) (IsCopyAccess s k m p i intent w (copy_of (place_at p.map i)) t) → Has intent
-        by_sharing true shared it = shared_has intent w shared it
-        by_sharing false apart it = copy_has intent w apart (copy_of (place_at p.map i)) refl it
+    pub spot_has : (intent : Intent) (w : List ℕ → List ℕ) → Ways s k m p i intent w t → Has intent
+    spot_has intent w (inl same) = subst Has (sym same.1) (as_was Read same.3 same.0)
+    spot_has intent w (inr (inl it)) = shared_has intent w it.0 it.1
+    spot_has intent w (inr (inr (inl own))) = own_has intent own.1 own.0 (ap (λ u. u.slots) own.3.0)
+    spot_has intent w (inr (inr (inr back))) = back_has intent w back.2 back.1 back.4
 
 -- ---- a step
 
-module _ (s t : State) (k task number i : ℕ) (intent : Intent) (w : List ℕ → List ℕ) (a : Answer) (tests : Mount → Spot → List (Bool × Refusal))
-    (passes : (m : Mount) (p : Spot) → first_failed (tests m p ++ cut_off_test i p) ≡ None → (is_unmapped p i ≡ false) × (is_beyond p i ≡ false)) where
-  not_false : (b : Bool) → not b ≡ false → b ≡ true
-  not_false b e = grind arith
-
-  by_failed : (m : Mount) (p : Spot) → slot_at s k ≡ Some m → spot m (is_map task number) ≡ Some p
-      → MatchBool (is_shared p.map.sharing) (IsSharedAccess s k m p i w t) (IsCopyAccess s k m p i intent w (copy_of (place_at p.map i)) t)
-      → (o : Option Refusal) → first_failed (tests m p ++ cut_off_test i p) ≡ o → IsRefusedBy o (Ok a) → There (map_named t k task number) (λ q. has_its_page intent i q.file q.map ≡ true)
-  by_failed m p is found it (Some r) failed met = (let never : Ok a ≡ Err r = met in cc)
-  by_failed m p is found it None failed met =
-      let ok = passes m p failed in
-      spot_has s t k task number i m p is found (not_false (is_live (place_at p.map i)) ok.0) (leb-false (length p.file.cells) i ok.1) intent w it
-
-  by_spot : (m : Mount) → slot_at s k ≡ Some m → (o : Option Spot) → spot m (is_map task number) ≡ o
-      → There o (λ p. MatchBool (is_shared p.map.sharing) (IsSharedAccess s k m p i w t) (IsCopyAccess s k m p i intent w (copy_of (place_at p.map i)) t))
-      → IsRefusedBy (if_there o NoSuchMap (λ p. first_failed (tests m p ++ cut_off_test i p))) (Ok a) → There (map_named t k task number) (λ q. has_its_page intent i q.file q.map ≡ true)
-  by_spot m is None found there met = absurd there
-  by_spot m is (Some p) found it met = by_failed m p is found it (first_failed (tests m p ++ cut_off_test i p)) refl met
-
-  pub access_has : (h : Option ℕ) (x : Slot) → slot_at s k ≡ x
-      → There x (λ m. There (spot m (is_map task number)) (λ p. MatchBool (is_shared p.map.sharing) (IsSharedAccess s k m p i w t) (IsCopyAccess s k m p i intent w (copy_of (place_at p.map i)) t)))
-      → IsRefusedBy (if_there h NoSuchTask (λ home. if_there x NoSuchSlot (λ m. if_there (spot m (is_map task number)) NoSuchMap (λ p. first_failed (tests m p ++ cut_off_test i p))))) (Ok a)
-      → There (map_named t k task number) (λ q. has_its_page intent i q.file q.map ≡ true)
-  access_has h None is there met = absurd there
-  access_has None (Some m) is there met = (let never : Ok a ≡ Err NoSuchTask = met in cc)
-  access_has (Some home) (Some m) is there met = by_spot m is (spot m (is_map task number)) refl there met
-
 pub touched : (s : State) (x : Step) (a : Answer) (t : State) → Changes s x a t → MeetsTests s x (Ok a) → Touches x (Ok a) t
 touched s (step.Fault task k number i intent) a t is met =
-    access_has s t k task number i intent (λ old. old) a (λ m p. fault_tests i p) (λ m p e. grind arith) (home_of s.table task) (slot_at s k) refl is met
+    access_all s t k task number i intent (λ old. old) _ (λ m p at found live low way. spot_has s t k task number i m p at found live low intent (λ old. old) way) a
+    (λ m p. fault_tests i p) (λ m p e. grind arith) (home_of s.table task) (slot_at s k) refl is met
 touched s (step.Load task k number i offset count) a t is met =
-    access_has s t k task number i Read (λ old. old) a (λ m p. byte_tests s.page_size i offset count p) (λ m p e. grind arith) (home_of s.table task) (slot_at s k) refl is met
+    access_all s t k task number i Read (λ old. old) _ (λ m p at found live low way. spot_has s t k task number i m p at found live low Read (λ old. old) way) a
+    (λ m p. byte_tests s.page_size i offset count p) (λ m p e. grind arith) (home_of s.table task) (slot_at s k) refl is met
 touched s (step.Store task k number i offset bytes) a t is met =
-    access_has s t k task number i Write (over offset bytes) a (λ m p. byte_tests s.page_size i offset (length bytes) p) (λ m p e. grind arith) (home_of s.table task) (slot_at s k) refl is met
+    access_all s t k task number i Write (over offset bytes) _ (λ m p at found live low way. spot_has s t k task number i m p at found live low Write (over offset bytes) way) a
+    (λ m p. byte_tests s.page_size i offset (length bytes) p) (λ m p e. grind arith) (home_of s.table task) (slot_at s k) refl is met
 touched s x a t is met = grind arith

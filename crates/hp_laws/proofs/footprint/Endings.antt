@@ -38,7 +38,7 @@ file_unmapped_is task number a b f = ap (λ maps. record f { maps = filter (λ m
     one : (m : Map) → map_unmapped (is_map task number) a b m ≡ (if is_map task number m then with_places (λ i p. if is_in a b i then Gone else p) m else m)
     one m = ap (λ cut. if is_map task number m then cut else m) (places_in (λ p. Gone) a b m)
 
-unmapped_is : (task number a b : ℕ) (m : Mount) → unmapped_from task number a b m ≡ with_maps (unmapped task number a b) m
+pub unmapped_is : (task number a b : ℕ) (m : Mount) → unmapped_from task number a b m ≡ with_maps (unmapped task number a b) m
 unmapped_is task number a b m = ap (λ files. record m { files = filter is_kept files }) (map_all _ _ (file_unmapped_is task number a b) m.files)
 
 pub unmap_changes : (s : State) (task k number a b : ℕ) (answer : Answer) (t : State) → IsEvent s (OnSlot k (slot.Unmap task number a b)) (Ok answer) t

@@ -63,11 +63,11 @@ module _ (s : State) (st : IsSettledState s) where
   event_footprint e (Ok a) t whole is = (event_changes e a t whole is, event_idle s st e a t is)
   event_footprint e (Err r) t whole is = event_refuses s st e r t whole is
 
-  fork_footprint : (parent child : ℕ) (reply : Reply) (t : State) → IsScripted s (step.Fork parent child) reply t → HasFootprint s (step.Fork parent child) reply t
+  pub fork_footprint : (parent child : ℕ) (reply : Reply) (t : State) → IsScripted s (step.Fork parent child) reply t → HasFootprint s (step.Fork parent child) reply t
   fork_footprint parent child (Ok a) t is = (fork_changes parent child s a t is, fork_idle s st parent child a t is)
   fork_footprint parent child (Err r) t is = fork_refuses s st parent child r t is
 
-  exit_footprint : (task : ℕ) (reply : Reply) (t : State) → IsScripted s (step.Exit task) reply t → HasFootprint s (step.Exit task) reply t
+  pub exit_footprint : (task : ℕ) (reply : Reply) (t : State) → IsScripted s (step.Exit task) reply t → HasFootprint s (step.Exit task) reply t
   exit_footprint task (Ok a) t is = (exit_changes s task a t is, exit_idle s st task a t is)
   exit_footprint task (Err r) t is = exit_refuses s st task r t is
 

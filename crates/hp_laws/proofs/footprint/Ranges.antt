@@ -1,10 +1,10 @@
 -- Changes of the cells of a file and of the places of a map, index by index.
 use Rattle.std.proofs.Common.{arith, ◌≡◌, ◌⊎◌, inl, inr, subst, ℕ, zero, suc, ◌+◌, ◌-◌, ◌<◌, Bool, true, false, List, [], ◌∷◌, ◌++◌, length, take, drop, map, refl, sym, ap, ◌∙◌, if◌then◌else◌}
-use Rattle.std.proofs.Common.{slice_index_or, slice_set, ◌==◌}
-use Rattle.std.proofs.lemmas.Bool.{eq-eqb, eqb-true, false_from_ne_true}
+use Rattle.std.proofs.Common.{slice_index_or, slice_set, ◌==◌, nat_lt}
+use Rattle.std.proofs.lemmas.Bool.{eq-eqb, eqb-true, false_from_ne_true, ltb-false}
 use Rattle.std.proofs.lemmas.List.{set-get_or}
-use Rattle.hp_laws.proofs.Variants.{Cell, Place}
-use Rattle.hp_model.proofs.Words.{Copy, File, Map, Mount, Page, edit_at, edit_range, is_in, with_file}
+use Rattle.hp_laws.proofs.Variants.{Cell, Place, Gone}
+use Rattle.hp_model.proofs.Words.{Copy, File, Map, Mount, Page, edit_at, edit_range, is_in, with_file, place_at}
 use Rattle.hp_model.specs.machine.Footprint.{at_each, with_places}
 use Rattle.hp_laws.proofs.counts.MountMoves.{IsFileAt}
 
@@ -54,6 +54,25 @@ cells_in f a b cells =
     ap (λ u. span f u (b - a) cells) (sym (none a)) ∙ ap (λ w. span f (a - 0) w cells) (let e : b - a ≡ (b - 0) - (a - 0) = omega arith in e) ∙ sym (each_in f a b 0 cells)
 
 -- ---- element by element
+
+-- a look at one
+pub each_of : {X Y : Type 0} (g : X → Y) (f : ℕ → X → X) (d : X) → ((n : ℕ) → g (f n d) ≡ g d) → (n : ℕ) (xs : List X) (j k : ℕ) → k ≡ n + j
+    → g (slice_index_or (at_each f n xs) j d) ≡ g (f k (slice_index_or xs j d))
+each_of g f d none n [] j k e = sym (none k)
+each_of g f d none n (x ∷ xs) zero k e = ap (λ i. g (f i x)) (let same : n ≡ k = omega (arith, e) in same)
+each_of g f d none n (x ∷ xs) (suc j) k e = each_of g f d none (n + 1) xs j k (omega (arith, e))
+
+pub length-each : {X : Type 0} (f : ℕ → X → X) (n : ℕ) (xs : List X) → length (at_each f n xs) ≡ length xs
+length-each f n [] = refl
+length-each f n (x ∷ xs) = ap suc (length-each f (n + 1) xs)
+
+pub placed_each : (g : ℕ → Place Copy → Place Copy) → ((n : ℕ) → g n Gone ≡ Gone) → (y : Map) (i : ℕ) → place_at (with_places g y) i ≡ g i (place_at y i)
+placed_each g none y i = by_low (nat_lt i y.start) refl
+  where
+    by_low : (b : Bool) → nat_lt i y.start ≡ b
+        → (if b then Gone else slice_index_or (at_each g y.start y.places) (i - y.start) Gone) ≡ g i (if b then Gone else slice_index_or y.places (i - y.start) Gone)
+    by_low true low = sym (none i)
+    by_low false low = (let past = ltb-false i y.start low in each_of (λ p. p) g Gone none y.start y.places (i - y.start) i (omega (arith, past)))
 
 pub at_each_same : {X : Type 0} (f g : ℕ → X → X) (d : X) (j : ℕ) (xs : List X)
     → ((i n : ℕ) → n ≡ j + i → i < length xs → f n (slice_index_or xs i d) ≡ g n (slice_index_or xs i d)) → at_each f j xs ≡ at_each g j xs

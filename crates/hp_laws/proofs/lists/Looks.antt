@@ -49,10 +49,6 @@ module _ {X Y : Type 0} (g : X → Y) (d : X) where
   pub same_none : (n j : ℕ) → g (get_or (replicate n d) j d) ≡ g d
   same_none n j = grind (arith, common_steps)
 
-  -- a range of elements is changed, and each looks the same
-  pub same_edit_range : (f : X → X) → ((x : X) → g (f x) ≡ g x) → (a b : ℕ) (xs : List X) (j : ℕ) → g (get_or (edit_range f a b xs) j d) ≡ g (get_or xs j d)
-  same_edit_range f h a b xs j = related_edit_range (λ x y. g x ≡ g y) (λ x. refl) d f h a b xs j
-
 -- ---- an edit of one element
 
 pub edit_other : {X : Type 0} (f : X → X) (d : X) (xs : List X) (k j : ℕ) → (j ≡ k → ⊥) → get_or (edit_at f xs k) j d ≡ get_or xs j d

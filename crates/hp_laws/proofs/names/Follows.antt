@@ -1,16 +1,16 @@
 -- Names and numbers after files without a name and without maps are gone, or maps of some kind.
 use Rattle.std.proofs.lemmas.Grind.{common_steps}
-use Rattle.std.proofs.Common.{◌≡◌, ⊎_elim, inl, subst, ℕ, zero, suc, ◌+◌, ◌<◌, ◌==◌, Bool, true, false, not, Option, None, Some, is_some, List, [], ◌∷◌, length, map, option_map, get_or, refl, sym, ap}
-use Rattle.std.proofs.Common.{◌∙◌, arith, if◌then◌else◌, nat_lt, filter}
+use Rattle.std.proofs.Common.{◌≡◌, ⊎_elim, inl, subst, ℕ, zero, suc, ◌+◌, ◌<◌, ◌==◌, Bool, true, false, not, Option, None, Some, is_some, List, [], ◌∷◌, length, map, option_map, get_or, refl, sym}
+use Rattle.std.proofs.Common.{ap}
+use Rattle.std.proofs.Common.{◌∙◌, arith, if◌then◌else◌, nat_lt, filter, inr}
 use Rattle.std.specs.List.{list_any}
 use Rattle.std.specs.Str.{bytes_eq}
 use Rattle.std.proofs.lemmas.Bool.{cases_eq, cases_order, eq-eqb, eqb-true, false_from_ne_true, or_right, lt-ltb, or_cases, and_parts}
 use Rattle.std.proofs.lemmas.List.Folds.{list_any_at}
-use Rattle.hp_laws.proofs.Variants.{SlotEvent}
 use Rattle.hp_model.proofs.Words.{File, Map, Mount, Slot, Spot, cell_in, file_forked, file_named, found, has_name, is_kept, is_map, is_of, map_for, new_file, one_on, place_at}
 use Rattle.hp_model.proofs.Words.{shown, spot, spot_in, spot_on, swept, value}
 use Rattle.hp_laws.specs.Follows.{SameFiles, shape_of}
-use Rattle.hp_laws.proofs.names.Changes.{LosesBy, SlotKeeps, ends_number}
+use Rattle.hp_laws.proofs.names.Changes.{SlotKeeps, Effect, Never}
 use Rattle.hp_laws.proofs.names.Keys.{found_mapped, found_same, keyed}
 use Rattle.hp_laws.proofs.making.FilesMade.{any_append, in_file, spot_in_file}
 use Rattle.hp_laws.proofs.counts.MountMoves.{spot_is}
@@ -84,11 +84,10 @@ pub record Follows (m n : Mount) (ok : Map → Bool) : Type 0 where
 pub both_same : (together : Bool) (x y : Option Spot) → SameFiles together x y → (p : Spot) (o : Spot) → x ≡ Some p → y ≡ Some o → (p.file_no == o.file_no) ≡ together
 both_same together x y same p o e w = grind arith
 
--- what an event keeps up to m it keeps up to n
-module _ (size : ℕ) (x : Slot) (e : SlotEvent) (m n : Mount) (ok : Map → Bool) (follows : Follows m n ok) (keeps : SlotKeeps size x e (Some m))
-    (stay : (task number : ℕ) (q : Spot) → ends_number x e task number ≡ false → spot m (is_map task number) ≡ Some q → ok q.map ≡ true)
-    (none : (p q : Spot) (i : ℕ) → LosesBy x e (Some m) p q i → ⊥) where
-  pub follow : SlotKeeps size x e (Some n)
+-- what is kept up to m is kept up to n
+module _ (size : ℕ) (x : Slot) (e : Effect) (m n : Mount) (ok : Map → Bool) (follows : Follows m n ok) (keeps : SlotKeeps size x e (Some m) Never)
+    (stay : (task number : ℕ) (q : Spot) → e.ends_number task number ≡ false → spot m (is_map task number) ≡ Some q → ok q.map ≡ true) where
+  pub follow : SlotKeeps size x e (Some n) Never
   follow = record {
     names = λ name i f stays named.
         (let kept = keeps.names name i f stays named in
@@ -107,7 +106,7 @@ module _ (size : ℕ) (x : Slot) (e : SlotEvent) (m n : Mount) (ok : Map → Boo
                 (let there = follows.names name (q.file_no, q.file) (kept.2.file name goes_on named) in
                 file_same (Some n) name there.0 task number r there.1 next.1 (there.2 ∙ sym next.2));
             marked = λ marked. ap (λ y. y.unmapped) next.3 ∙ kept.2.marked marked;
-            shows = ⊎_elim (λ same. inl (value_same size i q.file r.file q.map r.map next.4 next.3 ∙ same)) (λ lost. absurd (none p q i lost)) kept.2.shows;
+            shows = ⊎_elim (λ same. inl (value_same size i q.file r.file q.map r.map next.4 next.3 ∙ same)) (λ lost. inr lost) kept.2.shows;
           },
         ));
     together = λ a b p o stay_a stay_b found_a found_b.
@@ -235,10 +234,6 @@ module _ (m : Mount) (h : File → File) (ok : Map → Bool) (each : FilesFollow
         ));
     apart = λ a b q o found_q found_o. refl;
   }
-
-  pub edit_stays : (k : ℕ) → edit_follows.to k ≡ k
-  unfolding edit_follows
-  edit_stays k = refl
 
 -- ---- maps that go, and maps that are made for a child
 

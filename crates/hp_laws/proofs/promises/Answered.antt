@@ -4,19 +4,14 @@ use Rattle.std.specs.List.{filter_map}
 use Rattle.hp_laws.proofs.Variants.{Answer, Attach, Done, Event, Exit, Fork, Home, Names, Slot as OnSlot, SlotEvent, StatAnswer, Step, Usage}
 use Rattle.hp_model.specs.declared.event.SlotEvent.TheVariants as slot
 use Rattle.hp_model.proofs.Words.{Answered, Choice, AnswersWhatWas, IsEvent, IsSettledState, IsStep, Outcome, Refused, Reply}
-use Rattle.hp_model.proofs.Words.{Slot, State, bytes_answer, cell_at, has_page, home_of, is_entered, named_on, shown, slot_at, slot_event, spot_on, usage_of, value, when_known}
+use Rattle.hp_model.proofs.Words.{Slot, State, bytes_answer, cell_at, has_page, home_of, is_entered, named_on, shown, slot_at, slot_event, usage_of, when_known}
 use Rattle.hp_model.specs.machine.Footprint.{There}
 use Rattle.hp_laws.proofs.settled.CountsHold.{counts_are_sums}
-use Rattle.hp_laws.proofs.accesses.SlotShows.{Loads, load_loads}
+use Rattle.hp_laws.proofs.accesses.SlotShows.{load_loads, Says}
 use Rattle.hp_laws.proofs.steps.Outcomes.{Always, always_weaker, event_ends, reply_of}
 use Rattle.hp_laws.proofs.promises.DoneAnswers.{IsDone, SaysDone, exit_says, fork_says, slot_says, tells}
 use Rattle.hp_laws.proofs.promises.SmallReplies.{rows_many}
 use Rattle.hp_laws.proofs.steps.Whole.{by_event, is_whole, slot_step, step_of}
-
--- an outcome that answers so
-abbrev Says : (Answer → Type 0) → Outcome → Type 0
-Says P (Refused r) = Unit {0}
-Says P (Answered a new) = P a
 
 usage_told : (size k : ℕ) (c : Choice) (old : Slot)
     → Always (Says (λ a. There old (λ m. a ≡ Usage m.limits.max m.limits.min (usage_of m) m.limits.inodes (length m.files)))) (slot_event size k c old slot.Df)
@@ -33,16 +28,6 @@ stat_told size k c old name = grind arith
 read_told : (size k : ℕ) (c : Choice) (old : Slot) (name : List ℕ) (i offset count : ℕ)
     → Always (Says (λ a. There (named_on old name) (λ f. a ≡ bytes_answer offset count (shown size (cell_at f.1 i))))) (slot_event size k c old (slot.Read name i offset count))
 read_told size k c old name i offset count = grind arith
-
-load_told : (size k : ℕ) (c : Choice) (old : Slot) (task home number i offset count : ℕ)
-    → Always (Says (λ a. There (spot_on old task number) (λ p. a ≡ bytes_answer offset count (value size p.file p.map i)))) (slot_event size k c old (slot.Load task home number i offset count))
-load_told size k c old task home number i offset count =
-    always_weaker (Loads size old (spot_on old task number) i offset count) (Says (λ a. There (spot_on old task number) (λ p. a ≡ bytes_answer offset count (value size p.file p.map i))))
-    says (slot_event size k c old (slot.Load task home number i offset count)) (load_loads size k c old task home number i offset count)
-  where
-    says : (o : Outcome) → Loads size old (spot_on old task number) i offset count o → Says (λ a. There (spot_on old task number) (λ p. a ≡ bytes_answer offset count (value size p.file p.map i))) o
-    says (Refused r) h = tt
-    says (Answered a new) h = h.loaded a new refl
 
 -- one that tells nothing says that it is done
 done_told : (e : SlotEvent) → tells e ≡ false → (size k : ℕ) (c : Choice) (old : Slot) → Always (Says (λ a. a ≡ Done)) (slot_event size k c old e)
@@ -77,7 +62,7 @@ module _ (s : State) (st : IsSettledState s) where
   slot_answers k (slot.Map task home name a n sharing reserving) (Ok answer) t is = tt
   slot_answers k (slot.Anon task home n sharing reserving) (Ok answer) t is = tt
   slot_answers k (slot.Load task home number i offset count) (Ok a) t is =
-      slot_tells _ k (slot.Load task home number i offset count) (Ok a) t (λ c. load_told s.page_size k c (slot_at s k) task home number i offset count) (λ x h. h) is
+      slot_tells _ k (slot.Load task home number i offset count) (Ok a) t (λ c. load_loads s.page_size k c (slot_at s k) task home number i offset count) (λ x h. h) is
   slot_answers k e (Ok a) t is = slot_tells (λ x. x ≡ Done) k e (Ok a) t (λ c. done_told e refl s.page_size k c (slot_at s k)) (λ x h. h) is
 
   event_tells : (e : Event) (reply : Reply) (t : State) → is_whole e ≡ true → IsEvent s e reply t → AnswersWhatWas s (step_of e) reply t
