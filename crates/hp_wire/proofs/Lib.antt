@@ -7,3 +7,4 @@ pub mod Endings
 pub mod Added
 pub mod FixedFronts
 pub mod Together
+pub mod Crossing

@@ -1,6 +1,6 @@
 use denote.Param.Send.{sendable}
 use Rattle.std.proofs.Crossing.{crosses}
-use Rattle.hugetlbd.proofs.Crossing.{written_send}
+use Rattle.hp_wire.proofs.Crossing.{written_send}
 use Rattle.hugetlbd.proofs.over_tcp.OverTcpServer.serve.Goals as goal
 
 pub serve_over-requires-send-C-Reader : goal.serve_over-requires-send-C-Reader
